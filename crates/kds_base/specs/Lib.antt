@@ -1,0 +1,4 @@
+pub mod Hashes
+pub mod Names
+pub mod NumberText
+pub mod Span

@@ -1,0 +1,20 @@
+//! Small types that every crate speaks of: lists, names, numbers with a name, and the texts of numbers.
+#![tactic(auto)]
+
+mod hash;
+mod items;
+mod memory;
+mod moment;
+mod name;
+mod number_text;
+mod numbers;
+mod octets;
+
+pub use hash::hash_of;
+pub use items::Items;
+pub use memory::Memory;
+pub use moment::Moment;
+pub use name::Name;
+pub use number_text::{read_u64, write_u64};
+pub use numbers::{Seq, ShardNo, StreamNo};
+pub use octets::Octets;

@@ -1,0 +1,52 @@
+ghost use Rattle.std.specs.Prelude.{◌≡◌, ◌<◌, ◌^◌, SomeIff};
+
+use std::marker::Model;
+
+/// The first number of milliseconds that is no moment.
+pub const MOMENT_END: u64 = 1 << 62;
+
+/// A moment in milliseconds, below `MOMENT_END`. Contracts see the number.
+#[derive(Clone, Copy, Debug, PartialEq, Eq, PartialOrd, Ord)]
+pub struct Moment {
+    ms: u64,
+}
+
+impl Model for Moment {
+    ghost use Rattle.std.specs.Prelude.{ℕ, ◌<◌, ◌^◌};
+
+    ghost Value = { ℕ };
+
+    ghost view = { λ m. m.ms };
+
+    ghost invariant = { λ m. m.ms < 2 ^ 62 };
+
+    ghost inverse = { λ n. record { ms = n } };
+}
+
+impl Moment {
+    /// The moment of so many milliseconds. `None` exactly from `MOMENT_END` on.
+    pub fn new(ms: u64) -> Option<Moment>
+        ensures { SomeIff result (ms < 2 ^ 62) ms }
+    {
+        if ms < MOMENT_END {
+            Some(Moment { ms })
+        } else {
+            None
+        }
+    }
+
+    /// The moment 0, at which a clock begins.
+    pub fn start() -> Moment
+        ensures { result ≡ 0 }
+    {
+        Moment { ms: 0 }
+    }
+
+    /// The milliseconds.
+    pub fn ms(self) -> u64
+        ensures value { result ≡ self }
+        ensures range { self < 2 ^ 62 }
+    {
+        self.ms
+    }
+}

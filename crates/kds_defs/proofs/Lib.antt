@@ -1,0 +1,4 @@
+pub mod Decisions
+pub mod Examples
+pub mod Numbers
+pub mod Tiles

@@ -1,0 +1,55 @@
+-- What a machine answers to a list of turns, and the journal that it leaves.
+use Rattle.std.specs.Prelude.{ℕ, max, List, [], ◌∷◌, Result, Ok, Err}
+use Rattle.kds_defs.specs.declared.command.Command.{Command}
+use Rattle.kds_defs.specs.declared.command.Command.TheVariants as command
+use Rattle.kds_defs.specs.declared.command.Turn.{Turn}
+use Rattle.kds_defs.specs.declared.reply.Refusal.{Refusal}
+use Rattle.kds_defs.specs.declared.reply.Refusal.TheVariants as refusal
+use Rattle.kds_defs.specs.declared.reply.Reply.{Reply}
+use Rattle.kds_defs.specs.Decision.{Decision, Refused, Accepted, with◌or◌then◌}
+use Rattle.kds_defs.specs.Journal.{Line, Journal, with_lines}
+use Rattle.kds_defs.specs.StreamCommands.{create, put}
+use Rattle.kds_defs.specs.Streams.{stream_named}
+
+-- what follows where a live stream has the name
+abbrev pub with_stream : Journal → List ℕ → (ℕ → Decision) → Decision
+with_stream log name next = with stream_named log name or refusal.NoStream then next
+
+-- what a command leads to, after the lines of log, at the clock c, by this actor
+abbrev pub decide : Journal → ℕ → ℕ → Command → Decision
+decide log c by (command.Create name count) = create log c by name count
+decide log c by (command.Put name item) = with_stream log name λ s. put log c by s item
+
+-- the lines that a decision adds
+abbrev pub lines_of : Decision → List Line
+lines_of (Refused r) = []
+lines_of (Accepted lines reply) = lines
+
+-- and its answer
+abbrev pub answer_of : Decision → Result Reply Refusal
+answer_of (Refused r) = Err r
+answer_of (Accepted lines reply) = Ok reply
+
+-- a history: the turns so far, the newest first, so that `turn ∷ h` is h followed by the turn.
+-- Its clock is the greatest moment in it
+abbrev pub clock : List Turn → ℕ
+clock [] = 0
+clock (turn ∷ h) = max (clock h) turn.at
+
+-- what a turn leads to after the lines of log, where its clock is c
+abbrev pub decision : Journal → ℕ → Turn → Decision
+decision log c turn = decide log c turn.by turn.what
+
+-- the journal of a history
+abbrev pub journal : List Turn → Journal
+journal [] = []
+journal (turn ∷ h) = with_lines (lines_of (decision (journal h) (clock (turn ∷ h)) turn)) (journal h)
+
+-- the answer to a turn after a history
+abbrev pub answer : List Turn → Turn → Result Reply Refusal
+answer h turn = answer_of (decision (journal h) (clock (turn ∷ h)) turn)
+
+-- the answers to turns that follow a history, one after another
+abbrev pub answers : List Turn → List Turn → List (Result Reply Refusal)
+answers h [] = []
+answers h (turn ∷ turns) = answer h turn ∷ answers (turn ∷ h) turns

@@ -1,0 +1,41 @@
+-- Which turns may be asked: their numbers and texts lie in the ranges of the API.
+use Rattle.std.specs.Prelude.{ℕ, ◌+◌, ◌^◌, ◌<◌, ◌≤◌, List, length, chars}
+use Rattle.std.specs.List.{AllByRecursion}
+use Rattle.std.specs.Str.{IsUtf8}
+use Rattle.kds_base.specs.Names.{IsName}
+use Rattle.kds_defs.specs.declared.command.Command.{Command}
+use Rattle.kds_defs.specs.declared.command.Command.TheVariants as command
+use Rattle.kds_defs.specs.declared.command.NewItem.{NewItem}
+use Rattle.kds_defs.specs.declared.command.Turn.{Turn}
+use Rattle.kds_defs.specs.declared.limits.TheConstants.{LEAST_SHARDS, MOST_SHARDS, KEY_CHARACTERS, RECORD_BYTES}
+
+-- a partition key: 1 to 256 characters in UTF-8 (Kinesis API Reference, PutRecord, PartitionKey)
+pub record IsPartitionKey (bytes : List ℕ) : Type 0 where
+  pub text : IsUtf8 bytes
+  pub some : 1 ≤ length (chars bytes)
+  pub few : length (chars bytes) ≤ KEY_CHARACTERS
+
+-- the bytes of a record that count toward its limit
+abbrev pub item_bytes : NewItem → ℕ
+item_bytes item = length item.payload + length item.key
+
+-- a record that may be put (Kinesis API Reference, PutRecord)
+pub record IsItem (item : NewItem) : Type 0 where
+  pub key : IsPartitionKey item.key
+  pub hash : item.hash < 2 ^ 128
+  pub bytes : item_bytes item ≤ RECORD_BYTES
+
+-- how many shards a stream may be made with
+abbrev pub IsShardCount : ℕ → Type 0
+IsShardCount count = (LEAST_SHARDS ≤ count) × (count ≤ MOST_SHARDS)
+
+abbrev pub IsLawfulCommand : Command → Type 0
+IsLawfulCommand (command.Create name count) = IsName name × IsShardCount count
+IsLawfulCommand (command.Put name item) = IsName name × IsItem item
+
+abbrev pub IsLawful : Turn → Type 0
+IsLawful turn = (turn.at < 2 ^ 62) × IsLawfulCommand turn.what
+
+-- a history, which is a list of lawful turns
+abbrev pub IsHistory : List Turn → Type 0
+IsHistory h = AllByRecursion IsLawful h

@@ -1,0 +1,48 @@
+-- Which journals a machine can leave: each line is good after the lines before it.
+use Rattle.std.specs.Prelude.{ℕ, ◌^◌, ◌<◌, ◌≤◌, ◌≡◌, not, [], ◌∷◌}
+use Rattle.kds_defs.specs.declared.command.NewItem.{NewItem}
+use Rattle.kds_defs.specs.declared.entry.Entry.{Entry}
+use Rattle.kds_defs.specs.declared.entry.Entry.TheVariants as entry
+use Rattle.kds_defs.specs.declared.reply.Refusal.TheVariants as refusal
+use Rattle.kds_defs.specs.declared.reply.Reply.{Reply}
+use Rattle.kds_defs.specs.Decision.{Decision, Accepted, refuse◌if◌else◌}
+use Rattle.kds_defs.specs.Journal.{Line, Journal}
+use Rattle.kds_defs.specs.Lawful.{IsShardCount}
+use Rattle.kds_defs.specs.StreamCommands.{create, put}
+use Rattle.kds_defs.specs.Streams.{is_live}
+
+-- what follows where the stream of this number is live
+abbrev pub in_stream : Journal → ℕ → Decision → Decision
+in_stream log s next = refuse refusal.NoStream if not (is_live log s) else next
+
+-- the item that a put line stored
+abbrev pub item_of : Line → ℕ → NewItem
+item_of line hash = record { key = line.key; hash = hash; payload = line.payload }
+
+-- what the command that an entry tells leads to after the lines of log
+abbrev pub told : Journal → Line → Entry → Decision
+told log line (entry.Made s name count) = create log line.clock line.by name count
+told log line (entry.Put s sh number hash bytes) = in_stream log s (put log line.clock line.by s (item_of line hash))
+
+-- the numbers of an entry lie in their ranges
+abbrev pub IsInRange : Entry → Type 0
+IsInRange (entry.Made s name count) = IsShardCount count
+IsInRange (entry.Put s sh number hash bytes) = hash < 2 ^ 128
+
+-- the clock of the newest line
+abbrev pub last_clock : Journal → ℕ
+last_clock [] = 0
+last_clock (line ∷ log) = line.clock
+
+-- a line is good after the lines of log: the command that it tells, by its actor at its clock, is allowed there
+-- and gives this line
+pub record IsGood (log : Journal) (line : Line) : Type 0 where
+  pub in_order : last_clock log ≤ line.clock
+  pub in_range : IsInRange line.what
+  pub reply : Reply
+  pub allowed : told log line line.what ≡ Accepted (line ∷ []) reply
+
+-- each line is good after the lines before it
+abbrev pub IsLegal : Journal → Type 0
+IsLegal [] = Unit {0}
+IsLegal (line ∷ log) = IsGood log line × IsLegal log

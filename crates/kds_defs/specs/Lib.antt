@@ -1,0 +1,10 @@
+pub mod Journal
+pub mod Streams
+pub mod Records
+pub mod Shards
+pub mod Decision
+pub mod StreamCommands
+pub mod Histories
+pub mod Lawful
+pub mod Legal
+pub mod Safe

@@ -1,0 +1,21 @@
+//! What the lines of the journal say.
+use kds_base::{Name, Seq, ShardNo, StreamNo};
+
+/// What a line of the journal says.
+#[derive(Drop)]
+pub enum Entry {
+    /// A stream was made, of so many shards.
+    Made {
+        stream: StreamNo,
+        name: Name,
+        shards: u32,
+    },
+    /// A record was put; `bytes` counts its payload.
+    Put {
+        stream: StreamNo,
+        shard: ShardNo,
+        seq: Seq,
+        hash: u128,
+        bytes: u64,
+    },
+}
