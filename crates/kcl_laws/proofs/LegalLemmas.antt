@@ -1,0 +1,92 @@
+-- The journal of a history is legal.
+use Rattle.std.proofs.Common.{◌≡◌, ℕ, suc, ◌+◌, ◌-◌, ◌≤◌, Bool, true, false, List, [], ◌∷◌, length, Option, Some, None, refl, sym, ap, subst, ◌∙◌, arith}
+use Rattle.std.specs.Prelude.{◌==◌, not, nat_lt, cond, if◌then◌else◌}
+use Rattle.std.specs.List.{AllByRecursion, find, filter}
+use Rattle.std.proofs.lemmas.Bool.Decides.{nat_tests}
+use Rattle.kds_defs.specs.declared.command.Command.{Command}
+use Rattle.kds_defs.specs.declared.command.Command.TheVariants as command
+use Rattle.kds_defs.specs.declared.command.NewItem.{NewItem}
+use Rattle.kds_defs.specs.declared.command.Turn.{Turn}
+use Rattle.kds_defs.specs.declared.entry.Entry.TheVariants as entry
+use Rattle.kds_defs.specs.declared.reply.Refusal.{Refusal}
+use Rattle.kds_defs.specs.declared.reply.Refusal.TheVariants as refusal
+use Rattle.kds_defs.specs.declared.reply.Reply.{Reply}
+use Rattle.kds_defs.specs.declared.reply.Reply.TheVariants as replies
+use Rattle.kds_defs.specs.Decision.{Decision, Refused, Accepted, refuse◌if◌else◌, with◌or◌then◌}
+use Rattle.kds_defs.specs.Histories.{decide, decision, lines_of, journal, clock}
+use Rattle.kds_defs.specs.Journal.{Line, Journal, with_lines}
+use Rattle.kds_defs.specs.Lawful.{IsLawfulCommand, IsHistory, IsItem}
+use Rattle.kds_defs.specs.Legal.{told, in_stream, IsGood, IsLegal, IsInRange, last_clock}
+use Rattle.kds_defs.specs.Streams.{is_live, stream_named}
+use Rattle.kds_defs.proofs.Decisions.{passes, found, same_lines}
+
+-- the journal with these lines is legal, and its clock is at most c
+pub record Adds (log : Journal) (lines : List Line) (c : ℕ) : Type 0 where
+  pub legal : IsLegal (with_lines lines log)
+  pub clock : last_clock (with_lines lines log) ≤ c
+
+-- no line is added
+adds_none : (log : Journal) (lines : List Line) (reply reply' : Reply) (c : ℕ) → Accepted [] reply' ≡ Accepted lines reply → IsLegal log → last_clock log ≤ c → Adds log lines c
+adds_none log lines reply reply' c h legal order = subst (λ ls. Adds log ls c) (same_lines [] lines reply' reply h) (record { legal = legal; clock = order })
+
+-- one good line is added
+adds_one : (log : Journal) (line : Line) (lines : List Line) (reply reply' : Reply) → Accepted (line ∷ []) reply' ≡ Accepted lines reply → told log line line.what ≡ Accepted lines reply → IsInRange line.what → IsLegal log → last_clock log ≤ line.clock → Adds log lines line.clock
+adds_one log line lines reply reply' h allowed range legal order =
+    let e = same_lines (line ∷ []) lines reply' reply h in
+    subst (λ ls. Adds log ls line.clock) e (record {
+      legal = (record { in_order = order; in_range = range; reply = reply; allowed = allowed ∙ ap (λ ls. Accepted ls reply) (sym e) }, legal);
+      clock = omega arith;
+    })
+
+-- a stream that a name finds is live
+found_by : (b d : Bool) (x s : ℕ) (rest : List ℕ) (p q : ℕ → Bool) → q x ≡ b → p x ≡ d → find p (cond b (x ∷ filter q rest) (filter q rest)) ≡ Some s → (find p (filter q rest) ≡ Some s → q s ≡ true) → q s ≡ true
+found_by false d x s rest p q isb isd h later = later h
+found_by true true x s rest p q isb isd h later =
+    let e : Some x ≡ Some s = ap (λ b. cond b (Some x) (find p (filter q rest))) (sym isd) ∙ h in
+    let f : x ≡ s = cc (e) in
+    ap q (sym f) ∙ isb
+found_by true false x s rest p q isb isd h later = later (ap (λ b. cond b (Some x) (find p (filter q rest))) (sym isd) ∙ h)
+
+find_filter : (p q : ℕ → Bool) (xs : List ℕ) (s : ℕ) → find p (filter q xs) ≡ Some s → q s ≡ true
+find_filter p q [] s h = absurd cc
+find_filter p q (x ∷ xs) s h = found_by (q x) (p x) x s xs p q refl refl h (find_filter p q xs s)
+
+pub live_named : (log : Journal) (name : List ℕ) (s : ℕ) → stream_named log name ≡ Some s → is_live log s ≡ true
+live_named log name s h = find_filter _ (is_live log) _ s h
+
+-- a test that does not refuse
+retested : (r : Refusal) (b : Bool) (d : Decision) → b ≡ false → (refuse r if b else d) ≡ d
+unfolding refuse◌if◌else◌
+retested r true d h = absurd cc
+retested r false d h = refl
+
+in_live : (log : Journal) (s : ℕ) (d : Decision) → is_live log s ≡ true → in_stream log s d ≡ d
+in_live log s d live = retested refusal.NoStream (not (is_live log s)) d (ap not live)
+
+accepted_legal : (log : Journal) (c by : ℕ) (what : Command) (lines : List Line) (reply : Reply) → IsLawfulCommand what → decide log c by what ≡ Accepted lines reply → IsLegal log → last_clock log ≤ c → Adds log lines c
+accepted_legal log c by (command.Create name count) lines reply lawful h legal order =
+    let a = passes _ _ _ _ reply h in
+    let b = passes _ _ _ _ reply a.1 in
+    let d = passes _ _ _ _ reply b.1 in
+    adds_one log _ lines reply _ d.1 h lawful.1 legal order
+accepted_legal log c by (command.Put name item) lines reply lawful h legal order =
+    let f = found _ _ _ _ reply h in
+    let a = passes _ _ _ _ reply f.2 in
+    adds_one log _ lines reply _ a.1 (in_live log f.0 _ (live_named log name f.0 f.1) ∙ f.2) lawful.1.hash legal order
+
+-- the lines of a decision
+decided_legal : (d : Decision) (log : Journal) (c by : ℕ) (what : Command) → decide log c by what ≡ d → IsLawfulCommand what → IsLegal log → last_clock log ≤ c → Adds log (lines_of d) c
+decided_legal (Refused r) log c by what is lawful legal order = record { legal = legal; clock = order }
+decided_legal (Accepted lines reply) log c by what is lawful legal order = accepted_legal log c by what lines reply lawful is legal order
+
+-- the journal of a history is legal, and no line is later than the history's clock
+pub record HasJournal (h : List Turn) : Type 0 where
+  pub legal : IsLegal (journal h)
+  pub order : last_clock (journal h) ≤ clock h
+
+pub journals : (h : List Turn) → IsHistory h → HasJournal h
+journals [] lawful = record { legal = tt; order = omega arith }
+journals (turn ∷ h) lawful =
+    let before = journals h lawful.1 in
+    let a = decided_legal (decision (journal h) (clock (turn ∷ h)) turn) (journal h) (clock (turn ∷ h)) turn.by turn.what refl lawful.0.1 before.legal (omega (arith, before.order)) in
+    record { legal = a.legal; order = a.clock }

@@ -1,0 +1,3 @@
+pub mod LegalLemmas
+pub mod Numbering
+pub mod PartitionLemmas

@@ -1,0 +1,90 @@
+ghost use Rattle.std.specs.Prelude.{◌≡◌, [], ◌≤◌, ◌<◌, ◌↔◌, ◌⊎◌, ◌+◌, ◌^◌, List, ℕ, length, drop, Some, Contains, IsErr, IfOk, min};
+ghost use Rattle.std.specs.Io.{WritesAtMost};
+ghost use Rattle.std.specs.Io.KnownBytes.{WriteAppends};
+ghost use Rattle.kds_ends.specs.Causes.{HasCause};
+
+use crate::sink::Sink;
+use crate::source::Failed;
+use kds_base::{Items, Memory};
+use std::alloc::Global;
+use std::marker::Model;
+
+/// Room in memory, taken when it is made, that takes at most `step` bytes at a time. The calls with
+/// these numbers, from 1, fail, and so does one that finds no room.
+#[derive(Drop)]
+pub struct MemSink {
+    held: Vec<u8>,
+    room: usize,
+    step: usize,
+    failing: Items<u64>,
+    calls: u64,
+    faults: u64,
+}
+
+impl Model for MemSink {
+    ghost use Rattle.std.specs.Prelude.{◌≤◌, ◌<◌, length, vec_len, vec_capacity};
+    ghost use Rattle.kds_ends.specs.Memory.{SinkState};
+
+    ghost Value = { SinkState };
+
+    ghost view = { λ s. record { held = s.held.items; room = s.room; step = s.step; failing = s.failing; calls = s.calls; faults = s.faults } };
+
+    ghost invariant = { λ s. (vec_len s.held ≤ s.room) × (s.room ≤ vec_capacity s.held) × (0 < s.step) };
+}
+
+impl MemSink {
+    pub fn new(
+        alloc: Global,
+        room: usize,
+        step: usize,
+        failing: Items<u64>,
+    ) -> Result<MemSink, Memory>
+        requires { 0 < step }
+        ensures { IfOk result (λ s. s ≡ record { held = []; room = room; step = step; failing = failing; calls = 0; faults = 0 }) }
+    {
+        Ok(MemSink {
+            held: Vec::with_capacity(alloc, room)?,
+            room,
+            step,
+            failing,
+            calls: 0,
+            faults: 0,
+        })
+    }
+
+    pub fn held(&self) -> &[u8]
+        ensures { result.now ≡ self.now.held }
+    {
+        self.held.as_slice()
+    }
+}
+
+impl Sink for MemSink {
+    ghost use Rattle.kds_ends.specs.Memory.{SinkCallsOnce, HasNoRoom};
+
+    ghost held = { λ s. Some s.held };
+
+    ghost faults = { λ s. s.faults };
+
+    fn write(&mut self, piece: &[u8]) -> Result<usize, Failed>
+        ensures bound { WritesAtMost result piece.now }
+        ensures some { IfOk result (λ n. 0 < length piece.now → 0 < n) }
+        ensures bytes { WriteAppends (Some self.old.held) (Some self.new.held) result piece.now }
+        ensures cause { HasCause self.old.faults self.new.faults result }
+        ensures listed { IsErr result ↔ (Contains self.old.failing self.new.calls ⊎ HasNoRoom self.old piece.now) }
+        ensures call { SinkCallsOnce self.old self.new }
+    {
+        self.calls = self.calls.saturating_add(1);
+        let count = (self.room - self.held.len())
+            .min(piece.len())
+            .min(self.step);
+        if self.failing.as_slice().contains(&self.calls) || (count == 0 && !piece.is_empty()) {
+            self.faults = self.faults.saturating_add(1);
+            return Err(Failed);
+        }
+        match self.held.extend_from_slice(&piece[..count]) {
+            Ok(()) => Ok(count),
+            Err(_) => unreachable!(),
+        }
+    }
+}
