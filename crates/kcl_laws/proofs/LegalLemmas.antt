@@ -1,22 +1,18 @@
 -- The journal of a history is legal.
-use Rattle.std.proofs.Common.{◌≡◌, ℕ, suc, ◌+◌, ◌-◌, ◌≤◌, Bool, true, false, List, [], ◌∷◌, length, Option, Some, None, refl, sym, ap, subst, ◌∙◌, arith}
-use Rattle.std.specs.Prelude.{◌==◌, not, nat_lt, cond, if◌then◌else◌}
-use Rattle.std.specs.List.{AllByRecursion, find, filter}
-use Rattle.std.proofs.lemmas.Bool.Decides.{nat_tests}
+use Rattle.std.proofs.Common.{◌≡◌, ℕ, ◌≤◌, Bool, true, false, List, [], ◌∷◌, Some, refl, sym, ap, subst, ◌∙◌, arith}
+use Rattle.std.specs.Prelude.{not, cond, if◌then◌else◌}
+use Rattle.std.specs.List.{find, filter}
 use Rattle.kds_defs.specs.declared.command.Command.{Command}
 use Rattle.kds_defs.specs.declared.command.Command.TheVariants as command
-use Rattle.kds_defs.specs.declared.command.NewItem.{NewItem}
 use Rattle.kds_defs.specs.declared.command.Turn.{Turn}
-use Rattle.kds_defs.specs.declared.entry.Entry.TheVariants as entry
 use Rattle.kds_defs.specs.declared.reply.Refusal.{Refusal}
 use Rattle.kds_defs.specs.declared.reply.Refusal.TheVariants as refusal
 use Rattle.kds_defs.specs.declared.reply.Reply.{Reply}
-use Rattle.kds_defs.specs.declared.reply.Reply.TheVariants as replies
-use Rattle.kds_defs.specs.Decision.{Decision, Refused, Accepted, refuse◌if◌else◌, with◌or◌then◌}
+use Rattle.kds_defs.specs.Decision.{Decision, Refused, Accepted, refuse◌if◌else◌}
 use Rattle.kds_defs.specs.Histories.{decide, decision, lines_of, journal, clock}
 use Rattle.kds_defs.specs.Journal.{Line, Journal, with_lines}
-use Rattle.kds_defs.specs.Lawful.{IsLawfulCommand, IsHistory, IsItem}
-use Rattle.kds_defs.specs.Legal.{told, in_stream, IsGood, IsLegal, IsInRange, last_clock}
+use Rattle.kds_defs.specs.Lawful.{IsLawfulCommand, IsHistory}
+use Rattle.kds_defs.specs.Legal.{told, in_stream, IsLegal, IsInRange, last_clock}
 use Rattle.kds_defs.specs.Streams.{is_live, stream_named}
 use Rattle.kds_defs.proofs.Decisions.{passes, found, same_lines}
 

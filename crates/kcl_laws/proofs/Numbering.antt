@@ -1,6 +1,6 @@
 -- The shards of a stream are numbered from 0 in their order, and a put stands in the home of its hash.
 use Rattle.std.proofs.Common.{◌≡◌, ℕ, suc, ◌+◌, ◌-◌, ◌^◌, ◌<◌, ◌≤◌, Bool, true, false, List, [], ◌∷◌, Some, refl, sym, ap, subst, ◌∙◌, arith}
-use Rattle.std.specs.Prelude.{◌==◌, ◌||◌, not, cond, slice_get, if◌then◌else◌}
+use Rattle.std.specs.Prelude.{◌==◌, ◌||◌, cond, slice_get, if◌then◌else◌}
 use Rattle.std.specs.List.{filter}
 use Rattle.std.proofs.lemmas.Bool.Decides.{nat_tests}
 use Rattle.kds_defs.proofs.Numbers.{AreNumbered, numbered-first}

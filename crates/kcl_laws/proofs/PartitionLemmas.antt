@@ -1,7 +1,6 @@
 -- The open shards of each stream partition the keys.
-use Rattle.std.proofs.Common.{◌≡◌, ℕ, Bool, true, false, List, [], ◌∷◌, ◌++◌, Option, Some, None, refl, subst, ◌∙◌, arith}
-use Rattle.std.specs.Prelude.{◌==◌, ◌&&◌, ◌||◌, slice_get, if◌then◌else◌}
-use Rattle.std.proofs.lemmas.Bool.Decides.{nat_tests}
+use Rattle.std.proofs.Common.{◌≡◌, ℕ, Bool, true, false, List, [], ◌∷◌, refl, ◌∙◌, arith}
+use Rattle.std.specs.Prelude.{◌==◌, ◌||◌, if◌then◌else◌}
 use Rattle.kds_defs.specs.declared.entry.Entry.{Entry}
 use Rattle.kds_defs.specs.declared.entry.Entry.TheVariants as entry
 use Rattle.kds_defs.specs.declared.reply.Reply.{Reply}
@@ -12,7 +11,6 @@ use Rattle.kds_defs.specs.Records.{next_number}
 use Rattle.kds_defs.specs.Safe.{HasPartitions}
 use Rattle.kds_defs.specs.Shards.{ShardState, shards, shards_after}
 use Rattle.kds_defs.specs.Streams.{was_made, was_made_after}
-use Rattle.kds_defs.proofs.Decisions.{passes, holds_so}
 use Rattle.kds_defs.proofs.Tiles.{IsTiled, same_times, tiled_new}
 
 -- one of two lists of shards

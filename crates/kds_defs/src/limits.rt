@@ -16,3 +16,9 @@ pub const KEY_CHARACTERS: u64 = 256;
 
 /// The payload and key bytes that one record may have (Kinesis API Reference, PutRecord, Data).
 pub const RECORD_BYTES: u64 = 1_048_576;
+
+/// The bytes that a line of a schedule may have before its line feed.
+pub const LINE_BYTES: u64 = 8_388_608;
+
+/// The bytes that an input of lines may have.
+pub const INPUT_BYTES: u64 = 1_073_741_824;

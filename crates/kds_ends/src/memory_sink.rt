@@ -69,6 +69,7 @@ impl Sink for MemSink {
     fn write(&mut self, piece: &[u8]) -> Result<usize, Failed>
         ensures bound { WritesAtMost result piece.now }
         ensures some { IfOk result (λ n. 0 < length piece.now → 0 < n) }
+        ensures step { IfOk result (λ n. n ≤ self.old.step) }
         ensures bytes { WriteAppends (Some self.old.held) (Some self.new.held) result piece.now }
         ensures cause { HasCause self.old.faults self.new.faults result }
         ensures listed { IsErr result ↔ (Contains self.old.failing self.new.calls ⊎ HasNoRoom self.old piece.now) }

@@ -1,4 +1,4 @@
-ghost use Rattle.std.specs.Prelude.{◌≡◌, ◌≤◌, ◌<◌, ◌↔◌, ◌+◌, ◌^◌, List, ℕ, length, take, drop, Some, Contains, IsErr, min};
+ghost use Rattle.std.specs.Prelude.{◌≡◌, ◌≤◌, ◌<◌, ◌↔◌, ◌+◌, ◌^◌, List, ℕ, length, take, drop, Some, Contains, IsErr, IfOk, min};
 ghost use Rattle.std.specs.Io.{ReadsAtMost};
 ghost use Rattle.std.specs.Io.KnownBytes.{ReadConsumes};
 ghost use Rattle.kds_ends.specs.Causes.{HasCause};
@@ -65,6 +65,7 @@ impl Source for MemSource {
 
     fn read(&mut self, room: &mut [u8]) -> Result<usize, Failed>
         ensures bound { ReadsAtMost result room.new }
+        ensures step { IfOk result (λ n. n ≤ self.old.step) }
         ensures bytes { ReadConsumes (Some self.old.left) (Some self.new.left) result room.new }
         ensures cause { HasCause self.old.faults self.new.faults result }
         ensures listed { IsErr result ↔ Contains self.old.failing self.new.calls }

@@ -1,0 +1,3 @@
+pub mod LawfulLines
+pub mod Pieces
+pub mod Reversed

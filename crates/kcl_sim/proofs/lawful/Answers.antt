@@ -1,0 +1,5 @@
+use Rattle.kcl_sim.proofs.LawfulLines.{history_lawful}
+use Rattle.kcl_sim.proofs.lawful.Goals as goal
+
+pub returns : goal.returns
+returns c = history_lawful c.asks_lawfully.ensures (λ text line is. (c.one_spelling.ensures.reads text line is).0)

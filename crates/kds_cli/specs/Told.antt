@@ -1,0 +1,42 @@
+-- What a replay's end tells of the bytes and of the output.
+use Rattle.std.specs.Prelude.{◌≡◌, ◌⊎◌, ℕ, List, ◌++◌, Some, IfSome}
+use Rattle.std.specs.declared.option.Option.{Option}
+use Rattle.std.specs.Io.KnownBytes.{Appends}
+use Rattle.kds_ends.specs.declared.status.Status.{Status}
+use Rattle.kds_ends.specs.declared.status.Status.TheVariants.{Done, BadLine, Read, Write, Memory, TooLong}
+use Rattle.kds_ends.specs.Causes.{AppendsFront}
+use Rattle.kds_ends.specs.Status.{code_of}
+use Rattle.kcl_sim.specs.Schedule.{whole, too_long, bad_line, ending, text}
+use Rattle.kds_cli.specs.declared.words.Task.{Task}
+use Rattle.kds_cli.specs.declared.words.Task.TheVariants.{Replay}
+use Rattle.kds_cli.specs.Words.{error_text}
+
+-- Of the bytes of a schedule, those that are left, and what the sink held and holds. With Done, BadLine
+-- and TooLong the bytes end so, and the output of the lines before was written. With Read the output of
+-- the whole lines that were read was. With Write and Memory a front of the output was.
+abbrev pub Tells : Status → List ℕ → Option (List ℕ) → Option (List ℕ) → Option (List ℕ) → Type 0
+Tells Done bytes left held now = (ending bytes ≡ whole) × Appends held now (text bytes)
+Tells (BadLine n) bytes left held now = (ending bytes ≡ bad_line n) × Appends held now (text bytes)
+Tells TooLong bytes left held now = (ending bytes ≡ too_long) × Appends held now (text bytes)
+Tells Read bytes left held now = (fed : List ℕ) × (rest : List ℕ) × (bytes ≡ fed ++ rest) × (left ≡ Some rest) × Appends held now (text fed)
+Tells Write bytes left held now = AppendsFront held now (text bytes)
+Tells Memory bytes left held now = AppendsFront held now (text bytes)
+Tells _ bytes left held now = ⊥
+
+-- what a replay may answer
+abbrev pub IsReplayStatus : Status → Type 0
+IsReplayStatus Done = Unit {0}
+IsReplayStatus (BadLine n) = Unit {0}
+IsReplayStatus TooLong = Unit {0}
+IsReplayStatus Read = Unit {0}
+IsReplayStatus Write = Unit {0}
+IsReplayStatus Memory = Unit {0}
+IsReplayStatus _ = ⊥
+
+-- How the program ended: this is its exit status, the error output gained its text unless that output's own
+-- faults rose, and a replay's end is told by the bytes.
+pub record EndsSo (code : ℕ) (task : Option Task) (bytes left held now told tells : Option (List ℕ)) (failed : Type 0) : Type 0 where
+  pub status : Status
+  pub is_code : code ≡ code_of status
+  pub error : Appends told tells (error_text status) ⊎ failed
+  pub replay : task ≡ Some Replay → IsReplayStatus status × IfSome bytes (λ bs. Tells status bs left held now)
