@@ -1,0 +1,41 @@
+-- Which data is an object, and what a body reads as.
+use Rattle.std.proofs.Common.{◌≡◌, ℕ, List, inl, inr, sym, true, false, Some, None, Ok, Err, [], refl}
+use Rattle.std.specs.Option.{is_some}
+use Rattle.std.specs.Str.{IsUtf8, is_utf8}
+use Rattle.std.proofs.lemmas.Bool.{cases_Bool}
+use Rattle.std.proofs.lemmas.Str.{IsUtf8-from_is_utf8, is_utf8-from_IsUtf8}
+use Rattle.serde_json.specs.Read.{read}
+use Rattle.serde_json.specs.Data.{Data, null, boolean, number, string, array, object}
+use Rattle.serde_json.specs.Find.{as_object}
+use Rattle.kds_json.specs.declared.problem.FaultKind.TheVariants.{Serialization}
+use Rattle.kds_json.specs.Reading.{fault_of}
+use Rattle.kds_json.specs.Asked.{if_object, read_body}
+
+pub object_is : (d : Data) → is_some (as_object d) ≡ true → if_object (Some d) ≡ Ok d
+object_is null h = cc
+object_is (boolean b) h = cc
+object_is (number n) h = cc
+object_is (string s) h = cc
+object_is (array ds) h = cc
+object_is (object ms) h = refl
+
+pub other_is : (d : Data) → is_some (as_object d) ≡ false → if_object (Some d) ≡ Err (fault_of Serialization [])
+other_is null h = refl
+other_is (boolean b) h = refl
+other_is (number n) h = refl
+other_is (string s) h = refl
+other_is (array ds) h = refl
+other_is (object ms) h = cc
+
+pub ruleset objects = (object_is, other_is)
+
+pub read_text : (body : List ℕ) (d : Data) → IsUtf8 body → read body ≡ Some d → Some d ≡ read_body body
+unfolding read_body
+read_text body d u e = rw (is_utf8-from_IsUtf8 body u) (sym e)
+
+pub read_nothing : (body : List ℕ) → (IsUtf8 body → read body ≡ None) → None ≡ read_body body
+unfolding read_body
+read_nothing body none = elim (cases_Bool (is_utf8 body)) [
+  | inl text ↦ rw text (sym (none (IsUtf8-from_is_utf8 body text)))
+  | inr other ↦ rw other refl
+]

@@ -1,0 +1,5 @@
+use Rattle.kds_json.proofs.Lawful.{asked_lawful}
+use Rattle.kds_json.proofs.request.asks_lawfully.Goals as goal
+
+pub returns : goal.returns
+returns c = asked_lawful

@@ -1,0 +1,78 @@
+//! From an operation and a body to a command.
+ghost use Rattle.std.specs.Prelude.{◌≡◌, ℕ, List, Ok, IsUtf8, IfOk, IfErr, option_map};
+ghost use Rattle.kds_defs.specs.declared.command.Command.{Command};
+ghost use Rattle.serde_json.specs.View.{view};
+ghost use Rattle.kds_defs.specs.Lawful.{IsLawfulCommand};
+ghost use Rattle.kds_json.specs.Reading.{Gives};
+ghost use Rattle.kds_json.specs.Asked.{object_of, read_body, asked};
+
+use crate::member::stop_at;
+use crate::operation::{create_stream, put_record};
+use crate::problem::{Fault, FaultKind, Stop};
+use kds_base::Memory;
+use kds_defs::Command;
+use serde_json::Value;
+use std::alloc::Global;
+
+/// What a body reads as, if it is JSON in UTF-8.
+fn parsed(alloc: Global, body: &[u8]) -> Result<Option<Value>, Memory>
+    ensures { IfOk result (λ o. option_map view o ≡ read_body body.now) }
+{
+    match Value::from_slice(alloc, body) {
+        Ok(value) => Ok(Some(value)),
+        Err(e) => { if e.is_memory() { Err(Memory) } else { Ok(None) } }
+    }
+}
+
+/// The object that a body is.
+#[tactic(auto, using(crate::proofs::Objects::objects))]
+fn object(alloc: Global, body: &[u8]) -> Result<Value, Stop>
+    ensures { Gives view result (object_of body.now) }
+{
+    match parsed(alloc, body)? {
+        Some(value) => {
+            if value.is_object() {
+                Ok(value)
+            } else {
+                Err(stop_at(alloc, FaultKind::Serialization, ""))
+            }
+        }
+        None => Err(stop_at(alloc, FaultKind::Serialization, "")),
+    }
+}
+
+/// An operation that isn't known is refused before its body is read.
+#[tactic(auto, unfolding(crate::specs::Asked::asked))]
+fn command(alloc: Global, operation: &[u8], body: &[u8]) -> Result<Command, Stop>
+    ensures { Gives (λ c. c) result (asked operation.now body.now) }
+{
+    if operation == b"CreateStream".as_slice() {
+        create_stream(alloc, &object(alloc, body)?)
+    } else if operation == b"PutRecord".as_slice() {
+        put_record(alloc, &object(alloc, body)?)
+    } else {
+        Err(stop_at(alloc, FaultKind::Unknown, ""))
+    }
+}
+
+/// The command that an operation and its body ask for, or the first fault of the request
+/// (Kinesis API Reference, Actions and Common Errors). A body that nests deeper than 127 levels isn't read,
+/// so it is `Serialization`. `Memory` is want of memory.
+pub fn ask(alloc: Global, operation: &[u8], body: &[u8]) -> Result<Result<Command, Fault>, Memory>
+    ensures value { IfOk result (λ r. r ≡ asked operation.now body.now) }
+
+    // A command may be asked of a machine, and the member of a fault can be printed.
+    ensures lawful { IfOk result (λ r. IfOk r IsLawfulCommand) }
+    ensures text { IfOk result (λ r. IfErr r (λ fault. IsUtf8 fault.member)) }
+{
+    match command(alloc, operation, body) {
+        Ok(what) => Ok(Ok(what)),
+        Err(Stop::Fault(fault)) => Ok(Err(fault)),
+        Err(Stop::Memory) => Err(Memory),
+    }
+}
+
+/// What a request asks for may be asked of a machine.
+pub fn asks_lawfully()
+    ensures { (operation body : List ℕ) (what : Command) → asked operation body ≡ Ok what → IsLawfulCommand what }
+{}

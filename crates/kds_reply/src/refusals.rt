@@ -1,0 +1,37 @@
+ghost use Rattle.std.specs.Prelude.{◌≡◌, IfOk};
+ghost use Rattle.kds_reply.specs.Errors.{refusal_name as name_of, refusal_message as message_of, refusal_text};
+
+use crate::errors::error_body;
+use kds_base::{Memory, Octets};
+use kds_defs::Refusal;
+use std::alloc::Global;
+
+/// The name of a refusal (Kinesis API Reference, Errors of each action).
+fn refusal_name(refusal: Refusal) -> &'static str
+    ensures { result.now ≡ name_of refusal }
+{
+    match refusal {
+        Refusal::NoStream => "ResourceNotFoundException",
+        Refusal::StreamThere => "ResourceInUseException",
+        Refusal::Full => "LimitExceededException",
+        Refusal::Spent => "LimitExceededException",
+    }
+}
+
+fn refusal_message(refusal: Refusal) -> &'static str
+    ensures { result.now ≡ message_of refusal }
+{
+    match refusal {
+        Refusal::NoStream => "stream not found",
+        Refusal::StreamThere => "stream exists",
+        Refusal::Full => "limit reached",
+        Refusal::Spent => "numbers are used up",
+    }
+}
+
+/// The body of a refusal.
+pub fn refusal_body(alloc: Global, refusal: Refusal) -> Result<Octets, Memory>
+    ensures { IfOk result (λ o. o ≡ refusal_text refusal) }
+{
+    error_body(alloc, refusal_name(refusal), refusal_message(refusal))
+}
