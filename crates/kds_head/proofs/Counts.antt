@@ -1,13 +1,21 @@
 -- A text of 1 to 19 digits is a number below 2 ^ 64.
-use Rattle.std.proofs.Common.{sym, ap, ◌∙◌, Some, None, ◌≡◌, ℕ, ◌^◌, ◌<◌, ◌≤◌, List, length, true, false, Result, Ok, Err, arith, refl}
+use Rattle.std.proofs.Common.{sym, ap, ◌∙◌, Some, None, ◌≡◌, ℕ, ◌^◌, ◌<◌, ◌≤◌, List, length, true, false, Result, Ok, Err, arith, refl, rules}
 use Rattle.std.proofs.lemmas.Grind.{common_steps}
-use Rattle.std.proofs.lemmas.Str.Parse.{parse_digits, digits_value_short}
+use Rattle.std.proofs.lemmas.Str.Parse.{IsNumeralModel, numerals_by_value, parse_digits, digits_value_short}
 use Rattle.std.proofs.lemmas.Fmt.{IsAscii-from_digits}
+use Rattle.std.specs.Char.{is_ascii_digit}
+use Rattle.std.specs.List.{list_all}
 use Rattle.std.specs.Result.{result_ok, OkIff}
 use Rattle.std.specs.Str.{IsAscii}
 use Rattle.std.specs.Str.Parse.{digits_value, ParsesUnsigned}
-use Rattle.kds_base.proofs.NumberLemmas.{IsDigits, own}
 use Rattle.kds_head.specs.Values.{is_byte_count, byte_count}
+
+-- a text of digits, as a fact
+abbrev pub IsDigits : List ℕ → Type 0
+IsDigits text = list_all is_ascii_digit text ≡ true
+
+own : IsNumeralModel IsDigits (digits_value 10)
+own = numerals_by_value IsDigits (search rules)
 
 pub count_digits : (text : List ℕ) → is_byte_count text ≡ true → IsDigits text × (0 < length text) × (length text ≤ 19)
 count_digits text p = (grind (arith, common_steps), grind (arith, common_steps), grind (arith, common_steps))

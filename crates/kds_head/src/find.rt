@@ -1,6 +1,5 @@
-//! What stands at the front of the bytes of a connection, and the laws of it.
-ghost use Rattle.std.specs.Prelude.{◌≡◌, ◌≢◌, ◌≤◌, ◌+◌, ◌*◌, ◌++◌, List, ℕ, length, take, IfOk};
-ghost use Rattle.kds_head.specs.declared.found.Found.{Found};
+//! What stands at the front of the bytes of a connection.
+ghost use Rattle.std.specs.Prelude.{◌≡◌, ◌≤◌, ◌+◌, ◌*◌, length, take, IfOk};
 ghost use Rattle.kds_head.specs.Find.{IsFoundIn, IsFound, IsWithinLimits};
 ghost use Rattle.kds_head.specs.Find as spec;
 
@@ -72,14 +71,3 @@ pub fn head(alloc: Global, bytes: &[u8]) -> Result<Found, Memory>
     let mut spans = vec![in alloc; EMPTY_HEADER_SPAN; front.len() / 3]?;
     find_in(alloc, front, spans.as_mut_slice())
 }
-
-/// A law: at most one finding holds of the same bytes.
-pub fn one_finding()
-    ensures { (bytes : List ℕ) (found other : Found) → IsFound bytes found → IsFound bytes other → found ≡ other }
-{}
-
-/// A law: what is decided stays so, whatever bytes follow. So it doesn't matter in which pieces the
-/// bytes come.
-pub fn decided_stays()
-    ensures { (bytes more : List ℕ) (found : Found) → IsFound bytes found → found ≢ Found.Need → IsFound (bytes ++ more) found }
-{}

@@ -6,6 +6,7 @@ mod fields;
 mod find;
 mod found;
 mod judge;
+mod laws;
 pub mod limits;
 mod target;
 #[cfg(test)]
@@ -13,6 +14,7 @@ mod tests;
 mod values;
 mod write;
 
-pub use find::{decided_stays, head, one_finding};
+pub use find::head;
 pub use found::{Found, Head};
+pub use laws::{decided_stays, found_within_limits, no_bytes_need_more, one_finding};
 pub use write::response;

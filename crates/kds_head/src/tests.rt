@@ -1,5 +1,7 @@
 use crate::limits::{HEAD_BYTES, HEADERS};
-use crate::{Found, head, response};
+use crate::{
+    Found, decided_stays, found_within_limits, head, no_bytes_need_more, one_finding, response,
+};
 use kds_base::Octets;
 use std::test::Fail;
 
@@ -184,4 +186,13 @@ fn responses(rt: HostRuntime) -> Result<(), Fail> {
         b"HTTP/1.1 200 OK\r\nContent-Type: application/x-amz-json-1.1\r\nContent-Length: 41\r\n\r\n{\"HasMoreStreams\":false,\"StreamNames\":[]}HTTP/1.1 400 Bad Request\r\nContent-Type: application/x-amz-json-1.1\r\nContent-Length: 2\r\nConnection: close\r\n\r\n{}HTTP/1.1 411 Length Required\r\nContent-Length: 0\r\nConnection: close\r\n\r\n".as_slice();
     assert_eq!(rt; text.as_slice(), want);
     Ok(())
+}
+
+#[test]
+fn laws_can_be_called(rt: HostRuntime) {
+    one_finding();
+    decided_stays();
+    found_within_limits();
+    no_bytes_need_more();
+    assert_eq!(rt; HEADERS, 64);
 }
