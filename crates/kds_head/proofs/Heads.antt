@@ -1,4 +1,4 @@
--- How many headers a head of so many bytes can have; at most one finding; what is decided stays.
+-- How many headers a head of so many bytes can have; at most one finding; what is decided stays; the limits.
 use Rattle.std.proofs.Common.{◌≡◌, ◌≢◌, ℕ, ◌+◌, ◌*◌, ◌<◌, ◌≤◌, ◌⊎◌, List, [], ◌∷◌, ◌++◌, map, length, take, sym, ap, ◌∙◌, subst, arith, zero, suc, get_or, refl, inl, inr, codes, Bool, true, false, Result, Ok, Err}
 use Rattle.std.specs.Prelude.{◌==◌, if◌then◌else◌, nat_lt, All, IsTrue, IfOk}
 use Rattle.std.specs.Str.{IsUtf8, is_utf8, chars}

@@ -1,5 +1,5 @@
 //! The headers of a head, read through the spans that the parser gives.
-ghost use Rattle.std.specs.Prelude.{◌≡◌, length, map, slice_range, find};
+ghost use Rattle.std.specs.Prelude.{◌≡◌, map, slice_range, find};
 ghost use Rattle.std.specs.Option.{option_copied, option_map};
 ghost use Rattle.std.specs.List.{list_any};
 ghost use Rattle.httparse.specs.Spans.{header_bytes};
