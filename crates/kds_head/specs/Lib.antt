@@ -1,0 +1,6 @@
+pub mod Headers
+pub mod Values
+pub mod Table
+pub mod Find
+pub mod Target
+pub mod Response

@@ -1,0 +1,37 @@
+-- What a whole head leads to: the first case of the table that holds.
+use Rattle.std.specs.Prelude.{ℕ, List, Bool, ◌==◌, not, nat_lt, length, codes, map, if◌then◌else◌, is_none, unwrap_or}
+use Rattle.std.specs.Str.{bytes_eq}
+use Rattle.httparse.specs.Grammar.{RequestHead, print_request}
+use Rattle.httparse.specs.Spans.{name_and_value}
+use Rattle.kds_head.specs.Headers.{Headers, count_named}
+use Rattle.kds_head.specs.Values.{body_length, operation, says_json, closes}
+use Rattle.kds_head.specs.declared.found.Found.{Found}
+use Rattle.kds_head.specs.declared.found.Found.TheVariants.{Refused, Whole}
+use Rattle.kds_head.specs.declared.limits.TheConstants.{HEADERS, BODY_BYTES}
+
+-- a case that refuses with a status where a test holds, and the cases after it
+infixr 1 refused◌if◌else◌
+unfoldable pub refused◌if◌else◌ : ℕ → Bool → Found → Found
+refused status if test else later = if test then Refused status else later
+
+-- a head of so many bytes, with its method, its target, its minor version and its headers
+abbrev pub judged_by : ℕ → List ℕ → List ℕ → ℕ → Headers → Found
+judged_by bytes method target minor headers =
+    refused 400 if nat_lt HEADERS (length headers) else
+    refused 501 if nat_lt 0 (count_named (codes "Transfer-Encoding") headers) else
+    refused 411 if count_named (codes "Content-Length") headers == 0 else
+    refused 400 if is_none (body_length headers) else
+    refused 413 if nat_lt BODY_BYTES (unwrap_or (body_length headers) 0) else
+    refused 405 if not (bytes_eq method (codes "POST")) else
+    refused 404 if not (bytes_eq target (codes "/")) else
+    Whole (record {
+      length = bytes;
+      body = unwrap_or (body_length headers) 0;
+      operation = operation headers;
+      json = says_json headers;
+      close = closes minor headers;
+    })
+
+-- what a whole head of the grammar leads to
+abbrev pub judged : RequestHead → Found
+judged h = judged_by (length (print_request h)) h.method h.target h.minor (map name_and_value h.fields)

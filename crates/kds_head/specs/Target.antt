@@ -1,0 +1,13 @@
+-- Where the bytes of a request end: in the empty lines in front, the method, or the target (RFC 9112, section 3).
+use Rattle.std.specs.Prelude.{ℕ, ◌==◌, if◌then◌else◌}
+use Rattle.httparse.specs.Grammar.{is_token_byte, is_uri_byte}
+use Rattle.kds_head.specs.declared.target.Reached.{Reached}
+use Rattle.kds_head.specs.declared.target.Reached.TheVariants.{Blank, CarriageReturn, Method, Target, Other}
+
+-- what is reached with one more byte
+abbrev pub after_byte : Reached → ℕ → Reached
+after_byte Blank b = if b == 10 then Blank else if b == 13 then CarriageReturn else if is_token_byte b then Method else Other
+after_byte CarriageReturn b = if b == 10 then Blank else Other
+after_byte Method b = if b == 32 then Target else if is_token_byte b then Method else Other
+after_byte Target b = if is_uri_byte b then Target else Other
+after_byte Other b = Other

@@ -1,0 +1,75 @@
+//! What a whole head leads to.
+ghost use Rattle.std.specs.Prelude.{◌≡◌, length, map, slice_range, IfOk, nat_lt, codes};
+ghost use Rattle.std.specs.Str.{bytes_eq};
+ghost use Rattle.httparse.specs.Spans.{header_bytes};
+ghost use Rattle.kds_head.specs.Table.{judged_by};
+
+use crate::fields::covered;
+use crate::found::{Found, Head};
+use crate::limits::{BODY_BYTES, HEADERS};
+use crate::values::{body_length, closes, encodings, lengths, operation, says_json};
+use httparse::spans::{HeaderSpan, RequestSpans, Span};
+use kds_base::{Memory, Octets};
+use std::alloc::Global;
+
+fn too_many(front: &[u8], headers: &[HeaderSpan]) -> bool
+    ensures { result ≡ nat_lt HEADERS (length (map (header_bytes front.now) headers.now)) }
+{
+    headers.len() > HEADERS
+}
+
+fn is_post(front: &[u8], method: Span) -> bool
+    ensures { result ≡ bytes_eq (slice_range front.now method.start method.end) (codes "POST") }
+{
+    covered(front, method) == b"POST".as_slice()
+}
+
+fn is_root(front: &[u8], target: Span) -> bool
+    ensures { result ≡ bytes_eq (slice_range front.now target.start target.end) (codes "/") }
+{
+    covered(front, target) == b"/".as_slice()
+}
+
+/// The first case of the table that holds.
+pub fn judge(
+    alloc: Global,
+    front: &[u8],
+    headers: &[HeaderSpan],
+    spans: &RequestSpans,
+) -> Result<Found, Memory>
+    ensures { IfOk result (λ found. found ≡ judged_by spans.now.len
+        (slice_range front.now spans.now.method.start spans.now.method.end)
+        (slice_range front.now spans.now.path.start spans.now.path.end)
+        spans.now.version (map (header_bytes front.now) headers.now)) }
+{
+    if too_many(front, headers) {
+        return Ok(Found::Refused(400));
+    }
+    if encodings(front, headers) > 0 {
+        return Ok(Found::Refused(501));
+    }
+    if lengths(front, headers) == 0 {
+        return Ok(Found::Refused(411));
+    }
+    let body = match body_length(front, headers) {
+        Some(body) => body,
+        None => return Ok(Found::Refused(400)),
+    };
+    if body > BODY_BYTES {
+        return Ok(Found::Refused(413));
+    }
+    if !is_post(front, spans.method) {
+        return Ok(Found::Refused(405));
+    }
+    if !is_root(front, spans.path) {
+        return Ok(Found::Refused(404));
+    }
+    let operation = Octets::of(alloc, operation(front, headers))?;
+    Ok(Found::Whole(Head {
+        length: spans.len,
+        body,
+        operation,
+        json: says_json(front, headers),
+        close: closes(front, headers, spans.version),
+    }))
+}

@@ -1,0 +1,20 @@
+//! The heads of HTTP/1.x requests, found at the front of a connection's bytes and judged by the
+//! service's table, and the text of responses (RFC 9110, RFC 9112).
+#![tactic(auto)]
+
+mod fields;
+mod find;
+mod found;
+mod judge;
+mod laws;
+pub mod limits;
+mod target;
+#[cfg(test)]
+mod tests;
+mod values;
+mod write;
+
+pub use find::head;
+pub use found::{Found, Head};
+pub use laws::{decided_stays, found_within_limits, no_bytes_need_more, one_finding};
+pub use write::response;
