@@ -1,4 +1,6 @@
 //! Runs over the ends in memory.
+ghost use Rattle.std.specs.Prelude.{◌<◌};
+
 use crate::runs::run;
 use kds_base::{Items, Octets};
 use kds_ends::{MemSink, MemSource};
