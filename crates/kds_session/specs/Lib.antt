@@ -1,0 +1,5 @@
+pub mod Messages
+pub mod Text
+pub mod States
+pub mod Standing
+pub mod Steps
