@@ -21,7 +21,8 @@ use Rattle.kds_session.specs.Messages.{Message, message_at, Ending, closed, refu
 use Rattle.kds_session.specs.Text.{Answers, asked_by, command_of, commands, answered, responses}
 use Rattle.kds_session.specs.States.{SessionState, waiting_for, is_last, standing_after}
 use Rattle.kds_session.specs.Standing.{Stage, going, over, stage_of, stage_text, Leads, GoesOn, IsAwaited, Awaits, StandsFor, IsQuiet}
-use Rattle.kds_session.specs.Steps.{IsFree, IsNext, read_state, with_reading}
+use Rattle.kds_session.specs.Next.{IsNext}
+use Rattle.kds_session.specs.Steps.{IsFree, read_state, with_reading}
 use Rattle.kds_session.proofs.Readings.{HeadLaws, HeadStays, begins_at, last_is, goes_fed, goes_past, goes_last, goes_refused}
 use Rattle.kds_session.proofs.Responses.{commands-push, responses-push, adds}
 

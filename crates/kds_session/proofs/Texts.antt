@@ -12,7 +12,7 @@ use Rattle.kds_session.specs.Messages.{Message, Ending, closed, refused, Falls, 
 use Rattle.kds_session.specs.Text.{Answers, commands, responses, end_text, IsHttp}
 use Rattle.kds_session.specs.States.{SessionState}
 use Rattle.kds_session.specs.Standing.{Stage, going, over, stage_of, stage_text, Leads, Awaits, StandsFor, IsQuiet}
-use Rattle.kds_session.specs.Steps.{IsNext}
+use Rattle.kds_session.specs.Next.{IsNext}
 use Rattle.kds_session.proofs.Readings.{goes_ending}
 use Rattle.kds_session.proofs.Responses.{responses-front, responses-enough, commands-append}
 

@@ -2,4 +2,5 @@ pub mod Messages
 pub mod Text
 pub mod States
 pub mod Standing
+pub mod Next
 pub mod Steps

@@ -1,4 +1,4 @@
--- What the steps of a session lead to.
+-- The steps on the way to the next command.
 use Rattle.std.specs.Prelude.{◌≡◌, ◌≢◌, ℕ, ◌+◌, ◌≤◌, ◌<◌, List, ◌∷◌, [], ◌++◌, length, drop, Option, Some, None, true}
 use Rattle.kds_defs.specs.declared.command.Command.{Command}
 use Rattle.kds_defs.specs.Lawful.{IsLawfulCommand}
@@ -17,18 +17,6 @@ use Rattle.kds_session.specs.Messages.{IsUnfinished, IsWhole}
 use Rattle.kds_session.specs.Text.{Answers}
 use Rattle.kds_session.specs.States.{SessionState}
 use Rattle.kds_session.specs.Standing.{StandsFor, IsQuiet}
-
--- ---- what `next` gives
-
--- the next command, or none where no whole request with a command is left
-abbrev pub IsNext : Option Command → SessionState → List ℕ → List Command → Answers → List ℕ → Type 0
-IsNext None new fed given told sent = StandsFor new fed given told sent × IsQuiet new
-IsNext (Some what) new fed given told sent = StandsFor new fed (given ++ what ∷ []) told sent × (new.waiting ≢ Nothing)
-
--- a command waits exactly where one was given
-abbrev pub IsWaiting : Waiting → Option Command → Type 0
-IsWaiting new None = new ≡ Nothing
-IsWaiting new (Some what) = new ≢ Nothing
 
 -- ---- what stands at the front of the unread bytes
 

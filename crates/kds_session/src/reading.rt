@@ -74,7 +74,8 @@ fn put_fault(alloc: Global, problem: &Fault, close: bool, to: &mut Octets) -> Re
 
 impl Reading {
     ghost use Rattle.std.specs.Prelude.{◌+◌, ◌-◌};
-    ghost use Rattle.kds_session.specs.Steps.{read_state, IsFree, IsAfter, IsPlainly, IsNext, IsWaiting};
+    ghost use Rattle.kds_session.specs.Next.{IsNext, IsWaiting};
+    ghost use Rattle.kds_session.specs.Steps.{read_state, IsFree, IsAfter, IsPlainly};
 
     /// Nothing was read, on a live connection on which so many requests may still come.
     pub fn new(alloc: Global, left: u32) -> Reading

@@ -50,7 +50,8 @@ fn response_to(alloc: Global, answer: &Answer, close: bool) -> Result<Octets, Me
 
 impl Session {
     ghost use Rattle.kds_session.specs.Standing.{StandsFor, IsQuiet, IsAtBoundary};
-    ghost use Rattle.kds_session.specs.Steps.{IsNext, IsWaiting, with_reading};
+    ghost use Rattle.kds_session.specs.Next.{IsNext, IsWaiting};
+    ghost use Rattle.kds_session.specs.Steps.{with_reading};
 
     /// A live connection of which nothing was read.
     pub fn new(alloc: Global) -> Session
