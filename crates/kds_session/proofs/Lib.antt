@@ -1,0 +1,4 @@
+pub mod Readings
+pub mod Responses
+pub mod Stands
+pub mod Texts

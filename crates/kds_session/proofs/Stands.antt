@@ -1,0 +1,351 @@
+-- What a session stands for, one step later.
+use Rattle.std.proofs.Common.{◌≡◌, ◌≢◌, ℕ, ◌+◌, ◌-◌, ◌<◌, List, [], ◌∷◌, ◌++◌, length, take, drop, sym, ap, ◌∙◌, subst, arith, refl, Bool, true, false, Ok, Err, Result, Option, Some, None, drop-drop}
+use Rattle.std.specs.Prelude.{◌||◌, nat_le}
+use Rattle.std.proofs.lemmas.List.{append_assoc, append-nil, length-append}
+use Rattle.kds_defs.specs.declared.command.Command.{Command}
+use Rattle.kds_defs.specs.declared.reply.Refusal.{Refusal}
+use Rattle.kds_defs.specs.declared.reply.Reply.{Reply}
+use Rattle.kds_json.specs.declared.problem.Fault.{Fault}
+use Rattle.kds_reply.specs.Replies.{reply_of, fault_reply}
+use Rattle.kds_head.specs.declared.found.Head.{Head}
+use Rattle.kds_head.specs.declared.found.Found.TheVariants.{Refused as RefusedHead}
+use Rattle.kds_head.specs.Find.{IsFound}
+use Rattle.kds_head.specs.Response.{response_text}
+use Rattle.kds_session.specs.declared.limits.TheConstants.{REQUESTS}
+use Rattle.kds_session.specs.declared.reading.Reading.{Reading}
+use Rattle.kds_session.specs.declared.state.Standing.{Standing}
+use Rattle.kds_session.specs.declared.state.Standing.TheVariants.{Live, Closed, Refused}
+use Rattle.kds_session.specs.declared.state.Waiting.{Waiting}
+use Rattle.kds_session.specs.declared.state.Waiting.TheVariants.{Nothing, Answer, LastAnswer}
+use Rattle.kds_session.specs.Messages.{Message, message_at, Ending, closed, refused, closes, rest_of, IsWhole, Falls}
+use Rattle.kds_session.specs.Text.{Answers, asked_by, command_of, commands, answered, responses}
+use Rattle.kds_session.specs.States.{SessionState, waiting_for, is_last, standing_after}
+use Rattle.kds_session.specs.Standing.{Stage, going, over, stage_of, stage_text, Leads, GoesOn, IsAwaited, Awaits, StandsFor, IsQuiet}
+use Rattle.kds_session.specs.Next.{IsNext}
+use Rattle.kds_session.specs.Steps.{IsFree, read_state, with_reading}
+use Rattle.kds_session.proofs.Readings.{HeadLaws, HeadStays, begins_at, last_is, goes_fed, goes_past, goes_last, goes_refused}
+use Rattle.kds_session.proofs.Responses.{commands-push, responses-push, adds}
+
+-- ---- a session that is live, and of which no command waits
+
+pub record Runs (s : SessionState) (fed : List ℕ) (given : List Command) (told : Answers) (sent : List ℕ) : Type 0 where
+  pub done : List Message
+  pub given_is : given ≡ commands done
+  pub told_all : length told ≡ length (commands done)
+  pub goes : GoesOn fed done s.left s.unread
+  pub written : sent ++ s.output ≡ responses 0 done told
+
+stage_live : (s : Standing) (w : Waiting) → s ≡ Live → w ≡ Nothing → stage_of s w ≡ going
+stage_live s w e f = ap (λ a. stage_of a w) e ∙ ap (λ b. stage_of Live b) f
+
+runs_of : (s : SessionState) (fed : List ℕ) (given : List Command) (told : Answers) (sent : List ℕ) → StandsFor s fed given told sent → IsFree s → Runs s fed given told sent
+runs_of s fed given told sent st free =
+    let stage = stage_live s.standing s.waiting free.live free.free in record {
+      done = st.done;
+      given_is = st.given_is;
+      told_all = subst (λ (w : Waiting). Awaits w st.done told) free.free st.awaited;
+      goes = subst (λ (z : Stage). Leads z fed st.done s.left s.unread) stage st.leads;
+      written = st.written ∙ ap (λ z. responses 0 st.done told ++ stage_text z) stage ∙ append-nil _;
+    }
+
+-- ---- bytes are fed
+
+leads_fed : (stage : Stage) (fed : List ℕ) (done : List Message) (left : ℕ) (unread bytes : List ℕ) → Leads stage fed done left unread → Leads stage (fed ++ bytes) done left (unread ++ bytes)
+leads_fed going fed done left unread bytes g = goes_fed fed done left unread bytes g
+leads_fed (over ending) fed done left unread bytes g = λ more. subst (λ (z : List ℕ). Falls 0 z done ending) (sym (append_assoc fed bytes more)) (g (bytes ++ more))
+
+pub feeds : (s : SessionState) (fed : List ℕ) (given : List Command) (told : Answers) (sent bytes : List ℕ) → StandsFor s fed given told sent
+    → (new : SessionState) → new ≡ record s { unread = s.unread ++ bytes } → StandsFor new (fed ++ bytes) given told sent
+feeds s fed given told sent bytes st new e = subst (λ (n : SessionState). StandsFor n (fed ++ bytes) given told sent) (sym e) (record {
+  done = st.done;
+  given_is = st.given_is;
+  awaited = st.awaited;
+  live = st.live;
+  leads = leads_fed (stage_of s.standing s.waiting) fed st.done s.left s.unread bytes st.leads;
+  written = st.written;
+})
+
+-- ---- the connection is refused
+
+pub refused_now : HeadStays → (s : SessionState) (status : ℕ) (fed : List ℕ) (given : List Command) (told : Answers) (sent : List ℕ) → StandsFor s fed given told sent → IsFree s
+    → IsFound s.unread (RefusedHead status) → (new : SessionState) → new ≡ record s { output = s.output ++ response_text status [] false true; standing = Refused status }
+    → StandsFor new fed given told sent × IsQuiet new
+refused_now stays s status fed given told sent st free found new e =
+    let f = runs_of s fed given told sent st free in
+    let text = response_text status [] false true in
+    subst (λ (n : SessionState). StandsFor n fed given told sent × IsQuiet n) (sym e) (
+      record {
+        done = f.done;
+        given_is = f.given_is;
+        awaited = subst (λ (w : Waiting). Awaits w f.done told) (sym free.free) f.told_all;
+        live = λ waits. absurd (waits free.free);
+        leads = goes_refused stays fed f.done s.left s.unread status f.goes found;
+        written = sym (append_assoc sent s.output text) ∙ ap (λ z. z ++ text) f.written;
+      },
+      (λ h. absurd (cc h), free.free),
+    )
+
+-- ---- one more message
+
+-- what the code tests is what is meant
+close_is : (close : Bool) (done left : ℕ) (head : Head) → done + left ≡ REQUESTS → 0 < left → close ≡ (head.close || nat_le left 1) → closes (done + 1) head ≡ close
+close_is close done left head e some c = ap (λ b. head.close || b) (last_is done left e some) ∙ sym c
+
+-- one more message, and what it adds
+record OneMore (s : SessionState) (fed : List ℕ) (given : List Command) (told : Answers) (sent : List ℕ) (head : Head) (close : Bool) : Type 0 where
+  pub was : Runs s fed given told sent
+  pub close_is : closes (length was.done + 1) head ≡ close
+  pub commands_are : given ++ command_of (asked_by (message_at s.unread head)) ≡ commands (was.done ++ message_at s.unread head ∷ [])
+  pub adds_are : (left : Answers) → responses 0 (was.done ++ message_at s.unread head ∷ []) (told ++ left) ≡ (sent ++ s.output) ++ adds (asked_by (message_at s.unread head)) close left
+
+one_more : (s : SessionState) (fed : List ℕ) (given : List Command) (told : Answers) (sent : List ℕ) (head : Head) (close : Bool) → StandsFor s fed given told sent → IsFree s
+    → close ≡ (head.close || nat_le s.left 1) → OneMore s fed given told sent head close
+one_more s fed given told sent head close st free c =
+    let f = runs_of s fed given told sent st free in
+    let m = message_at s.unread head in
+    let closing = close_is close (length f.done) s.left head f.goes.count f.goes.some_left c in record {
+      was = f;
+      close_is = closing;
+      commands_are = ap (λ z. z ++ command_of (asked_by m)) f.given_is ∙ sym (commands-push f.done m);
+      adds_are = λ left.
+          responses-push 0 f.done m told left f.told_all
+          ∙ ap (λ n. responses 0 f.done told ++ adds (asked_by m) (closes (n + 1) head) left) (let z : 0 + length f.done ≡ length f.done = omega arith in z)
+          ∙ ap (λ b. responses 0 f.done told ++ adds (asked_by m) b left) closing
+          ∙ ap (λ t. t ++ adds (asked_by m) close left) (sym f.written);
+    }
+
+-- ---- a request that has a fault is answered
+
+fault_text_is : (s : SessionState) (fed : List ℕ) (given : List Command) (told : Answers) (sent : List ℕ) (head : Head) (close : Bool) (f : Fault) → (o : OneMore s fed given told sent head close)
+    → asked_by (message_at s.unread head) ≡ Err f → sent ++ (s.output ++ answered (fault_reply f) close) ≡ responses 0 (o.was.done ++ message_at s.unread head ∷ []) told
+fault_text_is s fed given told sent head close f o asks =
+    sym (append_assoc sent s.output (answered (fault_reply f) close))
+    ∙ ap (λ z. (sent ++ s.output) ++ z) (sym (append-nil (answered (fault_reply f) close)))
+    ∙ ap (λ r. (sent ++ s.output) ++ adds r close []) (sym asks)
+    ∙ sym (o.adds_are [])
+    ∙ ap (λ t. responses 0 (o.was.done ++ message_at s.unread head ∷ []) t) (append-nil told)
+
+fault_commands : (s : SessionState) (fed : List ℕ) (given : List Command) (told : Answers) (sent : List ℕ) (head : Head) (close : Bool) (f : Fault) → (o : OneMore s fed given told sent head close)
+    → asked_by (message_at s.unread head) ≡ Err f → given ≡ commands (o.was.done ++ message_at s.unread head ∷ [])
+fault_commands s fed given told sent head close f o asks =
+    sym (append-nil given) ∙ ap (λ r. given ++ command_of r) (sym asks) ∙ o.commands_are
+
+-- and the connection goes on
+pub fault_goes : HeadLaws → (s : SessionState) (fed : List ℕ) (given : List Command) (told : Answers) (sent : List ℕ) (head : Head) (close : Bool) (f : Fault) → StandsFor s fed given told sent → IsFree s
+    → close ≡ (head.close || nat_le s.left 1) → close ≡ false → IsWhole s.unread head → asked_by (message_at s.unread head) ≡ Err f
+    → (new : SessionState) → new ≡ record s { unread = rest_of s.unread (message_at s.unread head); left = s.left - 1; output = s.output ++ answered (fault_reply f) close }
+    → StandsFor new fed given told sent
+fault_goes laws s fed given told sent head close f st free c goes_on whole asks new e =
+    let o = one_more s fed given told sent head close st free c in
+    let m = message_at s.unread head in
+    let done = o.was.done ++ m ∷ [] in
+    let given_is = fault_commands s fed given told sent head close f o asks in
+    let goes = goes_past laws fed o.was.done s.left s.unread m o.was.goes (begins_at s.unread head whole) (o.close_is ∙ goes_on) in
+    let stage = stage_live s.standing s.waiting free.live free.free in
+    subst (λ (n : SessionState). StandsFor n fed given told sent) (sym e) (record {
+      done = done;
+      given_is = given_is;
+      awaited = subst (λ (w : Waiting). Awaits w done told) (sym free.free) (o.was.told_all ∙ ap length (sym o.was.given_is) ∙ ap length given_is);
+      live = λ waits. absurd (waits free.free);
+      leads = subst (λ (z : Stage). Leads z fed done (s.left - 1) (rest_of s.unread m)) (sym stage) goes;
+      written = fault_text_is s fed given told sent head close f o asks ∙ sym (append-nil _) ∙ ap (λ z. responses 0 done told ++ stage_text z) (sym stage);
+    })
+
+-- and the connection closes
+pub fault_closes : HeadLaws → (s : SessionState) (fed : List ℕ) (given : List Command) (told : Answers) (sent : List ℕ) (head : Head) (close : Bool) (f : Fault) → StandsFor s fed given told sent → IsFree s
+    → close ≡ (head.close || nat_le s.left 1) → close ≡ true → IsWhole s.unread head → asked_by (message_at s.unread head) ≡ Err f
+    → (new : SessionState) → new ≡ record s { unread = rest_of s.unread (message_at s.unread head); left = s.left - 1; output = s.output ++ answered (fault_reply f) close; standing = Closed }
+    → StandsFor new fed given told sent × IsQuiet new
+fault_closes laws s fed given told sent head close f st free c ends_now whole asks new e =
+    let o = one_more s fed given told sent head close st free c in
+    let m = message_at s.unread head in
+    let done = o.was.done ++ m ∷ [] in
+    let given_is = fault_commands s fed given told sent head close f o asks in
+    subst (λ (n : SessionState). StandsFor n fed given told sent × IsQuiet n) (sym e) (
+      record {
+        done = done;
+        given_is = given_is;
+        awaited = subst (λ (w : Waiting). Awaits w done told) (sym free.free) (o.was.told_all ∙ ap length (sym o.was.given_is) ∙ ap length given_is);
+        live = λ waits. absurd (waits free.free);
+        leads = goes_last laws fed o.was.done s.left s.unread m o.was.goes (begins_at s.unread head whole) (o.close_is ∙ ends_now);
+        written = fault_text_is s fed given told sent head close f o asks ∙ sym (append-nil _);
+      },
+      (λ h. absurd (cc h), free.free),
+    )
+
+-- ---- a command is given
+
+command_parts : (s : SessionState) (fed : List ℕ) (given : List Command) (told : Answers) (sent : List ℕ) (head : Head) (close : Bool) (what : Command) → (o : OneMore s fed given told sent head close)
+    → asked_by (message_at s.unread head) ≡ Ok what
+    → (given ++ what ∷ [] ≡ commands (o.was.done ++ message_at s.unread head ∷ [])) × (sent ++ s.output ≡ responses 0 (o.was.done ++ message_at s.unread head ∷ []) told) × IsAwaited close (o.was.done ++ message_at s.unread head ∷ []) told
+command_parts s fed given told sent head close what o asks = (
+  ap (λ r. given ++ command_of r) (sym asks) ∙ o.commands_are,
+  sym (append-nil (sent ++ s.output)) ∙ ap (λ r. (sent ++ s.output) ++ adds r close []) (sym asks) ∙ sym (o.adds_are []) ∙ ap (λ t. responses 0 (o.was.done ++ message_at s.unread head ∷ []) t) (append-nil told),
+  record { before = o.was.done; last = message_at s.unread head; what = what; done_is = refl; asks = asks; told_before = o.was.told_all; close_is = o.close_is },
+)
+
+pub waits_for : (close : Bool) → waiting_for close ≢ Nothing
+waits_for true e = cc
+waits_for false e = cc
+
+pub command_given : HeadLaws → (s : SessionState) (fed : List ℕ) (given : List Command) (told : Answers) (sent : List ℕ) (head : Head) (close : Bool) (what : Command) → StandsFor s fed given told sent → IsFree s
+    → close ≡ (head.close || nat_le s.left 1) → IsWhole s.unread head → asked_by (message_at s.unread head) ≡ Ok what
+    → (new : SessionState) → new ≡ record s { unread = rest_of s.unread (message_at s.unread head); left = s.left - 1; waiting = waiting_for close }
+    → StandsFor new fed (given ++ what ∷ []) told sent × (new.waiting ≢ Nothing)
+command_given laws s fed given told sent head close what st free c whole asks new e =
+    let o = one_more s fed given told sent head close st free c in
+    let p = command_parts s fed given told sent head close what o asks in
+    subst (λ (n : SessionState). StandsFor n fed (given ++ what ∷ []) told sent × (n.waiting ≢ Nothing)) (sym e)
+    (by_close close o p o.close_is, waits_for close)
+  where
+    m : Message
+    m = message_at s.unread head
+
+    by_close : (b : Bool) (o : OneMore s fed given told sent head close)
+        → (p : (given ++ what ∷ [] ≡ commands (o.was.done ++ m ∷ [])) × (sent ++ s.output ≡ responses 0 (o.was.done ++ m ∷ []) told) × IsAwaited b (o.was.done ++ m ∷ []) told)
+        → closes (length o.was.done + 1) head ≡ b
+        → StandsFor (record s { unread = rest_of s.unread m; left = s.left - 1; waiting = waiting_for b }) fed (given ++ what ∷ []) told sent
+    by_close true o p b = record {
+      done = o.was.done ++ m ∷ [];
+      given_is = p.0;
+      awaited = p.2;
+      live = λ waits. free.live;
+      leads = subst (λ (a : Standing). Leads (stage_of a LastAnswer) fed (o.was.done ++ m ∷ []) (s.left - 1) (rest_of s.unread m)) (sym free.live) (goes_last laws fed o.was.done s.left s.unread m o.was.goes (begins_at s.unread head whole) b);
+      written = p.1 ∙ sym (append-nil _) ∙ ap (λ a. responses 0 (o.was.done ++ m ∷ []) told ++ stage_text (stage_of a LastAnswer)) (sym free.live);
+    }
+    by_close false o p b = record {
+      done = o.was.done ++ m ∷ [];
+      given_is = p.0;
+      awaited = p.2;
+      live = λ waits. free.live;
+      leads = subst (λ (a : Standing). Leads (stage_of a Answer) fed (o.was.done ++ m ∷ []) (s.left - 1) (rest_of s.unread m)) (sym free.live) (goes_past laws fed o.was.done s.left s.unread m o.was.goes (begins_at s.unread head whole) b);
+      written = p.1 ∙ sym (append-nil _) ∙ ap (λ a. responses 0 (o.was.done ++ m ∷ []) told ++ stage_text (stage_of a Answer)) (sym free.live);
+    }
+
+-- ---- a reading is begun, goes on and is taken over
+
+-- the reading has gone past a message of n bytes
+pub past_state : (bytes : List ℕ) (r new : Reading) (n : ℕ) → new.read ≡ r.read + n
+    → read_state bytes new ≡ record { unread = drop n (drop r.read bytes); output = new.answers; left = new.left; standing = new.standing; waiting = new.waiting }
+past_state bytes r new n e =
+    ap (λ (u : List ℕ). let y : SessionState = record { unread = u; output = new.answers; left = new.left; standing = new.standing; waiting = new.waiting } in y) (ap (λ k. drop k bytes) e ∙ sym (drop-drop n r.read bytes))
+
+pub command_state : (bytes : List ℕ) (r p : Reading) (n : ℕ) (w v : Waiting) → p ≡ record r { read = r.read + n; left = r.left - 1 } → w ≡ v
+    → read_state bytes (record p { waiting = w }) ≡ record (read_state bytes r) { unread = drop n (drop r.read bytes); left = r.left - 1; waiting = v }
+command_state bytes r p n w v e f =
+    ap (λ (x : Reading). read_state bytes (record x { waiting = w })) e
+    ∙ past_state bytes r (record r { read = r.read + n; left = r.left - 1; waiting = w }) n refl
+    ∙ ap (λ (z : Waiting). let y : SessionState = record (read_state bytes r) { unread = drop n (drop r.read bytes); left = r.left - 1; waiting = z } in y) f
+
+pub fault_state : (bytes : List ℕ) (r p : Reading) (n : ℕ) (t text : List ℕ) → p ≡ record r { answers = t; read = r.read + n; left = r.left - 1 } → t ≡ r.answers ++ text
+    → read_state bytes p ≡ record (read_state bytes r) { unread = drop n (drop r.read bytes); left = r.left - 1; output = r.answers ++ text }
+fault_state bytes r p n t text e f =
+    ap (λ (x : Reading). read_state bytes x) e
+    ∙ past_state bytes r (record r { answers = t; read = r.read + n; left = r.left - 1 }) n refl
+    ∙ ap (λ (z : List ℕ). let y : SessionState = record (read_state bytes r) { unread = drop n (drop r.read bytes); left = r.left - 1; output = z } in y) f
+
+pub closed_state : (bytes : List ℕ) (r p : Reading) (n : ℕ) (t text : List ℕ) → p ≡ record r { answers = t; read = r.read + n; left = r.left - 1 } → t ≡ r.answers ++ text
+    → read_state bytes (record p { standing = Closed }) ≡ record (read_state bytes r) { unread = drop n (drop r.read bytes); left = r.left - 1; output = r.answers ++ text; standing = Closed }
+closed_state bytes r p n t text e f =
+    ap (λ (z : SessionState). let y : SessionState = record z { standing = Closed } in y) (fault_state bytes r p n t text e f)
+
+pub refused_state : (bytes : List ℕ) (r p : Reading) (status : ℕ) → p ≡ record r { answers = r.answers ++ response_text status [] false true; standing = Refused status }
+    → read_state bytes p ≡ record (read_state bytes r) { output = r.answers ++ response_text status [] false true; standing = Refused status }
+refused_state bytes r p status e = ap (λ (x : Reading). read_state bytes x) e
+
+-- what the session had written before counts as sent
+pub reading_begins : (s : SessionState) (fed : List ℕ) (given : List Command) (told : Answers) (sent : List ℕ) → StandsFor s fed given told sent → IsFree s
+    → (start : Reading) → start ≡ record { read = 0; left = s.left; answers = []; standing = Live; waiting = Nothing }
+    → StandsFor (read_state s.unread start) fed given told (sent ++ s.output)
+reading_begins s fed given told sent st free start e =
+    let f = runs_of s fed given told sent st free in
+    subst (λ (r : Reading). StandsFor (read_state s.unread r) fed given told (sent ++ s.output)) (sym e) (record {
+      done = f.done;
+      given_is = f.given_is;
+      awaited = f.told_all;
+      live = λ waits. refl;
+      leads = f.goes;
+      written = append-nil _ ∙ f.written ∙ sym (append-nil _);
+    })
+
+stands_then : (s : SessionState) (r : Reading) (fed : List ℕ) (given : List Command) (told : Answers) (sent : List ℕ) → StandsFor (read_state s.unread r) fed given told (sent ++ s.output) → StandsFor (with_reading s r) fed given told sent
+stands_then s r fed given told sent st = record {
+  done = st.done;
+  given_is = st.given_is;
+  awaited = st.awaited;
+  live = st.live;
+  leads = st.leads;
+  written = sym (append_assoc sent s.output r.answers) ∙ st.written;
+}
+
+pub taken_over : (s : SessionState) (r : Reading) (o : Option Command) (fed : List ℕ) (given : List Command) (told : Answers) (sent : List ℕ) → IsNext o (read_state s.unread r) fed given told (sent ++ s.output)
+    → (new : SessionState) → new ≡ with_reading s r → IsNext o new fed given told sent
+taken_over s r None fed given told sent n new e = subst (λ (x : SessionState). IsNext None x fed given told sent) (sym e) (stands_then s r fed given told sent n.0, n.1)
+taken_over s r (Some what) fed given told sent n new e = subst (λ (x : SessionState). IsNext (Some what) x fed given told sent) (sym e) (stands_then s r fed (given ++ what ∷ []) told sent n.0, n.1)
+
+-- what the reading comes to, the session comes to
+pub next_by : (s v : SessionState) (bytes : List ℕ) (start r : Reading) (o : Option Command) → v ≡ s → bytes ≡ v.unread → start ≡ record { read = 0; left = v.left; answers = []; standing = Live; waiting = Nothing } → IsFree s
+    → ((fed : List ℕ) (given : List Command) (told : Answers) (sent : List ℕ) → StandsFor (read_state bytes start) fed given told sent → IsNext o (read_state bytes r) fed given told sent)
+    → (new : SessionState) → new ≡ with_reading s r
+    → (fed : List ℕ) (given : List Command) (told : Answers) (sent : List ℕ) → StandsFor s fed given told sent → IsNext o new fed given told sent
+next_by s v bytes start r o ev eb es free go new e fed given told sent st =
+    let bytes_is : bytes ≡ s.unread = eb ∙ ap (λ (x : SessionState). x.unread) ev in
+    let start_is = es ∙ ap (λ (x : SessionState). let y : Reading = record { read = 0; left = x.left; answers = []; standing = Live; waiting = Nothing } in y) ev in
+    let begun = subst (λ (b : List ℕ). StandsFor (read_state b start) fed given told (sent ++ s.output)) (sym bytes_is) (reading_begins s fed given told sent st free start start_is) in
+    let next = subst (λ (b : List ℕ). IsNext o (read_state b r) fed given told (sent ++ s.output)) bytes_is (go fed given told (sent ++ s.output) begun) in
+    taken_over s r o fed given told sent next new e
+
+-- ---- an answer is told
+
+pub awaited_text : (close : Bool) (done : List Message) (told : Answers) (a : Result Reply Refusal) → IsAwaited close done told
+    → (responses 0 done (told ++ a ∷ []) ≡ responses 0 done told ++ answered (reply_of a) close) × (length (told ++ a ∷ []) ≡ length (commands done))
+awaited_text close done told a w =
+    let m = w.last in
+    let n = closes (0 + length w.before + 1) m.head in
+    let same : n ≡ close = ap (λ k. closes (k + 1) m.head) (let z : 0 + length w.before ≡ length w.before = omega arith in z) ∙ w.close_is in
+    let one : responses 0 done (told ++ a ∷ []) ≡ responses 0 w.before told ++ (answered (reply_of a) close ++ []) =
+    ap (λ d. responses 0 d (told ++ a ∷ [])) w.done_is ∙ responses-push 0 w.before m told (a ∷ []) w.told_before ∙ ap (λ r. responses 0 w.before told ++ adds r n (a ∷ [])) w.asks ∙ ap (λ b. responses 0 w.before told ++ (answered (reply_of a) b ++ [])) same in
+    let none : responses 0 done told ≡ responses 0 w.before told =
+    ap (λ d. responses 0 d told) w.done_is ∙ ap (λ t. responses 0 (w.before ++ m ∷ []) t) (sym (append-nil told)) ∙ responses-push 0 w.before m told [] w.told_before ∙ ap (λ r. responses 0 w.before told ++ adds r n []) w.asks ∙ append-nil _ in
+    let all : commands done ≡ commands w.before ++ w.what ∷ [] = ap commands w.done_is ∙ commands-push w.before m ∙ ap (λ r. commands w.before ++ command_of r) w.asks in (
+      one ∙ ap (λ t. t ++ (answered (reply_of a) close ++ [])) (sym none) ∙ ap (λ t. responses 0 done told ++ t) (append-nil _),
+      length-append told (a ∷ []) ∙ ap (λ k. k + 1) w.told_before ∙ sym (length-append (commands w.before) (w.what ∷ [])) ∙ sym (ap length all),
+    )
+
+pub answer_told : (s : SessionState) (fed : List ℕ) (given : List Command) (told : Answers) (sent : List ℕ) (a : Result Reply Refusal) → StandsFor s fed given told sent → s.waiting ≢ Nothing
+    → (new : SessionState) → new ≡ record s { output = s.output ++ answered (reply_of a) (is_last s.waiting); waiting = Nothing; standing = standing_after (is_last s.waiting) s.standing }
+    → StandsFor new fed given (told ++ a ∷ []) sent
+answer_told s fed given told sent a st waits new e = subst (λ (n : SessionState). StandsFor n fed given (told ++ a ∷ []) sent) (sym e) (by_waiting s.waiting s.standing waits (st.live waits) st.awaited st.leads st.written)
+  where
+    by_waiting : (w : Waiting) (d : Standing) → w ≢ Nothing → d ≡ Live → Awaits w st.done told → Leads (stage_of d w) fed st.done s.left s.unread → sent ++ s.output ≡ responses 0 st.done told ++ stage_text (stage_of d w)
+        → StandsFor (record s { output = s.output ++ answered (reply_of a) (is_last w); waiting = Nothing; standing = standing_after (is_last w) d }) fed given (told ++ a ∷ []) sent
+    by_waiting Nothing d n v w l t = absurd (n refl)
+    by_waiting Answer Live n v w l t =
+        let p = awaited_text false st.done told a w in record {
+          done = st.done;
+          given_is = st.given_is;
+          awaited = p.1;
+          live = λ waits. absurd (waits refl);
+          leads = l;
+          written = sym (append_assoc sent s.output _) ∙ ap (λ z. z ++ answered (reply_of a) false) (t ∙ append-nil _) ∙ sym p.0 ∙ sym (append-nil _);
+        }
+    by_waiting LastAnswer Live n v w l t =
+        let p = awaited_text true st.done told a w in record {
+          done = st.done;
+          given_is = st.given_is;
+          awaited = p.1;
+          live = λ waits. absurd (waits refl);
+          leads = l;
+          written = sym (append_assoc sent s.output _) ∙ ap (λ z. z ++ answered (reply_of a) true) (t ∙ append-nil _) ∙ sym p.0 ∙ sym (append-nil _);
+        }
+    by_waiting Answer Closed n v w l t = absurd (cc v)
+    by_waiting Answer (Refused status) n v w l t = absurd (cc v)
+    by_waiting LastAnswer Closed n v w l t = absurd (cc v)
+    by_waiting LastAnswer (Refused status) n v w l t = absurd (cc v)
+
+-- the session is written to at the end
+pub told_state : (s : SessionState) (out text : List ℕ) (close : Bool) (d : Standing) (r : ℕ × List ℕ) → out ≡ s.output ++ text → text ≡ answered r close → close ≡ is_last s.waiting → d ≡ standing_after close s.standing
+    → (let new : SessionState = record s { output = out; waiting = Nothing; standing = d } in new) ≡ record s { output = s.output ++ answered r (is_last s.waiting); waiting = Nothing; standing = standing_after (is_last s.waiting) s.standing }
+told_state s out text close d r eo et ec ed =
+    ap (λ (z : List ℕ). let y : SessionState = record s { output = z; waiting = Nothing; standing = d } in y) (eo ∙ ap (λ z. s.output ++ z) (et ∙ ap (λ b. answered r b) ec))
+    ∙ ap (λ (z : Standing). let y : SessionState = record s { output = s.output ++ answered r (is_last s.waiting); waiting = Nothing; standing = z } in y) (ed ∙ ap (λ b. standing_after b s.standing) ec)

@@ -1,0 +1,114 @@
+-- What a session has given and written, and the commands and the text of all bytes.
+use Rattle.std.proofs.Common.{◌≡◌, ◌≢◌, ℕ, ◌+◌, ◌<◌, ◌≤◌, List, [], ◌∷◌, ◌++◌, length, sym, ap, ◌∙◌, subst, arith, refl, Option, Some, None}
+use Rattle.std.specs.Prelude.{slice_get}
+use Rattle.std.proofs.lemmas.List.{append_assoc, append-nil}
+use Rattle.std.proofs.lemmas.Option.{slice_get_past}
+use Rattle.kds_defs.specs.declared.command.Command.{Command}
+use Rattle.kds_session.specs.declared.state.Standing.{Standing}
+use Rattle.kds_session.specs.declared.state.Standing.TheVariants.{Live, Closed, Refused}
+use Rattle.kds_session.specs.declared.state.Waiting.{Waiting}
+use Rattle.kds_session.specs.declared.state.Waiting.TheVariants.{Nothing, Answer, LastAnswer}
+use Rattle.kds_session.specs.Messages.{Message, Ending, closed, refused, Falls, IsUnfinished}
+use Rattle.kds_session.specs.Text.{Answers, commands, responses, end_text, IsHttp}
+use Rattle.kds_session.specs.States.{SessionState}
+use Rattle.kds_session.specs.Standing.{Stage, going, over, stage_of, stage_text, Leads, Awaits, StandsFor, IsQuiet}
+use Rattle.kds_session.specs.Next.{IsNext}
+use Rattle.kds_session.proofs.Readings.{goes_ending}
+use Rattle.kds_session.proofs.Responses.{responses-front, responses-enough, commands-append}
+
+-- the law that bytes have one reading
+abbrev pub OneReading : Type 0
+OneReading = (before : ℕ) (bytes : List ℕ) (ms ns : List Message) (ending other : Ending) → Falls before bytes ms ending → Falls before bytes ns other → (ms ≡ ns) × (ending ≡ other)
+
+-- ---- all that was fed, where the session is quiet
+
+-- how the bytes that were fed end
+ending_of : (stage : Stage) (fed : List ℕ) (done : List Message) (left : ℕ) (unread : List ℕ) → Leads stage fed done left unread → (stage ≡ going → IsUnfinished unread) → (ending : Ending) × (stage_text stage ≡ end_text ending) × Falls 0 fed done ending
+ending_of going fed done left unread g u = let e = goes_ending fed done left unread g (u refl) in (e.0, sym e.1, e.2)
+ending_of (over ending) fed done left unread g u = (ending, refl, subst (λ (z : List ℕ). Falls 0 z done ending) (append-nil fed) (g []))
+
+live_by : (d : Standing) (w : Waiting) → stage_of d w ≡ going → d ≡ Live
+live_by Live w e = refl
+live_by Closed w e = absurd (cc e)
+live_by (Refused status) w e = absurd (cc e)
+
+pub quiet_text : (s : SessionState) (fed : List ℕ) (given : List Command) (told : Answers) (sent : List ℕ) → StandsFor s fed given told sent → IsQuiet s → IsHttp fed given told (sent ++ s.output)
+quiet_text s fed given told sent st quiet =
+    let e = ending_of (stage_of s.standing s.waiting) fed st.done s.left s.unread st.leads (λ g. quiet.0 (live_by s.standing s.waiting g)) in record {
+      messages = st.done;
+      ending = e.0;
+      falls = e.2;
+      commands_are = sym st.given_is;
+      one_each = subst (λ (w : Waiting). Awaits w st.done told) quiet.1 st.awaited ∙ ap length (sym st.given_is);
+      text_is = st.written ∙ ap (λ z. responses 0 st.done told ++ z) e.1;
+    }
+
+-- ---- all that is fed, at any moment
+
+-- the messages that are done are the first of all
+done_first : OneReading → (stage : Stage) (fed : List ℕ) (done : List Message) (left : ℕ) (unread more : List ℕ) (all : List Message) (ending : Ending) → Leads stage fed done left unread → Falls 0 (fed ++ more) all ending
+    → (ms : List Message) × (all ≡ done ++ ms)
+done_first one going fed done left unread more all ending g f = let b = g.back more all ending f in (b.0, b.1)
+done_first one (over e) fed done left unread more all ending g f = let same = one 0 (fed ++ more) all done ending e f (g more) in ([], same.0 ∙ sym (append-nil done))
+
+-- the commands that were given are the first of all
+first_commands : OneReading → (s : SessionState) (fed : List ℕ) (given : List Command) (told : Answers) (sent : List ℕ) → StandsFor s fed given told sent
+    → (more : List ℕ) (all : List Message) (ending : Ending) → Falls 0 (fed ++ more) all ending → (coming : List Command) × (commands all ≡ given ++ coming)
+first_commands one s fed given told sent st more all ending f =
+    let d = done_first one (stage_of s.standing s.waiting) fed st.done s.left s.unread more all ending st.leads f in
+    (commands d.0, ap commands d.1 ∙ commands-append st.done d.0 ∙ ap (λ z. z ++ commands d.0) (sym st.given_is))
+
+-- the responses so far are a front of all
+front_more : (done ms all : List Message) (ending : Ending) (told later : Answers) → all ≡ done ++ ms
+    → (rest : List ℕ) × (responses 0 all (told ++ later) ++ end_text ending ≡ (responses 0 done told ++ []) ++ rest)
+front_more done ms all ending told later e =
+    let r = responses-front 0 done ms told later in (
+      r.0 ++ end_text ending,
+      ap (λ (z : List Message). responses 0 z (told ++ later) ++ end_text ending) e
+          ∙ ap (λ z. z ++ end_text ending) r.1
+          ∙ append_assoc (responses 0 done told) r.0 (end_text ending)
+          ∙ ap (λ z. z ++ (r.0 ++ end_text ending)) (sym (append-nil (responses 0 done told))),
+    )
+
+first_text : OneReading → (d : Standing) (w : Waiting) (fed : List ℕ) (done : List Message) (left : ℕ) (unread more : List ℕ) (all : List Message) (ending : Ending) (told later : Answers)
+    → (w ≢ Nothing → d ≡ Live) → Awaits w done told → Leads (stage_of d w) fed done left unread → Falls 0 (fed ++ more) all ending
+    → (rest : List ℕ) × (responses 0 all (told ++ later) ++ end_text ending ≡ (responses 0 done told ++ stage_text (stage_of d w)) ++ rest)
+first_text one Live Nothing fed done left unread more all ending told later live a g f = let b = g.back more all ending f in front_more done b.0 all ending told later b.1
+first_text one Live Answer fed done left unread more all ending told later live a g f = let b = g.back more all ending f in front_more done b.0 all ending told later b.1
+first_text one Live LastAnswer fed done left unread more all ending told later live a g f =
+    let same = one 0 (fed ++ more) all done ending closed f (g more) in front_more done [] all ending told later (same.0 ∙ sym (append-nil done))
+first_text one Closed w fed done left unread more all ending told later live a g f =
+    let same = one 0 (fed ++ more) all done ending closed f (g more) in front_more done [] all ending told later (same.0 ∙ sym (append-nil done))
+first_text one (Refused s) Nothing fed done left unread more all ending told later live a g f =
+    let same = one 0 (fed ++ more) all done ending (refused s) f (g more) in (
+      [],
+      ap (λ (z : List Message). responses 0 z (told ++ later) ++ end_text ending) same.0
+          ∙ ap (λ (z : Ending). responses 0 done (told ++ later) ++ end_text z) same.1
+          ∙ ap (λ z. z ++ end_text (refused s)) (responses-enough 0 done told later a)
+          ∙ sym (append-nil _),
+    )
+first_text one (Refused s) Answer fed done left unread more all ending told later live a g f = absurd (cc (live (λ e. cc e)))
+first_text one (Refused s) LastAnswer fed done left unread more all ending told later live a g f = absurd (cc (live (λ e. cc e)))
+
+pub first_parts : OneReading → (s : SessionState) (fed : List ℕ) (given : List Command) (told : Answers) (sent : List ℕ) → StandsFor s fed given told sent
+    → (more : List ℕ) (all : List Message) (ending : Ending) → Falls 0 (fed ++ more) all ending → (later : Answers)
+    → ((coming : List Command) × (commands all ≡ given ++ coming)) × ((rest : List ℕ) × (responses 0 all (told ++ later) ++ end_text ending ≡ (sent ++ s.output) ++ rest))
+first_parts one s fed given told sent st more all ending f later =
+    let t = first_text one s.standing s.waiting fed st.done s.left s.unread more all ending told later st.live st.awaited st.leads f in
+    (first_commands one s fed given told sent st more all ending f, (t.0, t.1 ∙ ap (λ z. z ++ t.0) (sym st.written)))
+
+-- ---- the next command
+
+get_seam : (xs : List Command) (y : Command) (ys : List Command) → slice_get ((xs ++ y ∷ []) ++ ys) (length xs) ≡ Some y
+get_seam [] y ys = refl
+get_seam (x ∷ xs) y ys = get_seam xs y ys
+
+pub next_is : OneReading → (o : Option Command) (new : SessionState) (fed : List ℕ) (given : List Command) (told : Answers) (sent : List ℕ) → IsNext o new fed given told sent
+    → (ms : List Message) (ending : Ending) → Falls 0 fed ms ending → o ≡ slice_get (commands ms) (length given)
+next_is one None new fed given told sent n ms ending f =
+    let h = quiet_text new fed given told sent n.0 n.1 in
+    let same = one 0 fed ms h.messages ending h.ending f h.falls in
+    sym (ap (λ z. slice_get z (length given)) (ap commands same.0 ∙ h.commands_are) ∙ slice_get_past given (length given) (omega arith))
+next_is one (Some what) new fed given told sent n ms ending f =
+    let p = first_commands one new fed (given ++ what ∷ []) told sent n.0 [] ms ending (subst (λ (z : List ℕ). Falls 0 z ms ending) (sym (append-nil fed)) f) in
+    sym (ap (λ z. slice_get z (length given)) p.1 ∙ get_seam given what p.0)

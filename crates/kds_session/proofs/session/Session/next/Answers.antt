@@ -1,0 +1,21 @@
+use Rattle.std.proofs.Common.{◌∙◌, sym, None}
+use Rattle.kds_session.specs.Steps.{IsFree}
+use Rattle.kds_session.proofs.Stands.{next_by}
+use Rattle.kds_session.proofs.Texts.{next_is}
+use Rattle.kds_session.proofs.session.Session.next.Goals as goal
+
+pub returns-then-not-is_live-clause-exact : goal.returns-then-not-is_live-clause-exact
+returns-then-not-is_live-clause-exact c = λ fed given told sent st.
+    next_is c.one_reading.ensures None c.args.self.now fed given told sent
+    (st, (λ live. absurd (cc (sym c.if-not-is_live.true ∙ c.is_live.ensures.1 live)), c.requires))
+
+pub returns-clause-given : goal.returns-clause-given
+returns-clause-given c =
+    let free : IsFree c.args.self.now = record { live = c.is_live.ensures.0 c.if-not-is_live.false; free = c.requires } in
+    next_by c.args.self.now _ c.as_slice.result.now c.new-reading.result c.to_command.new.self c.in_ok-what.what c.self.view_is c.as_slice.ensures c.new-reading.ensures free c.in_ok-what.ensures.given c.commit.new.self c.in_ok-commit.ensures.ok
+
+pub returns-clause-exact : goal.returns-clause-exact
+returns-clause-exact c = λ fed given told sent st.
+    let free : IsFree c.args.self.now = record { live = c.is_live.ensures.0 c.if-not-is_live.false; free = c.requires } in
+    next_is c.one_reading.ensures c.in_ok-what.what c.commit.new.self fed given told sent
+    (next_by c.args.self.now _ c.as_slice.result.now c.new-reading.result c.to_command.new.self c.in_ok-what.what c.self.view_is c.as_slice.ensures c.new-reading.ensures free c.in_ok-what.ensures.given c.commit.new.self c.in_ok-commit.ensures.ok fed given told sent st)

@@ -1,0 +1,82 @@
+-- What a session stands for.
+use Rattle.std.specs.Prelude.{◌≡◌, ◌≢◌, ℕ, ◌+◌, ◌<◌, ◌⊎◌, List, [], ◌∷◌, ◌++◌, length, Bool, true, false, Ok}
+use Rattle.kds_defs.specs.declared.command.Command.{Command}
+use Rattle.kds_session.specs.declared.limits.TheConstants.{REQUESTS}
+use Rattle.kds_session.specs.declared.state.Standing.{Standing}
+use Rattle.kds_session.specs.declared.state.Standing.TheVariants.{Live, Closed, Refused}
+use Rattle.kds_session.specs.declared.state.Waiting.{Waiting}
+use Rattle.kds_session.specs.declared.state.Waiting.TheVariants.{Nothing, Answer, LastAnswer}
+use Rattle.kds_session.specs.Messages.{Message, IsUnfinished, Ending, closed, refused, Falls, closes}
+use Rattle.kds_session.specs.Text.{Answers, asked_by, commands, responses, end_text}
+use Rattle.kds_session.specs.States.{SessionState}
+
+-- How far a connection is: it goes on, or it has ended so, whatever follows.
+pub data Stage : Type 0 where
+  going : Stage
+  over : Ending → Stage
+
+-- after the command whose answer is the last one there are no messages
+abbrev pub stage_of : Standing → Waiting → Stage
+stage_of Live Nothing = going
+stage_of Live Answer = going
+stage_of Live LastAnswer = over closed
+stage_of Closed waiting = over closed
+stage_of (Refused status) waiting = over (refused status)
+
+-- The last of these messages is a command that has no answer yet, and this says whether the connection closes
+-- after it.
+pub record IsAwaited (close : Bool) (done : List Message) (told : Answers) : Type 0 where
+  pub before : List Message
+  pub last : Message
+  pub what : Command
+  pub done_is : done ≡ before ++ last ∷ []
+  pub asks : asked_by last ≡ Ok what
+  pub told_before : length told ≡ length (commands before)
+  pub close_is : closes (length before + 1) last.head ≡ close
+
+-- which of the commands have their answers
+abbrev pub Awaits : Waiting → List Message → Answers → Type 0
+Awaits Nothing done told = length told ≡ length (commands done)
+Awaits Answer done told = IsAwaited false done told
+Awaits LastAnswer done told = IsAwaited true done told
+
+-- These bytes were fed, and their first messages are done. Whatever follows, the messages of all bytes are those that
+-- are done, and then those of the unread bytes and what follows.
+pub record GoesOn (fed : List ℕ) (done : List Message) (left : ℕ) (unread : List ℕ) : Type 0 where
+  pub count : length done + left ≡ REQUESTS
+  pub some_left : 0 < left
+  pub onward : (more : List ℕ) (ms : List Message) (ending : Ending) → Falls (length done) (unread ++ more) ms ending → Falls 0 (fed ++ more) (done ++ ms) ending
+  pub back : (more : List ℕ) (all : List Message) (ending : Ending) → Falls 0 (fed ++ more) all ending → (ms : List Message) × (all ≡ done ++ ms) × Falls (length done) (unread ++ more) ms ending
+
+-- how the bytes fall into messages
+abbrev pub Leads : Stage → List ℕ → List Message → ℕ → List ℕ → Type 0
+Leads going fed done left unread = GoesOn fed done left unread
+Leads (over ending) fed done left unread = (more : List ℕ) → Falls 0 (fed ++ more) done ending
+
+-- what was written at the end
+abbrev pub stage_text : Stage → List ℕ
+stage_text going = []
+stage_text (over ending) = end_text ending
+
+-- A session that was fed these bytes, gave these commands, was told these answers to them, and of whose output these
+-- bytes were sent.
+pub record StandsFor (s : SessionState) (fed : List ℕ) (given : List Command) (told : Answers) (sent : List ℕ) : Type 0 where
+  pub done : List Message
+  pub given_is : given ≡ commands done
+  pub awaited : Awaits s.waiting done told
+  pub live : s.waiting ≢ Nothing → s.standing ≡ Live
+  pub leads : Leads (stage_of s.standing s.waiting) fed done s.left s.unread
+  pub written : sent ++ s.output ≡ responses 0 done told ++ stage_text (stage_of s.standing s.waiting)
+
+-- no command waits, and no whole message stands in the unread bytes, or the session isn't live
+abbrev pub IsQuiet : SessionState → Type 0
+IsQuiet s = (s.standing ≡ Live → IsUnfinished s.unread) × (s.waiting ≡ Nothing)
+
+-- No bytes of an unfinished message are left: none at all, or no message comes any more.
+abbrev pub HasNoneLeft : Stage → List ℕ → Type 0
+HasNoneLeft going unread = unread ≡ []
+HasNoneLeft (over ending) unread = Unit {0}
+
+-- the session is at the boundary of two messages, or past the last one
+abbrev pub IsAtBoundary : SessionState → Type 0
+IsAtBoundary s = HasNoneLeft (stage_of s.standing s.waiting) s.unread

@@ -1,0 +1,18 @@
+//! One connection over HTTP/1.x, without its input and output: bytes are fed in pieces, the commands of their requests
+//! come out, answers go in, and the bytes of the responses come out (RFC 9112).
+#![tactic(auto)]
+
+mod front;
+mod laws;
+pub mod limits;
+mod queue;
+mod reading;
+mod request;
+mod session;
+mod state;
+#[cfg(test)]
+mod tests;
+
+pub use laws::{first_part, one_reading, whole_text};
+pub use session::Session;
+pub use state::Standing;

@@ -1,0 +1,198 @@
+//! How a session reads on to the next command.
+ghost use Rattle.std.specs.Prelude.{◌≡◌, ◌<◌, ◌≤◌, ◌^◌, ◌++◌, ◌||◌, [], ℕ, List, drop, length, take, nat_le, true, false, IfOk, IfSome, IsUtf8, OnOk};
+ghost use Rattle.kds_defs.specs.declared.command.Command.{Command};
+ghost use Rattle.kds_defs.specs.Lawful.{IsLawfulCommand};
+ghost use Rattle.kds_head.specs.Response.{is_refusal, response_text};
+ghost use Rattle.kds_reply.specs.Replies.{fault_reply};
+ghost use Rattle.kds_session.specs.Messages.{IsWhole};
+ghost use Rattle.kds_session.specs.Text.{Answers, answered};
+ghost use Rattle.kds_session.specs.Standing.{StandsFor};
+
+use crate::front::{Front, front_of};
+use crate::request::request;
+use crate::state::{Standing, Waiting, waiting_for};
+use kds_base::{Memory, Octets};
+use kds_defs::Command;
+use kds_head::{
+    Head, decided_stays, found_within_limits, no_bytes_need_more, one_finding, response,
+};
+use kds_json::Fault;
+use kds_reply::fault;
+use std::alloc::Global;
+
+/// What was read and answered so far on the way to the next command. The session takes it over at the end, in one
+/// step, so that it is as before where memory runs out on the way.
+#[derive(Drop)]
+pub struct Reading {
+    /// How many of the unread bytes were read.
+    pub read: usize,
+    /// How many requests may still come.
+    pub left: u32,
+    /// The responses to requests that have a fault, and to a head that is refused.
+    pub answers: Octets,
+    pub standing: Standing,
+    pub waiting: Waiting,
+}
+
+/// What a step of a reading came to.
+#[derive(Drop)]
+pub enum Step {
+    /// Nothing more can be read now.
+    Stop,
+    /// A request that has a fault was answered, and the connection goes on.
+    Answered,
+    Command(Command),
+}
+
+/// The bytes that are still unread.
+fn after(bytes: &[u8], read: usize) -> &[u8]
+    requires { read ≤ length bytes.now }
+    ensures { result.now ≡ drop read bytes.now }
+{
+    let (_, rest) = bytes.split_at(read);
+    rest
+}
+
+/// The body of the message at the front.
+fn body_of<'a>(unread: &'a [u8], head: &Head) -> &'a [u8]
+    requires { IsWhole unread.now head.now }
+    ensures { result.now ≡ take head.now.body (drop head.now.length unread.now) }
+{
+    let (_, after) = unread.split_at(head.length);
+    let (body, _) = after.split_at(head.body as usize);
+    body
+}
+
+/// Adds the response to a request that has a fault.
+fn put_fault(alloc: Global, problem: &Fault, close: bool, to: &mut Octets) -> Result<(), Memory>
+    requires { IsUtf8 problem.now.member }
+    ensures { OnOk result (to.new ≡ to.old ++ answered (fault_reply problem.now) close) }
+{
+    let (status, text) = fault(alloc, problem)?;
+    response(alloc, status, text.as_slice(), true, close, to)
+}
+
+impl Reading {
+    ghost use Rattle.std.specs.Prelude.{◌+◌, ◌-◌};
+    ghost use Rattle.kds_session.specs.Next.{IsNext, IsWaiting};
+    ghost use Rattle.kds_session.specs.Steps.{read_state, IsFree, IsAfter, IsPlainly};
+
+    /// Nothing was read, on a live connection on which so many requests may still come.
+    pub fn new(alloc: Global, left: u32) -> Reading
+        ensures { result ≡ record { read = 0; left = left; answers = []; standing = Standing.Live; waiting = Waiting.Nothing } }
+    {
+        Reading {
+            read: 0,
+            left,
+            answers: Octets::new(alloc),
+            standing: Standing::Live,
+            waiting: Waiting::Nothing,
+        }
+    }
+
+    /// Whether the connection closes after the message of this head.
+    fn closes(&self, head: &Head) -> bool
+        ensures { result ≡ (head.now.close || nat_le self.now.left 1) }
+    {
+        head.close || self.left <= 1
+    }
+
+    /// Goes past a message of so many bytes.
+    fn pass(&mut self, size: usize)
+        requires { self.old.read + size < 2 ^ 64 }
+        ensures { self.new ≡ record self.old { read = self.old.read + size; left = self.old.left - 1 } }
+    {
+        self.read += size;
+        self.left = self.left.saturating_sub(1);
+    }
+
+    /// The connection is refused.
+    fn refuse(&mut self, alloc: Global, status: u16) -> Result<(), Memory>
+        requires { is_refusal status ≡ true }
+        ensures { OnOk result (self.new ≡ record self.old { answers = self.old.answers ++ response_text status [] false true; standing = Standing.Refused status }) }
+    {
+        response(
+            alloc,
+            status,
+            b"".as_slice(),
+            false,
+            true,
+            &mut self.answers,
+        )?;
+        self.standing = Standing::Refused(status);
+        Ok(())
+    }
+
+    /// Takes the message of this head, at the front of what is unread.
+    fn message(&mut self, alloc: Global, bytes: &[u8], head: &Head) -> Result<Step, Memory>
+        requires room { self.old.read ≤ length bytes.now }
+        requires whole { IsWhole (drop self.old.read bytes.now) head.now }
+        requires free { IsFree (read_state bytes.now self.old) }
+        ensures after { IfOk result (λ step. (fed : List ℕ) (given : List Command) (told : Answers) (sent : List ℕ)
+            → StandsFor (read_state bytes.now self.old) fed given told sent → IsAfter step (read_state bytes.now self.new) fed given told sent) }
+        ensures plain { IfOk result (λ step. IsPlainly step (read_state bytes.now self.old) (read_state bytes.now self.new)) }
+        ensures room { OnOk result (self.new.read ≤ length bytes.now) }
+    {
+        one_finding();
+        decided_stays();
+        found_within_limits();
+        no_bytes_need_more();
+        let close = self.closes(head);
+        match request(alloc, head, body_of(after(bytes, self.read), head))? {
+            Ok(what) => {
+                self.pass(head.length + head.body as usize);
+                self.waiting = waiting_for(close);
+                Ok(Step::Command(what))
+            }
+            Err(problem) => {
+                put_fault(alloc, &problem, close, &mut self.answers)?;
+                self.pass(head.length + head.body as usize);
+                if close {
+                    self.standing = Standing::Closed;
+                    Ok(Step::Stop)
+                } else {
+                    Ok(Step::Answered)
+                }
+            }
+        }
+    }
+
+    /// Takes what stands at the front of what is unread.
+    fn step(&mut self, alloc: Global, bytes: &[u8]) -> Result<Step, Memory>
+        requires room { self.old.read ≤ length bytes.now }
+        requires free { IsFree (read_state bytes.now self.old) }
+        ensures after { IfOk result (λ step. (fed : List ℕ) (given : List Command) (told : Answers) (sent : List ℕ)
+            → StandsFor (read_state bytes.now self.old) fed given told sent → IsAfter step (read_state bytes.now self.new) fed given told sent) }
+        ensures plain { IfOk result (λ step. IsPlainly step (read_state bytes.now self.old) (read_state bytes.now self.new)) }
+        ensures room { OnOk result (self.new.read ≤ length bytes.now) }
+    {
+        decided_stays();
+        match front_of(alloc, after(bytes, self.read))? {
+            Front::Unfinished => Ok(Step::Stop),
+            Front::Refused(status) => {
+                self.refuse(alloc, status)?;
+                Ok(Step::Stop)
+            }
+            Front::Whole(head) => self.message(alloc, bytes, &head),
+        }
+    }
+
+    /// Reads on to the next command, over requests that have faults, until nothing more can be read.
+    pub fn to_command(&mut self, alloc: Global, bytes: &[u8]) -> Result<Option<Command>, Memory>
+        requires room { self.old.read ≤ length bytes.now }
+        requires free { IsFree (read_state bytes.now self.old) }
+        ensures given { IfOk result (λ o. (fed : List ℕ) (given : List Command) (told : Answers) (sent : List ℕ)
+            → StandsFor (read_state bytes.now self.old) fed given told sent → IsNext o (read_state bytes.now self.new) fed given told sent) }
+        ensures waits { IfOk result (IsWaiting self.new.waiting) }
+        ensures lawful { IfOk result (λ o. IfSome o IsLawfulCommand) }
+        ensures room { OnOk result (self.new.read ≤ length bytes.now) }
+    {
+        loop {
+            match self.step(alloc, bytes)? {
+                Step::Stop => return Ok(None),
+                Step::Answered => {}
+                Step::Command(what) => return Ok(Some(what)),
+            }
+        }
+    }
+}
