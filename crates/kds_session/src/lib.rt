@@ -10,8 +10,6 @@ mod reading;
 mod request;
 mod session;
 mod state;
-#[cfg(test)]
-mod tests;
 
 pub use laws::{first_part, one_reading, whole_text};
 pub use session::Session;
