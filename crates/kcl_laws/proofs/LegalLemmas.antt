@@ -1,18 +1,22 @@
 -- The journal of a history is legal.
-use Rattle.std.proofs.Common.{◌≡◌, ℕ, ◌≤◌, Bool, true, false, List, [], ◌∷◌, Some, refl, sym, ap, subst, ◌∙◌, arith}
-use Rattle.std.specs.Prelude.{not, cond, if◌then◌else◌}
-use Rattle.std.specs.List.{find, filter}
+use Rattle.std.proofs.Common.{◌≡◌, ℕ, suc, ◌+◌, ◌-◌, ◌≤◌, Bool, true, false, List, [], ◌∷◌, length, Option, Some, None, refl, sym, ap, subst, ◌∙◌, arith}
+use Rattle.std.specs.Prelude.{◌==◌, not, nat_lt, cond, if◌then◌else◌}
+use Rattle.std.specs.List.{AllByRecursion, find, filter}
+use Rattle.std.proofs.lemmas.Bool.Decides.{nat_tests}
 use Rattle.kds_defs.specs.declared.command.Command.{Command}
 use Rattle.kds_defs.specs.declared.command.Command.TheVariants as command
+use Rattle.kds_defs.specs.declared.command.NewItem.{NewItem}
 use Rattle.kds_defs.specs.declared.command.Turn.{Turn}
+use Rattle.kds_defs.specs.declared.entry.Entry.TheVariants as entry
 use Rattle.kds_defs.specs.declared.reply.Refusal.{Refusal}
 use Rattle.kds_defs.specs.declared.reply.Refusal.TheVariants as refusal
 use Rattle.kds_defs.specs.declared.reply.Reply.{Reply}
-use Rattle.kds_defs.specs.Decision.{Decision, Refused, Accepted, refuse◌if◌else◌}
+use Rattle.kds_defs.specs.declared.reply.Reply.TheVariants as replies
+use Rattle.kds_defs.specs.Decision.{Decision, Refused, Accepted, refuse◌if◌else◌, with◌or◌then◌}
 use Rattle.kds_defs.specs.Histories.{decide, decision, lines_of, journal, clock}
 use Rattle.kds_defs.specs.Journal.{Line, Journal, with_lines}
-use Rattle.kds_defs.specs.Lawful.{IsLawfulCommand, IsHistory}
-use Rattle.kds_defs.specs.Legal.{told, in_stream, IsLegal, IsInRange, last_clock}
+use Rattle.kds_defs.specs.Lawful.{IsLawfulCommand, IsHistory, IsItem}
+use Rattle.kds_defs.specs.Legal.{told, in_stream, IsGood, IsLegal, IsInRange, last_clock}
 use Rattle.kds_defs.specs.Streams.{is_live, stream_named}
 use Rattle.kds_defs.proofs.Decisions.{passes, found, same_lines}
 
@@ -65,10 +69,43 @@ accepted_legal log c by (command.Create name count) lines reply lawful h legal o
     let b = passes _ _ _ _ reply a.1 in
     let d = passes _ _ _ _ reply b.1 in
     adds_one log _ lines reply _ d.1 h lawful.1 legal order
+accepted_legal log c by (command.Shards name after limit) lines reply lawful h legal order =
+    let f = found _ _ _ _ reply h in
+    adds_none log lines reply _ c f.2 legal order
+accepted_legal log c by (command.More page limit) lines reply lawful h legal order =
+    let a = passes _ _ _ _ reply h in
+    let b = passes _ _ _ _ reply a.1 in
+    adds_none log lines reply _ c b.1 legal order
+accepted_legal log c by (command.GetIterator name sh from) lines reply lawful h legal order =
+    let f = found _ _ _ _ reply h in
+    let a = passes _ _ _ _ reply f.2 in
+    let g = found _ _ _ _ reply a.1 in
+    let b = passes _ _ _ _ reply g.2 in
+    adds_none log lines reply _ c b.1 legal order
+accepted_legal log c by (command.Records iter limit) lines reply lawful h legal order =
+    let a = passes _ _ _ _ reply h in
+    let b = passes _ _ _ _ reply a.1 in
+    let d = passes _ _ _ _ reply b.1 in
+    adds_none log lines reply _ c d.1 legal order
 accepted_legal log c by (command.Put name item) lines reply lawful h legal order =
     let f = found _ _ _ _ reply h in
     let a = passes _ _ _ _ reply f.2 in
     adds_one log _ lines reply _ a.1 (in_live log f.0 _ (live_named log name f.0 f.1) ∙ f.2) lawful.1.hash legal order
+accepted_legal log c by (command.Split name sh at) lines reply lawful h legal order =
+    let f = found _ _ _ _ reply h in
+    let a = passes _ _ _ _ reply f.2 in
+    let b = passes _ _ _ _ reply a.1 in
+    let d = passes _ _ _ _ reply b.1 in
+    let e = passes _ _ _ _ reply d.1 in
+    let g = passes _ _ _ _ reply e.1 in
+    adds_one log _ lines reply _ g.1 (in_live log f.0 _ (live_named log name f.0 f.1) ∙ f.2) tt legal order
+accepted_legal log c by (command.Merge name sh other) lines reply lawful h legal order =
+    let f = found _ _ _ _ reply h in
+    let a = passes _ _ _ _ reply f.2 in
+    let b = passes _ _ _ _ reply a.1 in
+    let d = passes _ _ _ _ reply b.1 in
+    let e = passes _ _ _ _ reply d.1 in
+    adds_one log _ lines reply _ e.1 (in_live log f.0 _ (live_named log name f.0 f.1) ∙ f.2) tt legal order
 
 -- the lines of a decision
 decided_legal : (d : Decision) (log : Journal) (c by : ℕ) (what : Command) → decide log c by what ≡ d → IsLawfulCommand what → IsLegal log → last_clock log ≤ c → Adds log (lines_of d) c

@@ -1,10 +1,11 @@
--- The shards of a stream are numbered from 0 in their order, and a put stands in the home of its hash.
+-- The shards of a stream are numbered from 0 in their order, and the parents of each are among them.
 use Rattle.std.proofs.Common.{◌≡◌, ℕ, suc, ◌+◌, ◌-◌, ◌^◌, ◌<◌, ◌≤◌, Bool, true, false, List, [], ◌∷◌, Some, refl, sym, ap, subst, ◌∙◌, arith}
-use Rattle.std.specs.Prelude.{◌==◌, ◌||◌, cond, slice_get, if◌then◌else◌}
+use Rattle.std.specs.Prelude.{◌==◌, ◌||◌, not, cond, slice_get, if◌then◌else◌}
 use Rattle.std.specs.List.{filter}
 use Rattle.std.proofs.lemmas.Bool.Decides.{nat_tests}
-use Rattle.kds_defs.proofs.Numbers.{AreNumbered, numbered-first}
-use Rattle.kds_base.specs.Span.{Span, covers, Covers}
+use Rattle.kds_defs.specs.Tiled.{AreNumbered, open_times, count_if}
+use Rattle.kds_defs.proofs.Numbers.{numbered-first, numbered-closed, numbered-append, length-closed}
+use Rattle.kds_base.specs.Span.{Span, covers, Covers, uniform}
 use Rattle.kds_defs.specs.declared.entry.Entry.{Entry}
 use Rattle.kds_defs.specs.declared.entry.Entry.TheVariants as entry
 use Rattle.kds_defs.specs.declared.reply.Reply.{Reply}
@@ -13,11 +14,10 @@ use Rattle.kds_defs.specs.Journal.{Line, Journal}
 use Rattle.kds_defs.specs.Legal.{told, IsLegal, IsInRange}
 use Rattle.kds_defs.specs.Records.{next_number}
 use Rattle.kds_defs.specs.Safe.{IsHome, ArePlaced, IsPlaced}
-use Rattle.kds_defs.specs.Shards.{ShardState, is_open, shards, shards_after, uniform, home, home_among}
+use Rattle.kds_defs.specs.Shards.{ShardState, Closing, is_open, shards, shards_after, with_closed, home, home_among}
 use Rattle.kds_defs.specs.Streams.{is_live, is_live_after, was_made, was_made_after}
 use Rattle.kds_defs.proofs.Decisions.{passes, holds_so, same_line}
 use Rattle.kcl_laws.proofs.PartitionLemmas.{tiled}
-use Rattle.kds_defs.proofs.Tiles.{open_times, count_if}
 
 numbered_choice : (b : Bool) (xs ys : List ShardState) → AreNumbered 0 xs → AreNumbered 0 ys → AreNumbered 0 (if b then xs else ys)
 numbered_choice true xs ys h g = h
@@ -25,6 +25,16 @@ numbered_choice false xs ys h g = g
 
 numbered_after : (log : Journal) (line : Line) (e : Entry) (s start : ℕ) (xs : List ShardState) → AreNumbered 0 xs → AreNumbered 0 (shards_after line e s start xs)
 numbered_after log line (entry.Made stream name count) s start xs h = numbered_choice (stream == s) _ _ (numbered-first 0 start (uniform count)) h
+numbered_after log line (entry.Split stream sh at number low high) s start xs h =
+    let closing : Closing = record { number = number; clock = line.clock } in
+    let len = length-closed sh closing xs in
+    numbered_choice (stream == s) _ _
+    (numbered-append 0 _ _ (numbered-closed 0 sh closing xs h) (omega (arith, len), (omega (arith, len), tt))) h
+numbered_after log line (entry.Merged stream sh other number child) s start xs h =
+    let closing : Closing = record { number = number; clock = line.clock } in
+    let len = length-closed other closing (with_closed sh closing xs) ∙ length-closed sh closing xs in
+    numbered_choice (stream == s) _ _
+    (numbered-append 0 _ _ (numbered-closed 0 other closing _ (numbered-closed 0 sh closing xs h)) (omega (arith, len), tt)) h
 numbered_after log line _ s start xs h = h
 
 pub numbered : (log : Journal) (s : ℕ) → AreNumbered 0 (shards log s)
@@ -95,6 +105,12 @@ same_put_shard s s' sh sh' n n' h h' b b' e = cc
 same_put_number : (s s' sh sh' n n' h h' b b' : ℕ) → entry.Put s sh n h b ≡ entry.Put s' sh' n' h' b' → n ≡ n'
 same_put_number s s' sh sh' n n' h h' b b' e = cc
 
+same_split_number : (s s' sh sh' at at' n n' l l' h h' : ℕ) → entry.Split s sh at n l h ≡ entry.Split s' sh' at' n' l' h' → n ≡ n'
+same_split_number s s' sh sh' at at' n n' l l' h h' e = cc
+
+same_merged_number : (s s' sh sh' o o' n n' c c' : ℕ) → entry.Merged s sh o n c ≡ entry.Merged s' sh' o' n' c' → n ≡ n'
+same_merged_number s s' sh sh' o o' n n' c c' e = cc
+
 pub entry_of : (line line' : Line) (e : Entry) (reply reply' : Reply) → line'.what ≡ e → Accepted (line ∷ []) reply ≡ Accepted (line' ∷ []) reply' → line.what ≡ e
 entry_of line line' e reply reply' is h = ap (λ (l : Line). l.what) (same_line line line' reply reply' h) ∙ is
 
@@ -107,6 +123,21 @@ placed log line (entry.Put s sh number hash bytes) reply legal range is h =
       subst (IsHome log s hash) (same_put_shard _ _ _ _ _ _ _ _ _ _ same) (home_is log legal s hash made range),
       sym (same_put_number _ _ _ _ _ _ _ _ _ _ same),
     )
+placed log line (entry.Split s sh at number low high) reply legal range is h =
+    let a = passes _ _ _ _ reply h in
+    let b = passes _ _ _ _ reply a.1 in
+    let d = passes _ _ _ _ reply b.1 in
+    let e = passes _ _ _ _ reply d.1 in
+    let f = passes _ _ _ _ reply e.1 in
+    let g = passes _ _ _ _ reply f.1 in
+    sym (same_split_number _ _ _ _ _ _ _ _ _ _ _ _ (entry_of _ line _ _ reply is g.1))
+placed log line (entry.Merged s sh other number child) reply legal range is h =
+    let a = passes _ _ _ _ reply h in
+    let b = passes _ _ _ _ reply a.1 in
+    let d = passes _ _ _ _ reply b.1 in
+    let e = passes _ _ _ _ reply d.1 in
+    let f = passes _ _ _ _ reply e.1 in
+    sym (same_merged_number _ _ _ _ _ _ _ _ _ _ (entry_of _ line _ _ reply is f.1))
 placed log line _ reply legal range is h = tt
 
 pub all_placed : (log : Journal) → IsLegal log → ArePlaced log

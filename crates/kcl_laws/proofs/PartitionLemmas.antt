@@ -1,6 +1,7 @@
 -- The open shards of each stream partition the keys.
-use Rattle.std.proofs.Common.{◌≡◌, ℕ, Bool, true, false, List, [], ◌∷◌, refl, ◌∙◌, arith}
-use Rattle.std.specs.Prelude.{◌==◌, ◌||◌, if◌then◌else◌}
+use Rattle.std.proofs.Common.{◌≡◌, ℕ, Bool, true, false, List, [], ◌∷◌, ◌++◌, Option, Some, None, refl, subst, ◌∙◌, arith}
+use Rattle.std.specs.Prelude.{◌==◌, ◌&&◌, ◌||◌, slice_get, if◌then◌else◌}
+use Rattle.std.proofs.lemmas.Bool.Decides.{nat_tests}
 use Rattle.kds_defs.specs.declared.entry.Entry.{Entry}
 use Rattle.kds_defs.specs.declared.entry.Entry.TheVariants as entry
 use Rattle.kds_defs.specs.declared.reply.Reply.{Reply}
@@ -9,9 +10,32 @@ use Rattle.kds_defs.specs.Journal.{Line, Journal}
 use Rattle.kds_defs.specs.Legal.{told, IsLegal, IsInRange}
 use Rattle.kds_defs.specs.Records.{next_number}
 use Rattle.kds_defs.specs.Safe.{HasPartitions}
-use Rattle.kds_defs.specs.Shards.{ShardState, shards, shards_after}
+use Rattle.kds_base.specs.Span.{is_inside, are_adjacent, lower_part, upper_part, joined}
+use Rattle.kds_defs.specs.Shards.{ShardState, Closing, shards, shards_after, new_shard, with_closed, range_of, shard_at}
+use Rattle.kds_defs.specs.StreamCommands.{is_open_at}
 use Rattle.kds_defs.specs.Streams.{was_made, was_made_after}
-use Rattle.kds_defs.proofs.Tiles.{IsTiled, same_times, tiled_new}
+use Rattle.kds_defs.specs.Tiled.{IsTiled}
+use Rattle.kds_defs.proofs.Decisions.{passes, holds_so}
+use Rattle.kds_defs.proofs.Tiles.{same_times, tiled_new, tiled_split, tiled_merge}
+
+pub both_hold : (a b : Bool) → (a && b) ≡ true → (a ≡ true) × (b ≡ true)
+both_hold true b h = (refl, h)
+both_hold false b h = absurd cc
+
+pub equal_so : (a b : ℕ) → (a == b) ≡ true → a ≡ b
+equal_so a b h = grind (arith, nat_tests)
+
+-- the same of shards that may not be there
+split_there : (xs : List ShardState) (sh n m at start : ℕ) (closing : Closing) (p q : Option ℕ) (o : Option ShardState) → slice_get xs sh ≡ o → is_open_at o ≡ true → is_inside (range_of o) at ≡ true → IsTiled xs
+    → IsTiled (with_closed sh closing xs ++ (new_shard n (lower_part (range_of o) at) p q start ∷ new_shard m (upper_part (range_of o) at) p q start ∷ []))
+split_there xs sh n m at start closing p q None is open_now inside tiled = absurd cc
+split_there xs sh n m at start closing p q (Some x) is open_now inside tiled = tiled_split xs sh n m at start closing p q x is open_now inside tiled
+
+merge_there : (xs : List ShardState) (sh other n start : ℕ) (closing : Closing) (p q : Option ℕ) (o o' : Option ShardState) → slice_get xs sh ≡ o → slice_get xs other ≡ o' → is_open_at o ≡ true → is_open_at o' ≡ true → are_adjacent (range_of o) (range_of o') ≡ true → IsTiled xs
+    → IsTiled (with_closed other closing (with_closed sh closing xs) ++ (new_shard n (joined (range_of o) (range_of o')) p q start ∷ []))
+merge_there xs sh other n start closing p q None o' is is' open_x open_y touch tiled = absurd cc
+merge_there xs sh other n start closing p q (Some x) None is is' open_x open_y touch tiled = absurd cc
+merge_there xs sh other n start closing p q (Some x) (Some y) is is' open_x open_y touch tiled = tiled_merge xs sh other n start closing p q x y is is' open_x open_y touch tiled
 
 -- one of two lists of shards
 chosen : (b : Bool) (xs ys : List ShardState) → (b ≡ true → IsTiled xs) → (b ≡ false → IsTiled ys) → IsTiled (if b then xs else ys)
@@ -26,7 +50,35 @@ or_else false d h f = h
 tiled_after : (log : Journal) (line : Line) (e : Entry) (reply : Reply) → IsInRange e → told log line e ≡ Accepted (line ∷ []) reply
     → (s start : ℕ) → (was_made log s ≡ true → IsTiled (shards log s)) → was_made_after e s (was_made log s) ≡ true → IsTiled (shards_after line e s start (shards log s))
 tiled_after log line (entry.Made stream name count) reply range h s start before made =
-    chosen (stream == s) _ _ (λ same. tiled_new count start range.0 (omega (arith, range.1))) (λ other. before (or_else (stream == s) _ made other))
+    chosen (stream == s) _ _ (λ same. tiled_new count start range.0 range.1) (λ other. before (or_else (stream == s) _ made other))
+tiled_after log line (entry.Split stream sh at number low high) reply range h s start before made =
+    let a = passes _ _ _ _ reply h in
+    let b = passes _ _ _ _ reply a.1 in
+    let d = passes _ _ _ _ reply b.1 in
+    let e = passes _ _ _ _ reply d.1 in
+    chosen (stream == s) _ _
+    (λ same.
+    let to = equal_so stream s same in
+    split_there (shards log s) sh _ _ at start _ _ _ _ refl
+    (subst (λ k. is_open_at (shard_at log k sh) ≡ true) to (holds_so _ d.0))
+    (subst (λ k. is_inside (range_of (shard_at log k sh)) at ≡ true) to (holds_so _ e.0))
+    (before made))
+    (λ other. before made)
+tiled_after log line (entry.Merged stream sh other number child) reply range h s start before made =
+    let a = passes _ _ _ _ reply h in
+    let b = passes _ _ _ _ reply a.1 in
+    let d = passes _ _ _ _ reply b.1 in
+    let e = passes _ _ _ _ reply d.1 in
+    let opens = both_hold _ _ (holds_so _ d.0) in
+    chosen (stream == s) _ _
+    (λ same.
+    let to = equal_so stream s same in
+    merge_there (shards log s) sh other _ start _ _ _ _ _ refl refl
+    (subst (λ k. is_open_at (shard_at log k sh) ≡ true) to opens.0)
+    (subst (λ k. is_open_at (shard_at log k other) ≡ true) to opens.1)
+    (subst (λ k. are_adjacent (range_of (shard_at log k sh)) (range_of (shard_at log k other)) ≡ true) to (holds_so _ e.0))
+    (before made))
+    (λ other. before made)
 tiled_after log line _ reply range h s start before made = before made
 
 pub tiled : (log : Journal) → IsLegal log → (s : ℕ) → was_made log s ≡ true → IsTiled (shards log s)

@@ -12,7 +12,7 @@ pub fn partition()
     ensures { (h : List Turn) → IsHistory h → HasPartitions (journal h) }
 {}
 
-/// Each put stands in the home of its hash, and the puts of a stream draw 1, 2, 3 and so on.
+/// Each put stands in the home of its hash, and puts, splits and merges of a stream draw 1, 2, 3 and so on.
 pub fn one_home()
     ensures { (h : List Turn) → IsHistory h → ArePlaced (journal h) }
 {}

@@ -1,6 +1,14 @@
-//! The machine over plain lists.
+//! The machine: its streams in a plain list.
 #![tactic(auto)]
 
+mod clocks;
+mod commands;
+mod others;
+mod places;
+mod reads;
+mod serve;
+#[cfg(test)]
+mod tests;
 mod world;
 
 pub use world::World;

@@ -1,38 +1,88 @@
-ghost use Rattle.std.specs.Prelude.{◌≡◌, ◌+◌, ◌<◌, List, [], ◌∷◌, ◌++◌, IfOk, OnOk, OnErr, IsOk, length, max, is_ok, if◌then◌else◌};
-ghost use Rattle.kds_defs.specs.Streams.{same_name};
-ghost use Rattle.kcl_world.specs.Calls.{place_of, create_answer, can_create, put_answer, put_nexts};
+//! The machine.
+ghost use Rattle.std.specs.Prelude.{◌≡◌, ◌∷◌, ◌≤◌, [], List, map, max, IfOk, OnErr};
+ghost use Rattle.kds_defs.specs.Journal.{Journal};
+ghost use Rattle.kds_defs.specs.Lawful.{IsLawfulCommand};
+ghost use Rattle.kcl_world.specs.Clocks.{advanced, retreated, settled};
+ghost use Rattle.kcl_world.specs.Shown.{AreAt, Leads, ShowsAll, world};
+ghost use Rattle.kcl_world.specs.Standing.{StandsFor};
 
-use kds_base::{Memory, Moment, Name, Seq, ShardNo};
-use kds_defs::limits::LIVE_STREAMS;
-use kds_defs::{Answer, Command, Machine, Place, Refusal, Reply, Turn};
+use crate::clocks::{advance_all, retreat_all, settle_all};
+use crate::others::others;
+use crate::serve::serve;
+use kds_base::{Memory, Moment};
+use kds_defs::{Answer, Command, Machine, Turn};
+use kds_stream::Stream;
 use std::alloc::Global;
+use std::marker::Model;
 
-/// The machine, for streams of one shard: the names of the streams and their next sequence numbers, in the
-/// order of their making. No command reads a record, so none is kept.
+/// The machine: its clock, and its streams in the order of their making. At every moment each stream stands at
+/// the machine's clock.
 #[derive(Drop)]
 pub struct World {
     clock: Moment,
-    names: Vec<Name>,
-    nexts: Vec<u64>,
-    ghost as_many: { length nexts.items ≡ length names.items },
+    streams: Vec<Stream>,
 }
 
-fn is_same(a: &Name, b: &Name) -> bool
-    ensures { result ≡ same_name a.now b.now }
-{
-    a.bytes() == b.bytes()
+impl Model for World {
+    ghost use Rattle.kcl_world.specs.Shown.{AreAt, WorldValue};
+
+    ghost Value = { WorldValue };
+
+    ghost view = { λ w. record { clock = w.clock; streams = w.streams.items } };
+
+    ghost invariant = { λ w. AreAt w.clock 1 w.streams.items };
 }
 
-/// The place of a name, if it is there.
-fn find_name(names: &[Name], name: &Name) -> Option<usize>
-    ensures { result ≡ place_of names.now name.now 0 }
-{
-    for (i, x) in names.iter().enumerate() {
-        if is_same(x, name) {
-            return Some(i);
+impl World {
+    /// A machine without streams, which has answered nothing. It takes its memory from `alloc`.
+    pub fn new(alloc: Global) -> World
+        ensures { StandsFor result [] }
+    {
+        others();
+        World {
+            clock: Moment::start(),
+            streams: Vec::new(alloc),
         }
     }
-    None
+
+    /// Raises the clock of the machine and of every stream.
+    fn advance(&mut self, clock: Moment)
+        requires { self.old.clock ≤ clock }
+        ensures value { self.new ≡ world clock (map (advanced clock) self.old.streams) }
+        ensures shows { (log : Journal) → ShowsAll self.old log → ShowsAll self.new log }
+    {
+        advance_all(&mut self.streams, self.clock, clock);
+        self.clock = clock;
+    }
+
+    /// Puts the clock of the machine and of every stream back to what it was before the last advance, if nothing
+    /// has changed since.
+    fn retreat(&mut self, clock: Moment)
+        requires { AreAt clock 1 (map retreated self.old.streams) }
+        ensures { self.new ≡ world clock (map retreated self.old.streams) }
+    {
+        retreat_all(&mut self.streams);
+        self.clock = clock;
+    }
+
+    /// Drops the records that are trimmed; no answer depends on it.
+    fn settle(&mut self)
+        ensures value { self.new ≡ world self.old.clock (map settled self.old.streams) }
+        ensures shows { (log : Journal) → ShowsAll self.old log → ShowsAll self.new log }
+    {
+        settle_all(&mut self.streams);
+    }
+
+    /// Serves a command at the machine's clock.
+    fn serve(&mut self, what: Command) -> Result<Answer, Memory>
+        requires { IsLawfulCommand what }
+        ensures leads { IfOk result (Leads self.old self.new what) }
+        ensures clock { self.new.clock ≡ self.old.clock }
+        ensures kept { OnErr result (self.new ≡ self.old) }
+    {
+        let alloc = *self.streams.allocator();
+        serve(alloc, &mut self.streams, self.clock, what)
+    }
 }
 
 /// The later of two moments.
@@ -42,97 +92,23 @@ fn later(a: Moment, b: Moment) -> Moment
     if a < b { b } else { a }
 }
 
-impl World {
-    ghost use Rattle.kcl_world.specs.Standing.{StandsFor};
-
-    /// A machine with no stream, which stands for the empty history.
-    pub fn new(alloc: Global) -> World
-        ensures { StandsFor result [] }
-    {
-        World {
-            clock: Moment::start(),
-            names: Vec::new(alloc),
-            nexts: Vec::new(alloc),
-        }
-    }
-
-    /// Adds a stream, whose next number is 1.
-    fn add(&mut self, name: Name) -> Result<(), Memory>
-        ensures names { self.new.names.items ≡ (if is_ok result then self.old.names.items ++ name ∷ [] else self.old.names.items) }
-        ensures nexts { self.new.nexts.items ≡ (if is_ok result then self.old.nexts.items ++ 1 ∷ [] else self.old.nexts.items) }
-        ensures clock { self.new.clock ≡ self.old.clock }
-    {
-        match self.nexts.push(1) {
-            Ok(()) => {}
-            Err(_) => return Err(Memory),
-        }
-        match self.names.push(name) {
-            Ok(()) => Ok(()),
-            Err(_) => {
-                let _ = self.nexts.pop();
-                Err(Memory)
-            }
-        }
-    }
-
-    /// CreateStream with one shard (Kinesis API Reference, CreateStream).
-    fn create(&mut self, name: Name) -> Result<Answer, Memory>
-        ensures answer { IfOk result (λ a. a ≡ create_answer self.old.names.items name) }
-        ensures names { OnOk result (self.new.names.items ≡ (if can_create self.old.names.items name then self.old.names.items ++ name ∷ [] else self.old.names.items)) }
-        ensures nexts { OnOk result (self.new.nexts.items ≡ (if can_create self.old.names.items name then self.old.nexts.items ++ 1 ∷ [] else self.old.nexts.items)) }
-        ensures kept_names { OnErr result (self.new.names.items ≡ self.old.names.items) }
-        ensures kept_nexts { OnErr result (self.new.nexts.items ≡ self.old.nexts.items) }
-        ensures clock { self.new.clock ≡ self.old.clock }
-    {
-        if find_name(self.names.as_slice(), &name).is_some() {
-            return Ok(Err(Refusal::StreamThere));
-        }
-        if self.names.len() as u64 >= LIVE_STREAMS {
-            return Ok(Err(Refusal::Full));
-        }
-        self.add(name)?;
-        Ok(Ok(Reply::Done))
-    }
-
-    /// PutRecord (Kinesis API Reference, PutRecord).
-    fn put(&mut self, name: &Name) -> Answer
-        ensures answer { result ≡ put_answer (place_of self.old.names.items name.now 0) self.old.nexts.items }
-        ensures names { self.new.names.items ≡ self.old.names.items }
-        ensures nexts { self.new.nexts.items ≡ put_nexts (place_of self.old.names.items name.now 0) self.old.nexts.items }
-        ensures clock { self.new.clock ≡ self.old.clock }
-    {
-        match find_name(self.names.as_slice(), name) {
-            None => Err(Refusal::NoStream),
-            Some(i) => {
-                let next = self.nexts[i];
-                if next == u64::MAX {
-                    return Err(Refusal::Spent);
-                }
-                self.nexts[i] = next + 1;
-                Ok(Reply::Put(Place {
-                    shard: ShardNo(0),
-                    seq: Seq(next),
-                }))
-            }
-        }
-    }
-}
-
 impl Machine for World {
     ghost use Rattle.kcl_world.specs.Standing.{StandsFor};
 
-    ghost stands_for = { λ w h. StandsFor w h };
+    ghost stands_for = { StandsFor };
 
     fn apply(&mut self, turn: Turn) -> Result<Answer, Memory> {
-        let clock = later(self.clock, turn.at);
-        let answer = match turn.what {
-            Command::Create { name, .. } => self.create(name)?,
-            Command::Put { name, item } => {
-                drop(item);
-                self.put(&name)
+        let before = self.clock;
+        self.advance(later(before, turn.at));
+        match self.serve(turn.what) {
+            Ok(answer) => {
+                self.settle();
+                Ok(answer)
             }
-        };
-        self.clock = clock;
-        Ok(answer)
+            Err(memory) => {
+                self.retreat(before);
+                Err(memory)
+            }
+        }
     }
 }

@@ -20,12 +20,12 @@ own = numerals_by_value IsDigits (search rules)
 pub plain_digits : (text : List ℕ) → is_plain text ≡ true → IsDigits text × (0 < length text)
 plain_digits text p = (grind (arith, common_steps), grind (arith, common_steps))
 
-parsed : {E : Type 0} (bs : List ℕ) (r : Result ℕ E) → is_plain bs ≡ true → OkIff r ((0 < length bs) × (digits_value 10 bs < 2 ^ 64)) (digits_value 10 bs) → result_ok r ≡ number_of 64 bs
-parsed bs (Ok x) p h = grind (arith, common_steps, h.0.1, h.1)
-parsed bs (Err e) p h = let n = plain_digits bs p in grind (arith, common_steps, n.1)
+parsed : {E : Type 0} (bits : ℕ) (bs : List ℕ) (r : Result ℕ E) → is_plain bs ≡ true → OkIff r ((0 < length bs) × (digits_value 10 bs < 2 ^ bits)) (digits_value 10 bs) → result_ok r ≡ number_of bits bs
+parsed bits bs (Ok x) p h = grind (arith, common_steps, h.0.1, h.1)
+parsed bits bs (Err e) p h = let n = plain_digits bs p in grind (arith, common_steps, n.1)
 
-pub number_from_parse : {E : Type 0} (bs : List ℕ) (r : Result ℕ E) → is_plain bs ≡ true → ParsesUnsigned 64 10 bs r → result_ok r ≡ number_of 64 bs
-number_from_parse bs r p h = parsed bs r p (parse_digits own 64 bs r h (plain_digits bs p).0)
+pub number_from_parse : {E : Type 0} (bits : ℕ) (bs : List ℕ) (r : Result ℕ E) → is_plain bs ≡ true → ParsesUnsigned bits 10 bs r → result_ok r ≡ number_of bits bs
+number_from_parse bits bs r p h = parsed bits bs r p (parse_digits own bits bs r h (plain_digits bs p).0)
 
 pub plain_ascii : (text : List ℕ) → is_plain text ≡ true → IsAscii text
 plain_ascii text p = IsAscii-from_digits text (own.to text (plain_digits text p).0)

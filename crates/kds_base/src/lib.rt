@@ -9,12 +9,14 @@ mod name;
 mod number_text;
 mod numbers;
 mod octets;
+mod range;
 
 pub use hash::hash_of;
 pub use items::Items;
 pub use memory::Memory;
 pub use moment::Moment;
 pub use name::Name;
-pub use number_text::{read_u64, write_u64};
+pub use number_text::{read_u64, read_u128, write_u64, write_u128};
 pub use numbers::{Seq, ShardNo, StreamNo};
 pub use octets::Octets;
+pub use range::Range;

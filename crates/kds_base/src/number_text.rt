@@ -40,3 +40,55 @@ pub fn write_u64(alloc: Global, n: u64, to: &mut Octets) -> Result<(), Memory>
     let text = format!(in alloc; "{n}")?;
     to.extend(text.as_bytes())
 }
+
+/// The number of a text of decimal digits with no needless zero in front, below 2 ^ 128.
+pub fn read_u128(text: &[u8]) -> Option<u128>
+    ensures { result ≡ number_of 128 text.now }
+{
+    if !plain(text) {
+        return None;
+    }
+    match str::from_utf8(text) {
+        Ok(digits) => digits.parse::<u128>().ok(),
+        Err(_) => None,
+    }
+}
+
+/// Adds the one text of the number.
+pub fn write_u128(alloc: Global, n: u128, to: &mut Octets) -> Result<(), Memory>
+    ensures ok { OnOk result (to.new ≡ to.old ++ decimal n) }
+    ensures err { OnErr result (to.new ≡ to.old) }
+{
+    let text = format!(in alloc; "{n}")?;
+    to.extend(text.as_bytes())
+}
+
+#[cfg(test)]
+mod tests {
+    use super::*;
+    use std::test::Fail;
+
+    #[test]
+    fn texts_of_numbers(rt: HostRuntime) -> Result<(), Fail> {
+        let texts: [(&str, Option<u128>); 7] = [
+            ("", None),
+            ("0", Some(0)),
+            ("00", None),
+            ("01", None),
+            ("+1", None),
+            ("340282366920938463463374607431768211455", Some(u128::MAX)),
+            ("340282366920938463463374607431768211456", None),
+        ];
+        for (text, number) in texts {
+            assert_eq!(rt; read_u128(text.as_bytes()), number, "of {text}");
+            if let Some(n) = number {
+                let mut written = Octets::new(rt.alloc());
+                write_u128(rt.alloc(), n, &mut written)?;
+                assert_eq!(rt; written.as_slice(), text.as_bytes(), "of {text}");
+            }
+        }
+        assert_eq!(rt; read_u64(b"18446744073709551615"), Some(u64::MAX));
+        assert_eq!(rt; read_u64(b"18446744073709551616"), None);
+        Ok(())
+    }
+}

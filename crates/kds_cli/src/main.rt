@@ -5,6 +5,8 @@ mod errors;
 mod feed;
 mod lines;
 mod replay;
+#[cfg(test)]
+mod rows;
 mod runs;
 mod schedule;
 #[cfg(test)]

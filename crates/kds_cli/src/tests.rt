@@ -19,14 +19,14 @@ const USAGE: &str =
     "usage: kds replay [--journal] | answer | audit | serve PORT MEMBERS | drill NUMBER WORKERS RECORDS\n";
 
 /// The room of the sinks.
-const ROOM: usize = 4096;
+const ROOM: usize = 16384;
 
 /// What the program left behind.
 #[derive(Drop)]
-struct Left {
-    code: u8,
-    out: MemSink,
-    err: MemSink,
+pub struct Left {
+    pub code: u8,
+    pub out: MemSink,
+    pub err: MemSink,
 }
 
 fn numbers(alloc: Global, numbers: &[u64]) -> Result<Items<u64>, Fail> {
@@ -38,7 +38,7 @@ fn numbers(alloc: Global, numbers: &[u64]) -> Result<Items<u64>, Fail> {
 }
 
 /// Runs the program by these words on these bytes. The reads and the writes of these numbers fail.
-fn run_on(
+pub fn run_on(
     rt: &HostRuntime,
     words: &[&str],
     bytes: &[u8],

@@ -1,12 +1,14 @@
 -- Worked examples, computed from the definitions.
-use Rattle.std.specs.Prelude.{ℕ, ◌≡◌, List, [], ◌∷◌, Ok, Err}
+use Rattle.std.specs.Prelude.{ℕ, ◌≡◌, List, [], ◌∷◌, Some, None, Ok, Err}
 use Rattle.std.proofs.Common.{refl}
 use Rattle.kds_defs.specs.declared.command.Command.{Command}
 use Rattle.kds_defs.specs.declared.command.Command.TheVariants as command
 use Rattle.kds_defs.specs.declared.command.NewItem.{NewItem}
+use Rattle.kds_defs.specs.declared.command.Start.TheVariants as start
 use Rattle.kds_defs.specs.declared.command.Turn.{Turn}
 use Rattle.kds_defs.specs.declared.reply.Refusal.TheVariants as refusal
 use Rattle.kds_defs.specs.declared.reply.Reply.TheVariants as reply
+use Rattle.kds_defs.specs.declared.reply.Stored.{Stored}
 use Rattle.kds_defs.specs.Decision.{refuse◌if◌else◌, with◌or◌then◌}
 use Rattle.kds_defs.specs.Histories.{answers}
 
@@ -40,3 +42,84 @@ first_path : answers [] (
     ∷ Ok (reply.Put (record { shard = 0; seq = 1 })) ∷ [])
 unfolding refuse◌if◌else◌ with◌or◌then◌ turn name other item
 first_path = refl
+
+kept : ℕ → ℕ → Stored
+kept seq arrival = record { seq = seq; arrival = arrival; key = 97 ∷ []; payload = 104 ∷ 105 ∷ [] }
+
+-- a split
+split : answers [] (
+    turn 4000 (command.Create name 1)
+    ∷ turn 4000 (command.Split name 0 170141183460469231731687303715884105728)
+    ∷ turn 4000 (command.Put name (record { key = 97 ∷ []; hash = 0x900150983cd24fb0d6963f7d28e17f72; payload = [] }))
+    ∷ turn 4000 (command.Split name 2 170141183460469231731687303715884105728)
+    ∷ turn 4000 (command.Split name 0 170141183460469231731687303715884105728) ∷ [])
+    ≡ (Ok reply.Done ∷ Ok reply.Done ∷ Ok (reply.Put (record { shard = 2; seq = 2 }))
+    ∷ Err refusal.BadSplit ∷ Err refusal.ShardClosed ∷ [])
+unfolding refuse◌if◌else◌ with◌or◌then◌ turn name
+split = refl
+
+-- merges
+merge : answers [] (
+    turn 4000 (command.Create name 3)
+    ∷ turn 4000 (command.Merge name 0 2)
+    ∷ turn 4000 (command.Merge name 1 1)
+    ∷ turn 4000 (command.Merge name 1 0)
+    ∷ turn 4000 (command.Merge name 0 2) ∷ [])
+    ≡ (Ok reply.Done ∷ Err refusal.NotAdjacent ∷ Err refusal.NotAdjacent ∷ Ok reply.Done ∷ Err refusal.ShardClosed ∷ [])
+unfolding refuse◌if◌else◌ with◌or◌then◌ turn name
+merge = refl
+
+-- a record is shown until its age is the retention
+retention : answers [] (
+    turn 1000 (command.Create name 1)
+    ∷ turn 1000 (command.Put name item)
+    ∷ turn 86400999 (command.Records (record { stream = 1; shard = 0; position = 0; issued = 86400999 }) 10)
+    ∷ turn 86401000 (command.Records (record { stream = 1; shard = 0; position = 0; issued = 86400999 }) 10)
+    ∷ turn 1000 (command.Records (record { stream = 1; shard = 0; position = 0; issued = 86400999 }) 10) ∷ [])
+    ≡ (Ok reply.Done ∷ Ok (reply.Put (record { shard = 0; seq = 1 }))
+    ∷ Ok (reply.Records (kept 1 1000 ∷ []) (Some (record { stream = 1; shard = 0; position = 2; issued = 86400999 })) 0 [])
+    ∷ Ok (reply.Records [] (Some (record { stream = 1; shard = 0; position = 0; issued = 86401000 })) 0 [])
+    ∷ Ok (reply.Records [] (Some (record { stream = 1; shard = 0; position = 0; issued = 86401000 })) 0 []) ∷ [])
+unfolding refuse◌if◌else◌ with◌or◌then◌ turn name item kept
+retention = refl
+
+-- the end of a closed shard, whose children are told, and a listing in pages
+ended : answers [] (
+    turn 4000 (command.Create name 1)
+    ∷ turn 4000 (command.Split name 0 170141183460469231731687303715884105728)
+    ∷ turn 4000 (command.Records (record { stream = 1; shard = 0; position = 0; issued = 4000 }) 10)
+    ∷ turn 4000 (command.Records (record { stream = 1; shard = 1; position = 0; issued = 4000 }) 10)
+    ∷ turn 4000 (command.Shards name None 1)
+    ∷ turn 304001 (command.More (record { stream = 1; after = 0; issued = 4000 }) 1) ∷ [])
+    ≡ (Ok reply.Done ∷ Ok reply.Done
+    ∷ Ok (reply.Records [] None 0 (
+    record { no = 1; range = record { start = 0; end = 170141183460469231731687303715884105727 }; parent = Some 0; adjacent = None; start = 2; end = None }
+    ∷ record { no = 2; range = record { start = 170141183460469231731687303715884105728; end = 340282366920938463463374607431768211455 }; parent = Some 0; adjacent = None; start = 2; end = None } ∷ []))
+    ∷ Ok (reply.Records [] (Some (record { stream = 1; shard = 1; position = 0; issued = 4000 })) 0 [])
+    ∷ Ok (reply.Shards (record { no = 0; range = record { start = 0; end = 340282366920938463463374607431768211455 }; parent = None; adjacent = None; start = 1; end = Some 1 } ∷ []) (Some (record { stream = 1; after = 0; issued = 4000 })))
+    ∷ Err refusal.PageExpired ∷ [])
+unfolding refuse◌if◌else◌ with◌or◌then◌ turn name
+ended = refl
+
+-- where reading begins
+starts : answers [] (
+    turn 1000 (command.Create name 1)
+    ∷ turn 1000 (command.Put name item)
+    ∷ turn 1001 (command.Put name item)
+    ∷ turn 2000 (command.GetIterator name 0 start.TrimHorizon)
+    ∷ turn 2000 (command.GetIterator name 0 start.Latest)
+    ∷ turn 2000 (command.GetIterator name 0 (start.At 3))
+    ∷ turn 2000 (command.GetIterator name 0 (start.At 4))
+    ∷ turn 2000 (command.GetIterator name 0 (start.After 2))
+    ∷ turn 2000 (command.GetIterator name 0 (start.After 3))
+    ∷ turn 2000 (command.Records (record { stream = 1; shard = 0; position = 0; issued = 2000 }) 1) ∷ [])
+    ≡ (Ok reply.Done ∷ Ok (reply.Put (record { shard = 0; seq = 1 })) ∷ Ok (reply.Put (record { shard = 0; seq = 2 }))
+    ∷ Ok (reply.Iterator (record { stream = 1; shard = 0; position = 0; issued = 2000 }))
+    ∷ Ok (reply.Iterator (record { stream = 1; shard = 0; position = 3; issued = 2000 }))
+    ∷ Ok (reply.Iterator (record { stream = 1; shard = 0; position = 3; issued = 2000 }))
+    ∷ Err refusal.BadNumber
+    ∷ Ok (reply.Iterator (record { stream = 1; shard = 0; position = 3; issued = 2000 }))
+    ∷ Err refusal.BadNumber
+    ∷ Ok (reply.Records (kept 1 1000 ∷ []) (Some (record { stream = 1; shard = 0; position = 2; issued = 2000 })) 999 []) ∷ [])
+unfolding refuse◌if◌else◌ with◌or◌then◌ turn name item kept
+starts = refl

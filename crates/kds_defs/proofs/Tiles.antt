@@ -1,32 +1,19 @@
--- The ranges of the open shards partition the keys: those of a new stream do.
-use Rattle.std.proofs.Common.{◌≡◌, ℕ, zero, suc, ◌+◌, ◌-◌, ◌*◌, ◌/◌, ◌%◌, ◌^◌, ◌<◌, ◌≤◌, Bool, true, false, List, [], ◌∷◌, map, refl, ◌∙◌, arith}
-use Rattle.std.specs.Prelude.{nat_le, cond, if◌then◌else◌}
+-- The ranges of the open shards partition the keys: what a split, a merge and a new stream do to them.
+use Rattle.std.proofs.Common.{◌≡◌, ℕ, zero, suc, ◌+◌, ◌-◌, ◌*◌, ◌/◌, ◌%◌, ◌^◌, ◌<◌, ◌≤◌, Bool, true, false, List, [], ◌∷◌, ◌++◌, map, Option, Some, refl, sym, ap, ◌∙◌, arith}
+use Rattle.std.specs.Prelude.{nat_le, slice_get, cond, if◌then◌else◌}
 use Rattle.std.specs.List.{AllByRecursion, filter}
 use Rattle.std.proofs.lemmas.Bool.Decides.{nat_tests}
-use Rattle.kds_base.specs.Span.{Span, covers}
+use Rattle.kds_base.specs.Span.{Span, is_inside, lower_part, upper_part, follows, are_adjacent, joined, last_key, uniform_from, uniform}
 use Rattle.kds_defs.specs.Safe.{times_covered}
-use Rattle.kds_defs.specs.Shards.{ShardState, is_open, first_shards, uniform_from, uniform, last_key}
+use Rattle.kds_defs.specs.Shards.{ShardState, Closing, is_open, new_shard, first_shards, with_closed}
+use Rattle.kds_defs.specs.Tiled.{one, count_if, open_times, IsOrdered, IsTiled}
 
--- 1 where the range contains the key
-abbrev pub one : Span → ℕ → ℕ
-one r k = if covers r k then 1 else 0
+some_same : {A : Type 0} (x y : A) → Some x ≡ Some y → x ≡ y
+some_same x y h = cc
 
--- how many of the open ones contain the key
-abbrev pub count_if : Bool → ℕ → ℕ
-count_if true n = n
-count_if false n = 0
-
-abbrev pub open_times : List ShardState → ℕ → ℕ
-open_times [] k = 0
-open_times (x ∷ xs) k = count_if (is_open x) (one x.range k) + open_times xs k
-
--- the range is not empty
-abbrev pub IsOrdered : ShardState → Type 0
-IsOrdered x = x.range.start ≤ x.range.end
-
-pub record IsTiled (xs : List ShardState) : Type 0 where
-  pub times : (k : ℕ) → k < 2 ^ 128 → open_times xs k ≡ 1
-  pub ordered : AllByRecursion IsOrdered xs
+counted : (b : Bool) (n : ℕ) → b ≡ true → count_if b n ≡ n
+counted true n h = refl
+counted false n h = absurd cc
 
 -- the same count over the ranges of the open ones
 same_times_by : (b : Bool) (x : ShardState) (xs : List ShardState) (k : ℕ) → times_covered (map (λ y. y.range) (filter is_open xs)) k ≡ open_times xs k → times_covered (map (λ y. y.range) (cond b (x ∷ filter is_open xs) (filter is_open xs))) k ≡ count_if b (one x.range k) + open_times xs k
@@ -36,6 +23,102 @@ same_times_by false x xs k h = omega (arith, h)
 pub same_times : (xs : List ShardState) (k : ℕ) → times_covered (map (λ x. x.range) (filter is_open xs)) k ≡ open_times xs k
 same_times [] k = refl
 same_times (x ∷ xs) k = same_times_by (is_open x) x xs k (same_times xs k)
+
+open_times-append : (xs ys : List ShardState) (k : ℕ) → open_times (xs ++ ys) k ≡ open_times xs k + open_times ys k
+open_times-append [] ys k = omega arith
+open_times-append (x ∷ xs) ys k = omega (arith, open_times-append xs ys k)
+
+-- a shard that is closed is counted no longer
+open_times-closed : (xs : List ShardState) (sh : ℕ) (closing : Closing) (x : ShardState) (k : ℕ) → slice_get xs sh ≡ Some x → is_open x ≡ true → open_times (with_closed sh closing xs) k + one x.range k ≡ open_times xs k
+open_times-closed [] sh closing x k is open_now = absurd cc
+open_times-closed (y ∷ ys) zero closing x k is open_now =
+    let e : y ≡ x = cc in
+    omega (arith, counted (is_open y) (one y.range k) (ap is_open e ∙ open_now), ap (λ (z : ShardState). one z.range k) e)
+open_times-closed (y ∷ ys) (suc sh) closing x k is open_now =
+    omega (arith, open_times-closed ys sh closing x k is open_now)
+
+-- a fact about ranges is kept by closing, and by adding at the end
+ordered-closed : (xs : List ShardState) (sh : ℕ) (closing : Closing) → AllByRecursion IsOrdered xs → AllByRecursion IsOrdered (with_closed sh closing xs)
+ordered-closed [] sh closing h = tt
+ordered-closed (y ∷ ys) zero closing h = (h.0, h.1)
+ordered-closed (y ∷ ys) (suc sh) closing h = (h.0, ordered-closed ys sh closing h.1)
+
+ordered-append : (xs ys : List ShardState) → AllByRecursion IsOrdered xs → AllByRecursion IsOrdered ys → AllByRecursion IsOrdered (xs ++ ys)
+ordered-append [] ys h g = g
+ordered-append (x ∷ xs) ys h g = (h.0, ordered-append xs ys h.1 g)
+
+ordered-at : (xs : List ShardState) (sh : ℕ) (x : ShardState) → slice_get xs sh ≡ Some x → AllByRecursion IsOrdered xs → x.range.start ≤ x.range.end
+ordered-at [] sh x is h = absurd cc
+ordered-at (y ∷ ys) zero x is h = let e : y ≡ x = cc in omega (arith, h.0, ap (λ (z : ShardState). z.range.start) e, ap (λ (z : ShardState). z.range.end) e)
+ordered-at (y ∷ ys) (suc sh) x is h = ordered-at ys sh x is h.1
+
+-- another shard stays as it was
+pub other-closed : (xs : List ShardState) (sh other : ℕ) (closing : Closing) → (sh ≡ other → ⊥) → slice_get (with_closed sh closing xs) other ≡ slice_get xs other
+other-closed [] sh other closing differ = refl
+other-closed (y ∷ ys) zero zero closing differ = absurd (differ refl)
+other-closed (y ∷ ys) zero (suc other) closing differ = refl
+other-closed (y ∷ ys) (suc sh) zero closing differ = refl
+other-closed (y ∷ ys) (suc sh) (suc other) closing differ = other-closed ys sh other closing (λ e. differ (ap suc e))
+
+one_split : (r : Span) (at k : ℕ) → is_inside r at ≡ true → one (lower_part r at) k + one (upper_part r at) k ≡ one r k
+one_split r at k h = grind (arith, nat_tests)
+
+one_joined : (a b : Span) (k : ℕ) → a.start ≤ a.end → b.start ≤ b.end → follows a b ≡ true → one (record { start = a.start; end = b.end }) k ≡ one a k + one b k
+one_joined a b k oa ob h = grind (arith, nat_tests)
+
+-- the parts of a split, and a joined range, are not empty
+lower_ordered : (r : Span) (at : ℕ) → is_inside r at ≡ true → r.start ≤ at - 1
+lower_ordered r at h = grind (arith, nat_tests)
+
+upper_ordered : (r : Span) (at : ℕ) → is_inside r at ≡ true → at ≤ r.end
+upper_ordered r at h = grind (arith, nat_tests)
+
+one_join : (a b : Span) (k : ℕ) → a.start ≤ a.end → b.start ≤ b.end → are_adjacent a b ≡ true → one (joined a b) k ≡ one a k + one b k
+one_join a b k oa ob h = grind (arith, nat_tests)
+
+joined_ordered : (a b : Span) → a.start ≤ a.end → b.start ≤ b.end → are_adjacent a b ≡ true → (joined a b).start ≤ (joined a b).end
+joined_ordered a b oa ob h = grind (arith, nat_tests)
+
+-- a range that is not empty does not touch itself
+no_self : (a b : Span) → a.start ≤ a.end → are_adjacent a b ≡ true → a ≡ b → ⊥
+no_self a b oa h e = let s : a.start ≡ b.start = ap (λ (r : Span). r.start) e in let t : a.end ≡ b.end = ap (λ (r : Span). r.end) e in grind (arith, nat_tests)
+
+same_at : (xs : List ShardState) (sh other : ℕ) (x y : ShardState) → slice_get xs sh ≡ Some x → slice_get xs other ≡ Some y → sh ≡ other → x.range ≡ y.range
+same_at xs sh other x y is is' e = let s : Some x ≡ Some y = sym is ∙ ap (slice_get xs) e ∙ is' in ap (λ (z : ShardState). z.range) (some_same x y s)
+
+-- a split
+pub tiled_split : (xs : List ShardState) (sh n m at start : ℕ) (closing : Closing) (p q : Option ℕ) (x : ShardState) → slice_get xs sh ≡ Some x → is_open x ≡ true → is_inside x.range at ≡ true → IsTiled xs
+    → IsTiled (with_closed sh closing xs ++ (new_shard n (lower_part x.range at) p q start ∷ new_shard m (upper_part x.range at) p q start ∷ []))
+tiled_split xs sh n m at start closing p q x is open_now inside tiled = record {
+  times = λ k below. omega (
+    arith,
+    tiled.times k below,
+    one_split x.range at k inside,
+    open_times-closed xs sh closing x k is open_now,
+    open_times-append (with_closed sh closing xs) (new_shard n (lower_part x.range at) p q start ∷ new_shard m (upper_part x.range at) p q start ∷ []) k,
+  );
+  ordered = ordered-append _ _ (ordered-closed xs sh closing tiled.ordered) (lower_ordered x.range at inside, (upper_ordered x.range at inside, tt));
+}
+
+-- a merge of two shards whose ranges touch
+pub tiled_merge : (xs : List ShardState) (sh other n start : ℕ) (closing : Closing) (p q : Option ℕ) (x y : ShardState) → slice_get xs sh ≡ Some x → slice_get xs other ≡ Some y → is_open x ≡ true → is_open y ≡ true → are_adjacent x.range y.range ≡ true → IsTiled xs
+    → IsTiled (with_closed other closing (with_closed sh closing xs) ++ (new_shard n (joined x.range y.range) p q start ∷ []))
+tiled_merge xs sh other n start closing p q x y is is' open_x open_y touch tiled =
+    let ox = ordered-at xs sh x is tiled.ordered in
+    let oy = ordered-at xs other y is' tiled.ordered in
+    let differ : sh ≡ other → ⊥ = λ e. no_self x.range y.range ox touch (same_at xs sh other x y is is' e) in
+    let still = other-closed xs sh other closing differ ∙ is' in
+    record {
+      times = λ k below. omega (
+        arith,
+        tiled.times k below,
+        one_join x.range y.range k ox oy touch,
+        open_times-closed xs sh closing x k is open_x,
+        open_times-closed (with_closed sh closing xs) other closing y k still open_y,
+        open_times-append (with_closed other closing (with_closed sh closing xs)) (new_shard n (joined x.range y.range) p q start ∷ []) k,
+      );
+      ordered = ordered-append _ _ (ordered-closed _ other closing (ordered-closed xs sh closing tiled.ordered)) (joined_ordered x.range y.range ox oy touch, tt);
+    }
 
 -- ---- a new stream
 

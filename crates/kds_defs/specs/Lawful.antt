@@ -7,7 +7,7 @@ use Rattle.kds_defs.specs.declared.command.Command.{Command}
 use Rattle.kds_defs.specs.declared.command.Command.TheVariants as command
 use Rattle.kds_defs.specs.declared.command.NewItem.{NewItem}
 use Rattle.kds_defs.specs.declared.command.Turn.{Turn}
-use Rattle.kds_defs.specs.declared.limits.TheConstants.{LEAST_SHARDS, MOST_SHARDS, KEY_CHARACTERS, RECORD_BYTES}
+use Rattle.kds_defs.specs.declared.limits.TheConstants.{LEAST_SHARDS, MOST_SHARDS, MOST, KEY_CHARACTERS, RECORD_BYTES}
 
 -- a partition key: 1 to 256 characters in UTF-8 (Kinesis API Reference, PutRecord, PartitionKey)
 pub record IsPartitionKey (bytes : List ℕ) : Type 0 where
@@ -29,9 +29,19 @@ pub record IsItem (item : NewItem) : Type 0 where
 abbrev pub IsShardCount : ℕ → Type 0
 IsShardCount count = (LEAST_SHARDS ≤ count) × (count ≤ MOST_SHARDS)
 
+-- how many items a listing or a read may ask for
+abbrev pub IsLimit : ℕ → Type 0
+IsLimit limit = (1 ≤ limit) × (limit ≤ MOST)
+
 abbrev pub IsLawfulCommand : Command → Type 0
 IsLawfulCommand (command.Create name count) = IsName name × IsShardCount count
 IsLawfulCommand (command.Put name item) = IsName name × IsItem item
+IsLawfulCommand (command.GetIterator name sh from) = IsName name
+IsLawfulCommand (command.Records iter limit) = IsLimit limit
+IsLawfulCommand (command.Split name sh at) = IsName name × (at < 2 ^ 128)
+IsLawfulCommand (command.Merge name sh other) = IsName name
+IsLawfulCommand (command.Shards name after limit) = IsName name × IsLimit limit
+IsLawfulCommand (command.More page limit) = IsLimit limit
 
 abbrev pub IsLawful : Turn → Type 0
 IsLawful turn = (turn.at < 2 ^ 62) × IsLawfulCommand turn.what

@@ -8,7 +8,7 @@ use Rattle.kds_defs.specs.declared.reply.Reply.{Reply}
 use Rattle.kds_defs.specs.Decision.{Decision, Accepted, refuse◌if◌else◌}
 use Rattle.kds_defs.specs.Journal.{Line, Journal}
 use Rattle.kds_defs.specs.Lawful.{IsShardCount}
-use Rattle.kds_defs.specs.StreamCommands.{create, put}
+use Rattle.kds_defs.specs.StreamCommands.{create, put, split, merge}
 use Rattle.kds_defs.specs.Streams.{is_live}
 
 -- what follows where the stream of this number is live
@@ -23,11 +23,14 @@ item_of line hash = record { key = line.key; hash = hash; payload = line.payload
 abbrev pub told : Journal → Line → Entry → Decision
 told log line (entry.Made s name count) = create log line.clock line.by name count
 told log line (entry.Put s sh number hash bytes) = in_stream log s (put log line.clock line.by s (item_of line hash))
+told log line (entry.Split s sh at number low high) = in_stream log s (split log line.clock line.by s sh at)
+told log line (entry.Merged s sh other number child) = in_stream log s (merge log line.clock line.by s sh other)
 
 -- the numbers of an entry lie in their ranges
 abbrev pub IsInRange : Entry → Type 0
 IsInRange (entry.Made s name count) = IsShardCount count
 IsInRange (entry.Put s sh number hash bytes) = hash < 2 ^ 128
+IsInRange _ = Unit {0}
 
 -- the clock of the newest line
 abbrev pub last_clock : Journal → ℕ

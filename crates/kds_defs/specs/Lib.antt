@@ -1,10 +1,13 @@
 pub mod Journal
 pub mod Streams
+pub mod Values
 pub mod Records
 pub mod Shards
 pub mod Decision
 pub mod StreamCommands
+pub mod Listings
 pub mod Histories
 pub mod Lawful
 pub mod Legal
 pub mod Safe
+pub mod Tiled

@@ -36,9 +36,11 @@ pub record IsHome (log : Journal) (s k sh : ℕ) : Type 0 where
   pub is_open_now : is_open state ≡ true
   pub contains : Covers state.range k
 
--- a put stands in the home of its hash, and draws the next number
+-- a put stands in the home of its hash, and puts, splits and merges draw the next number
 abbrev pub IsPlaced : Journal → Entry → Type 0
 IsPlaced log (entry.Put s sh number hash bytes) = IsHome log s hash sh × (number ≡ next_number log s)
+IsPlaced log (entry.Split s sh at number low high) = number ≡ next_number log s
+IsPlaced log (entry.Merged s sh other number child) = number ≡ next_number log s
 IsPlaced log _ = Unit {0}
 
 abbrev pub ArePlaced : Journal → Type 0

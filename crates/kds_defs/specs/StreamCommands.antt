@@ -1,5 +1,6 @@
 -- The commands that change streams: their refusals in order, and what they lead to.
-use Rattle.std.specs.Prelude.{ℕ, ◌+◌, ◌-◌, ◌^◌, ◌==◌, ◌||◌, is_some, nat_le, nat_lt, List, [], ◌∷◌, length}
+use Rattle.std.specs.Prelude.{ℕ, ◌+◌, ◌-◌, ◌^◌, Bool, false, ◌==◌, ◌&&◌, ◌||◌, not, is_some, nat_le, nat_lt, if◌then◌else◌, List, [], ◌∷◌, length, Option, Some, None}
+use Rattle.kds_base.specs.Span.{is_inside, are_adjacent}
 use Rattle.kds_defs.specs.declared.command.NewItem.{NewItem}
 use Rattle.kds_defs.specs.declared.entry.Entry.TheVariants as entry
 use Rattle.kds_defs.specs.declared.limits.TheConstants.{LIVE_STREAMS, OPEN_SHARDS}
@@ -9,12 +10,17 @@ use Rattle.kds_defs.specs.declared.reply.Reply.TheVariants as reply
 use Rattle.kds_defs.specs.Decision.{Decision, Accepted, refuse◌if◌else◌}
 use Rattle.kds_defs.specs.Journal.{Line, Journal, plain_line}
 use Rattle.kds_defs.specs.Records.{next_number}
-use Rattle.kds_defs.specs.Shards.{open_count, home}
+use Rattle.kds_defs.specs.Shards.{ShardState, shards, shard_at, range_of, is_open, is_listed, open_count, home}
 use Rattle.kds_defs.specs.Streams.{made_count, live_streams, stream_named}
 
 -- the greatest number of a u64
 abbrev pub last_number : ℕ
 last_number = 2 ^ 64 - 1
+
+-- the shard is open
+abbrev pub is_open_at : Option ShardState → Bool
+is_open_at None = false
+is_open_at (Some x) = is_open x
 
 -- CreateStream
 abbrev pub create : Journal → ℕ → ℕ → List ℕ → ℕ → Decision
@@ -44,3 +50,22 @@ abbrev pub put : Journal → ℕ → ℕ → ℕ → NewItem → Decision
 put log c by s item =
     refuse refusal.Spent if next_number log s == last_number else
     Accepted (put_line log c by s (next_number log s) item ∷ []) (reply.Put (put_place log s (next_number log s) item))
+
+-- SplitShard, in a live stream
+abbrev pub split : Journal → ℕ → ℕ → ℕ → ℕ → ℕ → Decision
+split log c by s sh at =
+    refuse refusal.NoShard if not (is_listed log c s sh) else
+    refuse refusal.ShardClosed if not (is_open_at (shard_at log s sh)) else
+    refuse refusal.BadSplit if not (is_inside (range_of (shard_at log s sh)) at) else
+    refuse refusal.Full if nat_le OPEN_SHARDS (open_count log) else
+    refuse refusal.Spent if nat_lt last_number (length (shards log s) + 1) || next_number log s == last_number else
+    Accepted (plain_line c by (entry.Split s sh at (next_number log s) (length (shards log s)) (length (shards log s) + 1)) ∷ []) reply.Done
+
+-- MergeShards, in a live stream
+abbrev pub merge : Journal → ℕ → ℕ → ℕ → ℕ → ℕ → Decision
+merge log c by s sh other =
+    refuse refusal.NoShard if not (is_listed log c s sh && is_listed log c s other) else
+    refuse refusal.ShardClosed if not (is_open_at (shard_at log s sh) && is_open_at (shard_at log s other)) else
+    refuse refusal.NotAdjacent if not (are_adjacent (range_of (shard_at log s sh)) (range_of (shard_at log s other))) else
+    refuse refusal.Spent if nat_lt last_number (length (shards log s)) || next_number log s == last_number else
+    Accepted (plain_line c by (entry.Merged s sh other (next_number log s) (length (shards log s))) ∷ []) reply.Done

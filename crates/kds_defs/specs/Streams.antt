@@ -1,10 +1,11 @@
--- The streams of a journal: which are live, and their names.
-use Rattle.std.specs.Prelude.{ℕ, zero, suc, ◌+◌, Bool, false, ◌==◌, ◌||◌, if◌then◌else◌, nat_eq, List, [], ◌∷◌, Option}
+-- The streams of a journal: which are live, their names, their retention, and what is trimmed.
+use Rattle.std.specs.Prelude.{ℕ, zero, suc, ◌+◌, ◌-◌, ◌*◌, max, Bool, false, ◌==◌, ◌||◌, not, nat_lt, if◌then◌else◌, nat_eq, List, [], ◌∷◌, Option, Some, None}
 use Rattle.std.specs.List.{filter, find}
 use Rattle.std.specs.Cmp.Lexicographic.{pointwise}
 use Rattle.kds_defs.specs.declared.entry.Entry.{Entry}
 use Rattle.kds_defs.specs.declared.entry.Entry.TheVariants as entry
-use Rattle.kds_defs.specs.Journal.{Journal}
+use Rattle.kds_defs.specs.declared.limits.TheConstants.{FIRST_HOURS, HOUR}
+use Rattle.kds_defs.specs.Journal.{Line, Journal}
 
 -- two names are the same
 abbrev pub same_name : List ℕ → List ℕ → Bool
@@ -48,6 +49,19 @@ abbrev pub name_of : Journal → ℕ → List ℕ
 name_of [] s = []
 name_of (line ∷ log) s = name_of_after line.what s (name_of log s)
 
+-- a stream's retention in hours (Kinesis API Reference, CreateStream: 24 hours)
+abbrev pub hours_after : Entry → ℕ → ℕ → ℕ
+hours_after (entry.Made stream name shards) s before = if stream == s then FIRST_HOURS else before
+hours_after _ s before = before
+
+abbrev pub hours : Journal → ℕ → ℕ
+hours [] s = FIRST_HOURS
+hours (line ∷ log) s = hours_after line.what s (hours log s)
+
+-- and in milliseconds
+abbrev pub retention : Journal → ℕ → ℕ
+retention log s = hours log s * HOUR
+
 -- so many numbers from n on
 abbrev pub numbers_from : ℕ → ℕ → List ℕ
 numbers_from n zero = []
@@ -60,3 +74,38 @@ live_streams log = filter (is_live log) (numbers_from 1 (made_count log))
 -- the live stream of a name
 abbrev pub stream_named : Journal → List ℕ → Option ℕ
 stream_named log name = find (λ s. same_name (name_of log s) name) (live_streams log)
+
+-- ---- trimming (Kinesis API Reference, retention)
+
+-- one above clock less retention, and 0 where that is negative
+abbrev pub floor_at : ℕ → ℕ → ℕ
+floor_at clock retention = clock + 1 - retention
+
+-- what a line adds to the floor of a stream: its clock less the retention after it and, save for the
+-- stream's own first line, less the retention before it
+abbrev pub floor_after : Journal → Line → ℕ → ℕ
+floor_after log line s =
+    if was_made (line ∷ log) s
+    then max (floor_at line.clock (retention (line ∷ log) s)) (if was_made log s then floor_at line.clock (retention log s) else 0)
+    else 0
+
+abbrev pub floor_of_lines : Journal → ℕ → ℕ
+floor_of_lines [] s = 0
+floor_of_lines (line ∷ log) s = max (floor_after log line s) (floor_of_lines log s)
+
+-- one above the stream's cut, and 0 where the cut is negative: an arrival or a closing below it is trimmed
+abbrev pub trim_floor : Journal → ℕ → ℕ → ℕ
+trim_floor log c s = max (floor_at c (retention log s)) (floor_of_lines log s)
+
+-- the cut itself, where it is not negative
+abbrev pub cut : Journal → ℕ → ℕ → Option ℕ
+cut log c s = if trim_floor log c s == 0 then None else Some (trim_floor log c s - 1)
+
+-- one above a cut
+abbrev pub floor_of : Option ℕ → ℕ
+floor_of None = 0
+floor_of (Some moment) = moment + 1
+
+-- what happened at that moment is trimmed: it lies at or below the cut, or the stream is gone
+abbrev pub is_trimmed : Journal → ℕ → ℕ → ℕ → Bool
+is_trimmed log c s moment = not (is_live log s) || nat_lt moment (trim_floor log c s)

@@ -1,7 +1,8 @@
 //! What can be asked of the machine.
 ghost use Rattle.std.specs.Prelude.{◌≡◌, IfOk};
 
-use kds_base::{Memory, Moment, Name, Octets};
+use crate::reply::{Iter, Page};
+use kds_base::{Memory, Moment, Name, Octets, Seq, ShardNo};
 use std::alloc::Global;
 
 /// One event: who acts, when, and what is asked.
@@ -16,9 +17,58 @@ pub struct Turn {
 #[derive(Drop)]
 pub enum Command {
     /// CreateStream: a name, and how many shards.
-    Create { name: Name, shards: u32 },
+    Create {
+        name: Name,
+        shards: u32,
+    },
     /// PutRecord: the stream's name, and the record.
-    Put { name: Name, item: NewItem },
+    Put {
+        name: Name,
+        item: NewItem,
+    },
+    /// GetShardIterator: where reading of a shard begins.
+    GetIterator {
+        name: Name,
+        shard: ShardNo,
+        from: Start,
+    },
+    /// GetRecords: at most so many records at an iterator.
+    Records {
+        iter: Iter,
+        limit: u32,
+    },
+    /// SplitShard: the upper part begins at this hash key.
+    Split {
+        name: Name,
+        shard: ShardNo,
+        at: u128,
+    },
+    /// MergeShards: a shard and the one beside it.
+    Merge {
+        name: Name,
+        shard: ShardNo,
+        other: ShardNo,
+    },
+    /// ListShards: at most so many shards after one.
+    Shards {
+        name: Name,
+        after: Option<ShardNo>,
+        limit: u32,
+    },
+    /// ListShards by a token: where the listing goes on.
+    More {
+        page: Page,
+        limit: u32,
+    },
+}
+
+/// Where an iterator begins (Kinesis API Reference, GetShardIterator, ShardIteratorType).
+#[derive(Clone, Copy, Debug, PartialEq, Eq)]
+pub enum Start {
+    At(Seq),
+    After(Seq),
+    TrimHorizon,
+    Latest,
 }
 
 /// A record as it is put: its partition key in UTF-8, its hash key, its payload.
@@ -62,6 +112,46 @@ impl Command {
                 let item = item.copy(alloc)?;
                 Ok(Command::Put { name, item })
             }
+            Command::GetIterator { name, shard, from } => {
+                let name = name.copy(alloc)?;
+                Ok(Command::GetIterator {
+                    name,
+                    shard: *shard,
+                    from: *from,
+                })
+            }
+            Command::Records { iter, limit } => Ok(Command::Records {
+                iter: *iter,
+                limit: *limit,
+            }),
+            Command::Split { name, shard, at } => {
+                let name = name.copy(alloc)?;
+                Ok(Command::Split {
+                    name,
+                    shard: *shard,
+                    at: *at,
+                })
+            }
+            Command::Merge { name, shard, other } => {
+                let name = name.copy(alloc)?;
+                Ok(Command::Merge {
+                    name,
+                    shard: *shard,
+                    other: *other,
+                })
+            }
+            Command::Shards { name, after, limit } => {
+                let name = name.copy(alloc)?;
+                Ok(Command::Shards {
+                    name,
+                    after: *after,
+                    limit: *limit,
+                })
+            }
+            Command::More { page, limit } => Ok(Command::More {
+                page: *page,
+                limit: *limit,
+            }),
         }
     }
 }

@@ -18,4 +18,21 @@ pub enum Entry {
         hash: u128,
         bytes: u64,
     },
+    /// A shard was split at a key; the split drew this number.
+    Split {
+        stream: StreamNo,
+        shard: ShardNo,
+        at: u128,
+        seq: Seq,
+        low: ShardNo,
+        high: ShardNo,
+    },
+    /// Two shards were merged; the merge drew this number.
+    Merged {
+        stream: StreamNo,
+        shard: ShardNo,
+        other: ShardNo,
+        seq: Seq,
+        child: ShardNo,
+    },
 }

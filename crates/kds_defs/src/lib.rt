@@ -8,7 +8,7 @@ pub mod limits;
 pub mod machine;
 pub mod reply;
 
-pub use command::{Command, NewItem, Turn};
+pub use command::{Command, NewItem, Start, Turn};
 pub use entry::Entry;
 pub use machine::{Answer, Machine};
-pub use reply::{Place, Refusal, Reply};
+pub use reply::{Iter, Page, Place, Refusal, Reply, Shard, Stored};

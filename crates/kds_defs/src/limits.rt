@@ -6,16 +6,33 @@ pub const LIVE_STREAMS: u64 = 64;
 /// How many shards may be open at once, over all streams.
 pub const OPEN_SHARDS: u64 = 500;
 
-/// The least and the greatest number of shards with which a stream is made.
+/// The least number of shards with which a stream is made (Kinesis API Reference, CreateStream, ShardCount).
 pub const LEAST_SHARDS: u32 = 1;
 
-pub const MOST_SHARDS: u32 = 1;
+/// The greatest.
+pub const MOST_SHARDS: u32 = 500;
 
 /// The characters that a partition key may have (Kinesis API Reference, PutRecord, PartitionKey).
 pub const KEY_CHARACTERS: u64 = 256;
 
 /// The payload and key bytes that one record may have (Kinesis API Reference, PutRecord, Data).
 pub const RECORD_BYTES: u64 = 1_048_576;
+
+/// How long an iterator and a listing's token are good, in milliseconds (Kinesis API Reference,
+/// GetShardIterator: 5 minutes).
+pub const TOKEN_LIFE: u64 = 300_000;
+
+/// The retention of a new stream, in hours.
+pub const FIRST_HOURS: u32 = 24;
+
+/// The milliseconds of an hour.
+pub const HOUR: u64 = 3_600_000;
+
+/// The payload bytes that one batch may have (Kinesis API Reference, GetRecords: 10 MB).
+pub const BATCH_BYTES: u64 = 10_485_760;
+
+/// The greatest limit that a listing or a read may ask for.
+pub const MOST: u32 = 10_000;
 
 /// The bytes that a line of a schedule may have before its line feed.
 pub const LINE_BYTES: u64 = 8_388_608;

@@ -1,5 +1,6 @@
 pub mod Digests
+pub mod FaultTexts
+pub mod IdLemmas
 pub mod Lawful
 pub mod Objects
-pub mod Texts
 pub mod TwelveDigits

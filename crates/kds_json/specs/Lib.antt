@@ -1,4 +1,6 @@
 pub mod Ids
 pub mod Reading
 pub mod Member
+pub mod Kinds
+pub mod Operations
 pub mod Asked

@@ -1,14 +1,10 @@
--- The members of a request by kind. A member that is null counts as absent.
-use Rattle.std.specs.Prelude.{ℕ, ◌+◌, List, length, Bool, ◌&&◌, nat_le, if◌then◌else◌, Option, Some, None, option_and_then, Result, Ok, Err, ⊤, chars}
-use Rattle.std.specs.Str.{is_utf8}
-use Rattle.base64.specs.Engines.{standard}
-use Rattle.base64.specs.GeneralPurpose.{decoded_of}
+-- The members of a request: which must be there, which may be, and what is wrong with them. A member that is
+-- null counts as absent.
+use Rattle.std.specs.Prelude.{ℕ, List, Option, Some, None, option_and_then, Result, Ok, Err, ⊤}
 use Rattle.serde_json.specs.Data.{Data, null, boolean, number, string, array, object}
-use Rattle.serde_json.specs.Find.{get, as_str, as_number, as_u64}
-use Rattle.kds_base.specs.Names.{name_of}
-use Rattle.kds_defs.specs.declared.limits.TheConstants.{KEY_CHARACTERS, RECORD_BYTES}
+use Rattle.serde_json.specs.Find.{get, as_str}
 use Rattle.kds_json.specs.declared.problem.Fault.{Fault}
-use Rattle.kds_json.specs.declared.problem.FaultKind.TheVariants.{Missing, Invalid}
+use Rattle.kds_json.specs.declared.problem.FaultKind.TheVariants.{Missing, Invalid, Token}
 use Rattle.kds_json.specs.Reading.{◌>>=◌, fault_of, some_or}
 
 abbrev pub unless_null : Data → Option Data
@@ -35,44 +31,22 @@ absent_of name (Some x) = Err (fault_of Invalid name)
 abbrev pub absent_at : List ℕ → Data → Result ⊤ Fault
 absent_at name d = absent_of name (member_of name d)
 
--- the name of a stream
-unfoldable pub name_at : List ℕ → Data → Result (List ℕ) Fault
-name_at name d = do
+-- a member that must be there, as what it reads
+unfoldable pub required_at : {A : Type 0} → (Data → Option A) → List ℕ → Data → Result A Fault
+required_at reads name d = do
   x ← required name d
-  some_or Invalid name (option_and_then name_of (as_str x))
+  some_or Invalid name (reads x)
 
-abbrev pub within : ℕ → ℕ → ℕ → Option ℕ
-within low high n = if nat_le low n && nat_le n high then Some n else None
+abbrev pub value_or : {A : Type 0} → A → (Data → Option A) → List ℕ → Option Data → Result A Fault
+value_or default reads name None = Ok default
+value_or default reads name (Some x) = some_or Invalid name (reads x)
 
--- a whole number in this range, both ends included
-unfoldable pub number_at : ℕ → ℕ → List ℕ → Data → Result ℕ Fault
-number_at low high name d = do
-  x ← required name d
-  some_or Invalid name (option_and_then (within low high) (option_and_then as_u64 (as_number x)))
+-- a member that may be there, as what it reads, or a default where it is absent
+unfoldable pub optional_at : {A : Type 0} → A → (Data → Option A) → List ℕ → Data → Result A Fault
+optional_at default reads name d = value_or default reads name (member_of name d)
 
--- a partition key: 1 to 256 characters in UTF-8 (Kinesis API Reference, PutRecord, PartitionKey)
-abbrev pub is_partition_key : List ℕ → Bool
-is_partition_key text = is_utf8 text && nat_le 1 (length (chars text)) && nat_le (length (chars text)) KEY_CHARACTERS
-
-abbrev pub key_of : List ℕ → Option (List ℕ)
-key_of text = if is_partition_key text then Some text else None
-
--- a partition key, as its bytes
-unfoldable pub key_at : List ℕ → Data → Result (List ℕ) Fault
-key_at name d = do
-  x ← required name d
-  some_or Invalid name (option_and_then key_of (as_str x))
-
--- the bytes, if they and those of their key are within the limit (Kinesis API Reference, PutRecord, Data)
-abbrev pub fitting : ℕ → List ℕ → Option (List ℕ)
-fitting key_bytes bytes = if nat_le (length bytes + key_bytes) RECORD_BYTES then Some bytes else None
-
--- the bytes of a text in standard base64 with padding (RFC 4648, section 4)
-abbrev pub blob_of : ℕ → List ℕ → Option (List ℕ)
-blob_of key_bytes text = option_and_then (fitting key_bytes) (decoded_of standard text)
-
--- a record's payload, whose key has so many bytes
-unfoldable pub blob_at : ℕ → List ℕ → Data → Result (List ℕ) Fault
-blob_at key_bytes name d = do
-  x ← required name d
-  some_or Invalid name (option_and_then (blob_of key_bytes) (as_str x))
+-- a token, as what its text stands for
+unfoldable pub token_at : {A : Type 0} → (List ℕ → Option A) → List ℕ → Data → Result A Fault
+token_at stands_for name d = do
+  text ← required_at as_str name d
+  some_or Token name (stands_for text)

@@ -2,14 +2,21 @@
 //! (Kinesis API Reference, Actions and Common Errors).
 #![tactic(auto)]
 
+mod defaults;
+#[cfg(test)]
+mod fault_tests;
 mod ids;
 mod member;
-mod operation;
+mod numbers;
 mod problem;
+mod records;
 mod request;
+mod shards;
 #[cfg(test)]
 mod tests;
+mod texts;
+mod tokens;
 
-pub use ids::shard_id;
+pub use ids::{one_id, shard_id};
 pub use problem::{Fault, FaultKind};
 pub use request::{ask, asks_lawfully};

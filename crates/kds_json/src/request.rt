@@ -7,8 +7,9 @@ ghost use Rattle.kds_json.specs.Reading.{Gives};
 ghost use Rattle.kds_json.specs.Asked.{object_of, read_body, asked};
 
 use crate::member::stop_at;
-use crate::operation::{create_stream, put_record};
 use crate::problem::{Fault, FaultKind, Stop};
+use crate::records::{get_records, get_shard_iterator, put_record};
+use crate::shards::{create_stream, list_shards, merge_shards, split_shard};
 use kds_base::Memory;
 use kds_defs::Command;
 use serde_json::Value;
@@ -50,6 +51,16 @@ fn command(alloc: Global, operation: &[u8], body: &[u8]) -> Result<Command, Stop
         create_stream(alloc, &object(alloc, body)?)
     } else if operation == b"PutRecord".as_slice() {
         put_record(alloc, &object(alloc, body)?)
+    } else if operation == b"GetShardIterator".as_slice() {
+        get_shard_iterator(alloc, &object(alloc, body)?)
+    } else if operation == b"GetRecords".as_slice() {
+        get_records(alloc, &object(alloc, body)?)
+    } else if operation == b"SplitShard".as_slice() {
+        split_shard(alloc, &object(alloc, body)?)
+    } else if operation == b"MergeShards".as_slice() {
+        merge_shards(alloc, &object(alloc, body)?)
+    } else if operation == b"ListShards".as_slice() {
+        list_shards(alloc, &object(alloc, body)?)
     } else {
         Err(stop_at(alloc, FaultKind::Unknown, ""))
     }

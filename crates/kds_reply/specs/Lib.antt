@@ -1,2 +1,6 @@
 pub mod Errors
+pub mod Bodies
+pub mod Keys
+pub mod Records
+pub mod Shards
 pub mod Replies

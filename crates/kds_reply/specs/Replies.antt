@@ -1,24 +1,32 @@
--- What is answered over the wire: a status and a body in compact JSON, whose members stand in the order of
--- their bytes.
-use Rattle.std.specs.Prelude.{ℕ, Result, Ok, Err, List, [], codes, decimal}
-use Rattle.serde_json.specs.Data.{Data, string, object, member, no_members}
+-- What is answered over the wire: a status and a body in compact JSON.
+use Rattle.std.specs.Prelude.{ℕ, Result, Ok, Err, List, [], Option, Some, None}
+use Rattle.serde_json.specs.Data.{Data}
 use Rattle.serde_json.specs.Written.{compact_text}
-use Rattle.kds_defs.specs.declared.reply.Place.{Place}
 use Rattle.kds_defs.specs.declared.reply.Reply.{Reply}
-use Rattle.kds_defs.specs.declared.reply.Reply.TheVariants.{Done, Put}
+use Rattle.kds_defs.specs.declared.reply.Reply.TheVariants.{Done, Put, Iterator, Records, Shards}
 use Rattle.kds_defs.specs.declared.reply.Refusal.{Refusal}
-use Rattle.kds_json.specs.Ids.{shard_id}
 use Rattle.kds_json.specs.declared.problem.Fault.{Fault}
+use Rattle.kds_reply.specs.Bodies.{place_data, iterator_data}
 use Rattle.kds_reply.specs.Errors.{refusal_text, fault_text}
+use Rattle.kds_reply.specs.Records.{records_data}
+use Rattle.kds_reply.specs.Shards.{shards_data}
 
--- where a record was put (Kinesis API Reference, PutRecord, Response Elements)
-abbrev pub place_data : Place → Data
-place_data p = object (member (codes "SequenceNumber") (string (decimal p.seq)) (member (codes "ShardId") (string (shard_id p.shard)) no_members))
+-- what a reply tells, if there is anything to tell
+abbrev pub reply_data : Reply → Option Data
+reply_data Done = None
+reply_data (Put p) = Some (place_data p)
+reply_data (Iterator i) = Some (iterator_data i)
+reply_data (Records batch next behind children) = Some (records_data batch next behind children)
+reply_data (Shards shards next) = Some (shards_data shards next)
 
--- the body of a reply, which is empty where there is nothing to tell
+-- as compact JSON, and empty where there is nothing
+abbrev pub body_text : Option Data → List ℕ
+body_text None = []
+body_text (Some d) = compact_text d
+
+-- the body of a reply
 abbrev pub reply_text : Reply → List ℕ
-reply_text Done = []
-reply_text (Put p) = compact_text (place_data p)
+reply_text r = body_text (reply_data r)
 
 -- the status and the body of an answer
 abbrev pub reply_of : Result Reply Refusal → ℕ × List ℕ

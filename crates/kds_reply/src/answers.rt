@@ -1,14 +1,17 @@
-ghost use Rattle.std.specs.Prelude.{◌≡◌, IfOk, false};
+ghost use Rattle.std.specs.Prelude.{◌≡◌, option_map, IfOk, false};
 ghost use Rattle.serde_json.specs.View.{view};
 ghost use Rattle.serde_json.specs.Written.{compact_text, has_float};
-ghost use Rattle.kds_reply.specs.Replies.{place_data, reply_text, reply_of};
+ghost use Rattle.kds_reply.specs.Replies.{reply_data, reply_text, reply_of};
 
 use crate::errors::BAD_REQUEST;
+use crate::places::place_value;
+use crate::records::records_value;
 use crate::refusals::refusal_body;
+use crate::shards::shards_value;
+use crate::tokens::iterator_value;
 use kds_base::{Memory, Octets};
-use kds_defs::{Answer, Place, Reply};
-use kds_json::shard_id;
-use serde_json::{Value, json};
+use kds_defs::{Answer, Reply};
+use serde_json::Value;
 use std::alloc::Global;
 
 /// The status of every reply to an accepted command.
@@ -22,29 +25,34 @@ fn text_of(alloc: Global, value: &Value) -> Result<Octets, Memory>
     Ok(Octets::from_vec(value.to_vec(alloc)?))
 }
 
-/// Where a record was put (Kinesis API Reference, PutRecord, Response Elements).
-fn place_value(alloc: Global, place: &Place) -> Result<Value, Memory>
-    ensures { IfOk result (λ v. view v ≡ place_data place.now) }
+/// What a reply tells, if there is anything to tell.
+fn reply_value(alloc: Global, reply: &Reply) -> Result<Option<Value>, Memory>
+    ensures { IfOk result (λ o. option_map view o ≡ reply_data reply.now) }
 {
-    let number = place.seq.0;
-    let sequence_number = format!(in alloc; "{number}")?;
-    let shard = shard_id(alloc, place.shard)?;
-    Ok(json!(in alloc; {"SequenceNumber": sequence_number.as_str(), "ShardId": shard.as_str()})?)
-}
-
-fn place_body(alloc: Global, place: &Place) -> Result<Octets, Memory>
-    ensures { IfOk result (λ o. o ≡ compact_text (place_data place.now)) }
-{
-    let value = place_value(alloc, place)?;
-    text_of(alloc, &value)
+    match reply {
+        Reply::Done => Ok(None),
+        Reply::Put(place) => Ok(Some(place_value(alloc, place)?)),
+        Reply::Iterator(iter) => Ok(Some(iterator_value(alloc, iter)?)),
+        Reply::Records {
+            batch,
+            next,
+            behind,
+            children,
+        } => {
+            let batch = batch.as_slice();
+            let children = children.as_slice();
+            Ok(Some(records_value(alloc, batch, next, *behind, children)?))
+        }
+        Reply::Shards { shards, next } => Ok(Some(shards_value(alloc, shards.as_slice(), next)?)),
+    }
 }
 
 fn reply_body(alloc: Global, reply: &Reply) -> Result<Octets, Memory>
     ensures { IfOk result (λ o. o ≡ reply_text reply.now) }
 {
-    match reply {
-        Reply::Done => Ok(Octets::new(alloc)),
-        Reply::Put(place) => place_body(alloc, place),
+    match reply_value(alloc, reply)? {
+        Some(value) => Ok(text_of(alloc, &value)?),
+        None => Ok(Octets::new(alloc)),
     }
 }
 

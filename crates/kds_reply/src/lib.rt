@@ -5,9 +5,15 @@
 mod answers;
 mod errors;
 mod faults;
+mod laws;
+mod places;
+mod records;
 mod refusals;
+mod shards;
 #[cfg(test)]
 mod tests;
+mod tokens;
 
 pub use answers::reply;
 pub use faults::fault;
+pub use laws::keys_are_text;

@@ -13,6 +13,13 @@ fn refusal_name(refusal: Refusal) -> &'static str
     match refusal {
         Refusal::NoStream => "ResourceNotFoundException",
         Refusal::StreamThere => "ResourceInUseException",
+        Refusal::NoShard => "ResourceNotFoundException",
+        Refusal::ShardClosed => "InvalidArgumentException",
+        Refusal::NotAdjacent => "InvalidArgumentException",
+        Refusal::BadSplit => "InvalidArgumentException",
+        Refusal::BadNumber => "InvalidArgumentException",
+        Refusal::Expired => "ExpiredIteratorException",
+        Refusal::PageExpired => "ExpiredNextTokenException",
         Refusal::Full => "LimitExceededException",
         Refusal::Spent => "LimitExceededException",
     }
@@ -24,6 +31,13 @@ fn refusal_message(refusal: Refusal) -> &'static str
     match refusal {
         Refusal::NoStream => "stream not found",
         Refusal::StreamThere => "stream exists",
+        Refusal::NoShard => "shard not found",
+        Refusal::ShardClosed => "shard is closed",
+        Refusal::NotAdjacent => "shards are not adjacent",
+        Refusal::BadSplit => "split key out of range",
+        Refusal::BadNumber => "sequence number out of range",
+        Refusal::Expired => "iterator expired",
+        Refusal::PageExpired => "next token expired",
         Refusal::Full => "limit reached",
         Refusal::Spent => "numbers are used up",
     }

@@ -7,7 +7,7 @@ pub returns-in-Ok : goal.returns-in-Ok
 returns-in-Ok c =
     let same = c.in-Ok.ensures.cases.0 in
     let parsed = rw same at c.parse.ensures.value.0 in
-    c.ok.ensures.value ∙ number_from_parse c.args.text.now _ (sym c.plain.ensures ∙ c.if-not-plain.false) parsed
+    c.ok.ensures.value ∙ number_from_parse 64 c.args.text.now _ (sym c.plain.ensures ∙ c.if-not-plain.false) parsed
 
 pub returns-in-Err : goal.returns-in-Err
 returns-in-Err c = absurd (c.in-Err.ensures.cases.0 (IsUtf8-from_ascii _ (plain_ascii _ (sym c.plain.ensures ∙ c.if-not-plain.false))))

@@ -1,5 +1,5 @@
 use Rattle.kds_json.proofs.Lawful.{asked_lawful}
-use Rattle.kds_json.proofs.Texts.{fault_text}
+use Rattle.kds_json.proofs.FaultTexts.{fault_text}
 use Rattle.kds_json.proofs.request.ask.Goals as goal
 
 pub returns-in-Ok-clause-lawful : goal.returns-in-Ok-clause-lawful

@@ -1,0 +1,174 @@
+ghost use Rattle.std.specs.Prelude.{◌≡◌, ◌==◌, ◌+◌, ◌-◌, ◌*◌, ◌/◌, ◌^◌, ◌<◌, ◌≤◌, ◌↔◌, IsTrue, SomeIff, IfOk, if◌then◌else◌};
+ghost use Rattle.kds_base.specs.Span.{Covers, follows, last_key, parts, union, uniform};
+
+use crate::items::Items;
+use crate::memory::Memory;
+use std::alloc::Global;
+use std::marker::Model;
+
+/// The greatest hash key.
+const LAST_KEY: u128 = u128::MAX;
+
+/// A range of hash keys, both ends included (Kinesis API Reference, HashKeyRange). Contracts see the two ends.
+#[derive(Clone, Copy, Debug, PartialEq, Eq)]
+pub struct Range {
+    pub start: u128,
+    pub end: u128,
+}
+
+impl Model for Range {
+    ghost use Rattle.std.specs.Prelude.{◌≤◌};
+    ghost use Rattle.kds_base.specs.Span.{Span};
+
+    ghost Value = { Span };
+
+    ghost view = { λ r. record { start = r.start; end = r.end } };
+
+    ghost invariant = { λ r. r.start ≤ r.end };
+
+    ghost inverse = { λ s. record { start = s.start; end = s.end } };
+}
+
+impl Range {
+    /// The range with these ends. `None` exactly where `start > end`.
+    pub fn new(start: u128, end: u128) -> Option<Range>
+        ensures { SomeIff result (start ≤ end) (record { start = start; end = end }) }
+    {
+        if start <= end {
+            Some(Range { start, end })
+        } else {
+            None
+        }
+    }
+
+    /// Whether the key lies in the range.
+    pub fn contains(&self, key: u128) -> bool
+        ensures { IsTrue result ↔ Covers self.now key }
+    {
+        self.start <= key && key <= self.end
+    }
+
+    /// The part below the key and the part from it on. `None` exactly unless `start < at <= end`
+    /// (Kinesis API Reference, SplitShard, NewStartingHashKey).
+    pub fn split(&self, at: u128) -> Option<(Range, Range)>
+        ensures { result ≡ parts self.now at }
+    {
+        if self.start < at && at <= self.end {
+            let lower = Range {
+                start: self.start,
+                end: at - 1,
+            };
+            let upper = Range {
+                start: at,
+                end: self.end,
+            };
+            Some((lower, upper))
+        } else {
+            None
+        }
+    }
+
+    /// Whether the other range starts right after this one ends.
+    fn is_before(&self, other: &Range) -> bool
+        ensures { result ≡ follows self.now other.now }
+    {
+        self.end < other.start && other.start - self.end == 1
+    }
+
+    /// The range of both. `None` exactly where neither starts right after the other ends
+    /// (Kinesis API Reference, MergeShards).
+    pub fn join(&self, other: &Range) -> Option<Range>
+        ensures { result ≡ union self.now other.now }
+    {
+        if self.is_before(other) {
+            Some(Range {
+                start: self.start,
+                end: other.end,
+            })
+        } else if other.is_before(self) {
+            Some(Range {
+                start: other.start,
+                end: self.end,
+            })
+        } else {
+            None
+        }
+    }
+
+    /// The ranges of a new stream of `n` shards: the i-th starts at `i * floor(2^128 / n)`, and the last
+    /// ends at the greatest key.
+    pub fn uniform(alloc: Global, n: u32) -> Result<Items<Range>, Memory>
+        requires least { 1 ≤ n }
+        requires most { n ≤ 500 }
+        ensures { IfOk result (λ ranges. ranges ≡ uniform n) }
+    {
+        let mut ranges = Items::new(alloc);
+        for i in 0..n {
+            let start = uniform_start(i, n);
+            let end = uniform_end(i, n);
+            ranges.push(Range { start, end })?;
+        }
+        Ok(ranges)
+    }
+}
+
+/// Where the i-th of n uniform ranges starts.
+fn uniform_start(i: u32, n: u32) -> u128
+    requires { i < n }
+    ensures { result ≡ i * (2 ^ 128 / n) }
+{
+    let (i, n) = (u128::from(i), u128::from(n));
+    // The width is one more than this quotient: 2^128 itself is no u128.
+    i * ((u128::MAX - (n - 1)) / n) + i
+}
+
+/// Where it ends.
+fn uniform_end(i: u32, n: u32) -> u128
+    requires { i < n }
+    ensures { result ≡ (if i + 1 == n then last_key else (i + 1) * (2 ^ 128 / n) - 1) }
+{
+    if i + 1 < n {
+        uniform_start(i + 1, n) - 1
+    } else {
+        LAST_KEY
+    }
+}
+
+#[cfg(test)]
+mod tests {
+    use super::*;
+    use std::test::Fail;
+
+    #[test]
+    fn three_uniform_ranges(rt: HostRuntime) -> Result<(), Fail> {
+        let ranges = Range::uniform(rt.alloc(), 3)?;
+        let starts: [u128; 3] = [
+            0,
+            113427455640312821154458202477256070485,
+            226854911280625642308916404954512140970,
+        ];
+        assert_eq!(rt; ranges.as_slice().len(), 3);
+        for (range, start) in ranges.as_slice().iter().zip(starts) {
+            assert_eq!(rt; range.start, start);
+        }
+        Ok(())
+    }
+
+    #[test]
+    fn splits_and_joins(rt: HostRuntime) {
+        let all = Range {
+            start: 0,
+            end: u128::MAX,
+        };
+        assert_eq!(rt; all.split(0), None);
+        for at in [1, 1000, u128::MAX] {
+            let parts = all.split(at);
+            assert!(rt; parts.is_some(), "at {at}");
+            if let Some((lower, upper)) = parts {
+                assert_eq!(rt; lower.join(&upper), Some(all), "at {at}");
+                assert_eq!(rt; upper.join(&lower), Some(all), "at {at}");
+                assert_eq!(rt; lower.join(&all), None, "at {at}");
+            }
+        }
+    }
+}

@@ -1,0 +1,123 @@
+-- The commands that read streams: their refusals in order, and their replies.
+use Rattle.std.specs.Prelude.{ℕ, ◌+◌, ◌-◌, Bool, true, false, ◌&&◌, not, is_none, nat_le, nat_lt, if◌then◌else◌, List, [], ◌∷◌, length, map, take, Option, Some, None}
+use Rattle.std.specs.List.{filter}
+use Rattle.kds_defs.specs.declared.command.Start.{Start}
+use Rattle.kds_defs.specs.declared.command.Start.TheVariants as start
+use Rattle.kds_defs.specs.declared.limits.TheConstants.{TOKEN_LIFE}
+use Rattle.kds_defs.specs.declared.reply.Iter.{Iter}
+use Rattle.kds_defs.specs.declared.reply.Page.{Page}
+use Rattle.kds_defs.specs.declared.reply.Shard.{Shard}
+use Rattle.kds_defs.specs.declared.reply.Refusal.TheVariants as refusal
+use Rattle.kds_defs.specs.declared.reply.Reply.TheVariants as reply
+use Rattle.kds_defs.specs.Decision.{Decision, Accepted, refuse◌if◌else◌, with◌or◌then◌}
+use Rattle.kds_defs.specs.Journal.{Journal}
+use Rattle.kds_defs.specs.Records.{Logged, next_number, left_from, batch, numbers_of, place_after, stored}
+use Rattle.kds_defs.specs.Shards.{ShardState, shard_at, Closing, is_listed, listed_shards, children, shown}
+use Rattle.kds_defs.specs.Streams.{is_live}
+
+-- there are more of them than the limit
+abbrev pub are_more : {A : Type 0} → ℕ → List A → Bool
+are_more limit xs = nat_lt limit (length xs)
+
+-- ---- ListShards, of a live stream
+
+abbrev pub is_after_shard : Option ℕ → ShardState → Bool
+is_after_shard None x = true
+is_after_shard (Some after) x = nat_lt after x.no
+
+-- the listed shards after a number, as they are shown
+abbrev pub shards_from : Journal → ℕ → ℕ → Option ℕ → List Shard
+shards_from log c s after = map shown (filter (is_after_shard after) (listed_shards log c s))
+
+-- the number of the last shard that is shown
+abbrev pub last_no : List Shard → ℕ
+last_no [] = 0
+last_no (x ∷ []) = x.no
+last_no (x ∷ y ∷ xs) = last_no (y ∷ xs)
+
+abbrev pub list_shards : Journal → ℕ → ℕ → Option ℕ → ℕ → Decision
+list_shards log c s after limit =
+    Accepted [] (reply.Shards (take limit (shards_from log c s after))
+    (if are_more limit (shards_from log c s after)
+    then Some (record { stream = s; after = last_no (take limit (shards_from log c s after)); issued = c })
+    else None))
+
+-- a token of this moment is too old
+abbrev pub is_old : ℕ → ℕ → Bool
+is_old c issued = nat_lt TOKEN_LIFE (c - issued)
+
+abbrev pub more : Journal → ℕ → Page → ℕ → Decision
+more log c page limit =
+    refuse refusal.PageExpired if is_old c page.issued else
+    refuse refusal.NoStream if not (is_live log page.stream) else
+    list_shards log c page.stream (Some page.after) limit
+
+-- ---- GetShardIterator, of a live stream
+
+-- the number is at least the shard's first, and at most the next one, or at most the ending one
+abbrev pub is_good_at : ℕ → ℕ → ℕ → Option Closing → Bool
+is_good_at first next q None = nat_le first q && nat_le q next
+is_good_at first next q (Some closing) = nat_le first q && nat_le q closing.number
+
+-- the same, but it is below the next one
+abbrev pub is_good_after : ℕ → ℕ → ℕ → Option Closing → Bool
+is_good_after first next q None = nat_le first q && nat_lt q next
+is_good_after first next q (Some closing) = nat_le first q && nat_le q closing.number
+
+abbrev pub is_good_start : Start → ℕ → ShardState → Bool
+is_good_start (start.At q) next x = is_good_at x.start next q x.closing
+is_good_start (start.After q) next x = is_good_after x.start next q x.closing
+is_good_start start.TrimHorizon next x = true
+is_good_start start.Latest next x = true
+
+-- the position where reading begins
+abbrev pub position_of : Journal → ℕ → ℕ → ℕ → Start → ℕ
+position_of log c s sh (start.At q) = q
+position_of log c s sh (start.After q) = q + 1
+position_of log c s sh start.TrimHorizon = 0
+position_of log c s sh start.Latest = next_number log s
+
+abbrev pub iterator_at : ℕ → ℕ → ℕ → ℕ → Iter
+iterator_at c s sh position = record { stream = s; shard = sh; position = position; issued = c }
+
+abbrev pub get_iterator : Journal → ℕ → ℕ → ℕ → Start → Decision
+get_iterator log c s sh from =
+    refuse refusal.NoShard if not (is_listed log c s sh) else
+    with shard_at log s sh or refusal.NoShard then λ x.
+    refuse refusal.BadNumber if not (is_good_start from (next_number log s) x) else
+    Accepted [] (reply.Iterator (iterator_at c s sh (position_of log c s sh from)))
+
+-- ---- GetRecords
+
+-- the shard is closed
+abbrev pub is_closed_at : Option ShardState → Bool
+is_closed_at None = false
+is_closed_at (Some x) = not (is_none x.closing)
+
+abbrev pub are_none : {A : Type 0} → List A → Bool
+are_none [] = true
+are_none (x ∷ xs) = false
+
+-- the shard is closed, and no record that is not trimmed is at or above the place
+abbrev pub ends_at : Journal → ℕ → ℕ → ℕ → ℕ → Bool
+ends_at log c s sh place = is_closed_at (shard_at log s sh) && are_none (left_from log c s sh place)
+
+-- how long ago the first of these records arrived, 0 where there is none
+abbrev pub behind : ℕ → List Logged → ℕ
+behind c [] = 0
+behind c (r ∷ rs) = c - r.arrival
+
+-- the reply to a read at a position, which goes on at the place after its batch
+abbrev pub records_reply : Journal → ℕ → ℕ → ℕ → List Logged → ℕ → Decision
+records_reply log c s sh rs place =
+    Accepted [] (if ends_at log c s sh place
+    then reply.Records (map stored rs) None (behind c (left_from log c s sh place)) (map shown (children log s sh))
+    else reply.Records (map stored rs) (Some (iterator_at c s sh place)) (behind c (left_from log c s sh place)) [])
+
+abbrev pub get_records : Journal → ℕ → Iter → ℕ → Decision
+get_records log c iter limit =
+    refuse refusal.Expired if is_old c iter.issued else
+    refuse refusal.NoStream if not (is_live log iter.stream) else
+    refuse refusal.NoShard if not (is_listed log c iter.stream iter.shard) else
+    let rs = batch log c iter.stream iter.shard iter.position limit in
+    records_reply log c iter.stream iter.shard rs (place_after iter.position (numbers_of rs))

@@ -1,0 +1,32 @@
+-- What holds of the shards of a stream in every state: their open ranges partition the keys, and they are
+-- numbered in their order.
+use Rattle.std.specs.Prelude.{ℕ, ◌≡◌, ◌+◌, ◌^◌, ◌<◌, ◌≤◌, Bool, true, false, if◌then◌else◌, List, [], ◌∷◌}
+use Rattle.std.specs.List.{AllByRecursion}
+use Rattle.kds_base.specs.Span.{Span, covers}
+use Rattle.kds_defs.specs.Shards.{ShardState, is_open}
+
+-- 1 where the range contains the key
+abbrev pub one : Span → ℕ → ℕ
+one r k = if covers r k then 1 else 0
+
+-- how many of the open ones contain the key
+abbrev pub count_if : Bool → ℕ → ℕ
+count_if true n = n
+count_if false n = 0
+
+abbrev pub open_times : List ShardState → ℕ → ℕ
+open_times [] k = 0
+open_times (x ∷ xs) k = count_if (is_open x) (one x.range k) + open_times xs k
+
+-- the range is not empty
+abbrev pub IsOrdered : ShardState → Type 0
+IsOrdered x = x.range.start ≤ x.range.end
+
+pub record IsTiled (xs : List ShardState) : Type 0 where
+  pub times : (k : ℕ) → k < 2 ^ 128 → open_times xs k ≡ 1
+  pub ordered : AllByRecursion IsOrdered xs
+
+-- the numbers go on by one from n
+abbrev pub AreNumbered : ℕ → List ShardState → Type 0
+AreNumbered n [] = Unit {0}
+AreNumbered n (x ∷ xs) = (x.no ≡ n) × AreNumbered (n + 1) xs

@@ -1,0 +1,114 @@
+-- What the members of each operation ask for. They are checked in the order in which they stand here; a member
+-- that isn't named is ignored.
+use Rattle.std.specs.Prelude.{ℕ, List, length, codes, if◌then◌else◌, is_some, None, Result, Ok, Err}
+use Rattle.std.specs.Str.{bytes_eq}
+use Rattle.serde_json.specs.Data.{Data}
+use Rattle.serde_json.specs.Find.{as_str}
+use Rattle.kds_defs.specs.declared.command.Command.{Command}
+use Rattle.kds_defs.specs.declared.command.Command.TheVariants as command
+use Rattle.kds_defs.specs.declared.command.Start.{Start}
+use Rattle.kds_defs.specs.declared.command.Start.TheVariants as start
+use Rattle.kds_defs.specs.declared.limits.TheConstants.{LEAST_SHARDS, MOST_SHARDS, MOST}
+use Rattle.kds_token.specs.Tokens.{iter_of, page_of}
+use Rattle.kds_json.specs.declared.defaults.TheConstants.{RECORDS_LIMIT, SHARDS_LIMIT}
+use Rattle.kds_json.specs.declared.problem.Fault.{Fault}
+use Rattle.kds_json.specs.declared.problem.FaultKind.TheVariants.{Invalid}
+use Rattle.kds_json.specs.Reading.{◌>>=◌, fault_of}
+use Rattle.kds_json.specs.Member.{member_of, absent_at, required_at, optional_at, token_at}
+use Rattle.kds_json.specs.Kinds.{name_in, number_in, key_in, blob_in, id_in, some_id_in, hash_in, hash_at, sequence_in}
+
+-- CreateStream (Kinesis API Reference, CreateStream, Request Parameters)
+unfoldable pub create_stream : Data → Result Command Fault
+create_stream d = do
+  name ← required_at name_in (codes "StreamName") d
+  shards ← required_at (number_in LEAST_SHARDS MOST_SHARDS) (codes "ShardCount") d
+  nothing ← absent_at (codes "StreamModeDetails") d
+  Ok (command.Create name shards)
+
+-- ---- records
+
+-- PutRecord (Kinesis API Reference, PutRecord, Request Parameters)
+unfoldable pub put_record : Data → Result Command Fault
+put_record d = do
+  name ← required_at name_in (codes "StreamName") d
+  key ← required_at key_in (codes "PartitionKey") d
+  payload ← required_at (blob_in (length key)) (codes "Data") d
+  hash ← hash_at key (codes "ExplicitHashKey") d
+  Ok (command.Put name (record { key = key; hash = hash; payload = payload }))
+
+-- reading begins at a number, or after it
+unfoldable pub start_at : Data → Result Start Fault
+start_at d = do
+  number ← required_at sequence_in (codes "StartingSequenceNumber") d
+  Ok (start.At number)
+
+unfoldable pub start_after : Data → Result Start Fault
+start_after d = do
+  number ← required_at sequence_in (codes "StartingSequenceNumber") d
+  Ok (start.After number)
+
+-- where reading begins, by a ShardIteratorType (Kinesis API Reference, GetShardIterator, ShardIteratorType)
+unfoldable pub start_of : List ℕ → Data → Result Start Fault
+start_of kind d =
+    if bytes_eq kind (codes "TRIM_HORIZON") then Ok start.TrimHorizon
+    else if bytes_eq kind (codes "LATEST") then Ok start.Latest
+    else if bytes_eq kind (codes "AT_SEQUENCE_NUMBER") then start_at d
+    else if bytes_eq kind (codes "AFTER_SEQUENCE_NUMBER") then start_after d
+    else Err (fault_of Invalid (codes "ShardIteratorType"))
+
+-- GetShardIterator (Kinesis API Reference, GetShardIterator, Request Parameters)
+unfoldable pub get_shard_iterator : Data → Result Command Fault
+get_shard_iterator d = do
+  name ← required_at name_in (codes "StreamName") d
+  shard ← required_at id_in (codes "ShardId") d
+  kind ← required_at as_str (codes "ShardIteratorType") d
+  from ← start_of kind d
+  Ok (command.GetIterator name shard from)
+
+-- GetRecords (Kinesis API Reference, GetRecords, Request Parameters)
+unfoldable pub get_records : Data → Result Command Fault
+get_records d = do
+  iter ← token_at iter_of (codes "ShardIterator") d
+  limit ← optional_at RECORDS_LIMIT (number_in 1 MOST) (codes "Limit") d
+  Ok (command.Records iter limit)
+
+-- ---- shards
+
+-- SplitShard (Kinesis API Reference, SplitShard, Request Parameters)
+unfoldable pub split_shard : Data → Result Command Fault
+split_shard d = do
+  name ← required_at name_in (codes "StreamName") d
+  shard ← required_at id_in (codes "ShardToSplit") d
+  at ← required_at hash_in (codes "NewStartingHashKey") d
+  Ok (command.Split name shard at)
+
+-- MergeShards (Kinesis API Reference, MergeShards, Request Parameters)
+unfoldable pub merge_shards : Data → Result Command Fault
+merge_shards d = do
+  name ← required_at name_in (codes "StreamName") d
+  shard ← required_at id_in (codes "ShardToMerge") d
+  other ← required_at id_in (codes "AdjacentShardToMerge") d
+  Ok (command.Merge name shard other)
+
+-- ListShards of a stream by its name
+unfoldable pub list_from_start : Data → Result Command Fault
+list_from_start d = do
+  name ← required_at name_in (codes "StreamName") d
+  nothing ← absent_at (codes "ShardFilter") d
+  after ← optional_at None some_id_in (codes "ExclusiveStartShardId") d
+  limit ← optional_at SHARDS_LIMIT (number_in 1 MOST) (codes "MaxResults") d
+  Ok (command.Shards name after limit)
+
+-- ListShards that goes on where an earlier one ended
+unfoldable pub list_from_token : Data → Result Command Fault
+list_from_token d = do
+  no_name ← absent_at (codes "StreamName") d
+  no_filter ← absent_at (codes "ShardFilter") d
+  no_start ← absent_at (codes "ExclusiveStartShardId") d
+  page ← token_at page_of (codes "NextToken") d
+  limit ← optional_at SHARDS_LIMIT (number_in 1 MOST) (codes "MaxResults") d
+  Ok (command.More page limit)
+
+-- ListShards (Kinesis API Reference, ListShards, Request Parameters)
+unfoldable pub list_shards : Data → Result Command Fault
+list_shards d = if is_some (member_of (codes "NextToken") d) then list_from_token d else list_from_start d

@@ -1,0 +1,3 @@
+pub mod BatchLemmas
+pub mod OrderLemmas
+pub mod StepLemmas

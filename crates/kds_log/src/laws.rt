@@ -1,0 +1,11 @@
+//! Laws of the log.
+ghost use Rattle.std.specs.Prelude.{ℕ, ◌≤◌, List, length};
+ghost use Rattle.kds_defs.specs.Records.{Logged, beginning};
+ghost use Rattle.kds_log.specs.Log.{IsPrefix, IsWithin};
+
+/// A batch is the longest prefix within its limits of records and of payload bytes.
+pub fn longest()
+    ensures prefix { (limit room : ℕ) (rs : List Logged) → IsPrefix (beginning limit room rs) rs }
+    ensures within { (limit room : ℕ) (rs : List Logged) → IsWithin limit room (beginning limit room rs) }
+    ensures no_longer { (limit room : ℕ) (rs front : List Logged) → IsPrefix front rs → IsWithin limit room front → length front ≤ length (beginning limit room rs) }
+{}

@@ -1,0 +1,213 @@
+//! The log of one shard.
+ghost use Rattle.std.specs.Prelude.{◌≡◌, ◌++◌, ◌∷◌, [], ◌<◌, ◌≤◌, map, Some, None, IfOk, IfSome, OnOk, OnErr};
+ghost use Rattle.std.specs.List.{AllByRecursion};
+ghost use Rattle.kds_defs.specs.declared.limits.TheConstants.{BATCH_BYTES};
+ghost use Rattle.kds_defs.specs.Records.{beginning, left_among, logged, numbers_of, stored};
+ghost use Rattle.kds_defs.specs.Streams.{floor_of};
+ghost use Rattle.kds_log.specs.Log.{first_arrival, first_number, since, IsLeast, IsOrderly};
+
+use crate::record::{copy, drop_below, floor_of, is_left, is_since, payload_bytes};
+use kds_base::{Items, Memory, Moment, Seq};
+use kds_defs::Stored;
+use kds_defs::limits::BATCH_BYTES;
+use std::alloc::Global;
+use std::marker::Model;
+
+/// The records of a shard that are kept, in the order of their numbers. A record that arrived at or before the
+/// cut counts as trimmed also where it is still kept. Contracts see the kept records and the greatest number
+/// ever appended.
+#[derive(Drop)]
+pub struct ShardLog {
+    records: Vec<Stored>,
+    last: Option<Seq>,
+}
+
+impl Model for ShardLog {
+    ghost use Rattle.std.specs.Prelude.{map};
+    ghost use Rattle.kds_defs.specs.Records.{logged};
+    ghost use Rattle.kds_log.specs.Log.{LogValue, IsOrderly};
+
+    ghost Value = { LogValue };
+
+    ghost view = { λ l. record { kept = map logged l.records.items; last = l.last } };
+
+    ghost invariant = { λ l. IsOrderly (record { kept = map logged l.records.items; last = l.last }) };
+}
+
+impl ShardLog {
+    /// The empty log of a shard. Nothing here depends on the shard's starting number, which is at or below the
+    /// numbers to come.
+    pub fn new(alloc: Global, _start: Seq) -> ShardLog
+        ensures { result ≡ record { kept = []; last = None } }
+    {
+        ShardLog {
+            records: Vec::new(alloc),
+            last: None,
+        }
+    }
+
+    /// Adds a record, whose number is above all before and which arrived no earlier than they did. After
+    /// `Memory` the log is as before.
+    pub fn append(&mut self, item: Stored) -> Result<(), Memory>
+        requires number { IfSome self.old.last (λ n. n < item.seq) }
+        requires arrival { AllByRecursion (λ r. r.arrival ≤ item.arrival) self.old.kept }
+        ensures ok { OnOk result (self.new ≡ record { kept = self.old.kept ++ logged item ∷ []; last = Some item.seq }) }
+        ensures err { OnErr result (self.new ≡ self.old) }
+    {
+        let seq = item.seq;
+        match self.records.push(item) {
+            Ok(()) => {
+                self.last = Some(seq);
+                Ok(())
+            }
+            Err(_) => Err(Memory),
+        }
+    }
+
+    /// Removes the records that arrived at or before the cut, and no others.
+    pub fn trim(&mut self, cut: Moment)
+        ensures { self.new ≡ record self.old { kept = left_among (floor_of (Some cut)) 0 self.old.kept } }
+    {
+        drop_below(&mut self.records, floor_of(Some(cut)));
+    }
+
+    /// The longest beginning of the untrimmed records at or above the position, of at most `limit` records and
+    /// `BATCH_BYTES` payload bytes (Kinesis API Reference, GetRecords).
+    pub fn batch(
+        &self,
+        alloc: Global,
+        cut: Option<Moment>,
+        position: u64,
+        limit: u32,
+    ) -> Result<Items<Stored>, Memory>
+        ensures value { IfOk result (λ b. b ≡ map stored (beginning limit BATCH_BYTES (left_among (floor_of cut) position self.now.kept))) }
+        ensures orderly { IsOrderly self.now }
+    {
+        let floor = floor_of(cut);
+        let mut batch = Items::new(alloc);
+        let mut left = limit;
+        let mut room = BATCH_BYTES;
+        for item in &self.records {
+            if !is_left(item, floor, position) {
+                continue;
+            }
+            let bytes = payload_bytes(item);
+            if left == 0 || bytes > room {
+                return Ok(batch);
+            }
+            batch.push(copy(alloc, item)?)?;
+            left -= 1;
+            room -= bytes;
+        }
+        Ok(batch)
+    }
+
+    /// When the first untrimmed record at or above the position arrived. `None` exactly where there is none.
+    pub fn first_left(&self, cut: Option<Moment>, position: u64) -> Option<Moment>
+        ensures value { result ≡ first_arrival (left_among (floor_of cut) position self.now.kept) }
+        ensures orderly { IsOrderly self.now }
+    {
+        let floor = floor_of(cut);
+        for item in &self.records {
+            if is_left(item, floor, position) {
+                return Some(item.arrival);
+            }
+        }
+        None
+    }
+
+    /// The least number of an untrimmed record that arrived at or after the moment (Kinesis API Reference,
+    /// GetShardIterator, AT_TIMESTAMP). `None` exactly where there is none.
+    pub fn at_time(&self, cut: Option<Moment>, moment: Moment) -> Option<Seq>
+        ensures least { IsLeast (numbers_of (since moment (left_among (floor_of cut) 0 self.now.kept))) result }
+        ensures value { result ≡ first_number (since moment (left_among (floor_of cut) 0 self.now.kept)) }
+        ensures orderly { IsOrderly self.now }
+    {
+        let floor = floor_of(cut);
+        for item in &self.records {
+            if is_left(item, floor, 0) && is_since(item, moment) {
+                return Some(item.seq);
+            }
+        }
+        None
+    }
+
+    /// The greatest number ever appended, also where its record is trimmed. `None` exactly where there was none.
+    pub fn last(&self) -> Option<Seq>
+        ensures value { result ≡ self.now.last }
+        ensures orderly { IsOrderly self.now }
+    {
+        self.last
+    }
+}
+
+#[cfg(test)]
+mod tests {
+    use super::*;
+    use kds_base::Octets;
+    use std::test::Fail;
+
+    fn moment(ms: u64) -> Moment
+        requires { ms < 5000 }
+        ensures { result ≡ ms }
+    {
+        match Moment::new(ms) {
+            Some(moment) => moment,
+            None => unreachable!(),
+        }
+    }
+
+    /// Record 1, which arrived at 1000, and record 2, which arrived at 1001.
+    fn two_records(alloc: Global) -> Result<ShardLog, Memory> {
+        let mut log = ShardLog::new(alloc, Seq(1));
+        log.append(Stored {
+            seq: Seq(1),
+            arrival: moment(1000),
+            key: Octets::of(alloc, b"a")?,
+            payload: Octets::of(alloc, b"hi")?,
+        })?;
+        log.append(Stored {
+            seq: Seq(2),
+            arrival: moment(1001),
+            key: Octets::of(alloc, b"abc")?,
+            payload: Octets::new(alloc),
+        })?;
+        Ok(log)
+    }
+
+    #[test]
+    fn batches(rt: HostRuntime) -> Result<(), Fail> {
+        let log = two_records(rt.alloc())?;
+        let cases = [
+            (None, 0, 10, 2, Some(1)),
+            (None, 0, 1, 1, Some(1)),
+            (None, 2, 10, 1, Some(2)),
+            (None, 3, 10, 0, None),
+            (Some(moment(999)), 0, 10, 2, Some(1)),
+            (Some(moment(1000)), 0, 10, 1, Some(2)),
+            (Some(moment(1001)), 0, 10, 0, None),
+        ];
+        for (cut, position, limit, count, first) in cases {
+            let batch = log.batch(rt.alloc(), cut, position, limit)?;
+            assert_eq!(rt; batch.as_slice().len(), count, "at {position}");
+            let seq = batch.as_slice().first().map(|item| item.seq.0);
+            assert_eq!(rt; seq, first, "at {position}");
+        }
+        Ok(())
+    }
+
+    #[test]
+    fn trims(rt: HostRuntime) -> Result<(), Fail> {
+        let mut log = two_records(rt.alloc())?;
+        assert_eq!(rt; log.first_left(None, 2), Some(moment(1001)));
+        assert_eq!(rt; log.at_time(None, moment(1000)), Some(Seq(1)));
+        assert_eq!(rt; log.at_time(None, moment(1001)), Some(Seq(2)));
+        assert_eq!(rt; log.at_time(None, moment(2000)), None);
+        log.trim(moment(1000));
+        assert_eq!(rt; log.first_left(None, 0), Some(moment(1001)));
+        log.trim(moment(1001));
+        assert_eq!(rt; log.first_left(None, 0), None);
+        assert_eq!(rt; log.last(), Some(Seq(2)));
+        Ok(())
+    }
+}

@@ -1,0 +1,81 @@
+-- No reply has a float.
+use Rattle.std.proofs.Common.{◌≡◌, ℕ, List, [], ◌∷◌, map, false, Option, Some, None, IfSome, refl}
+use Rattle.std.specs.Prelude.{option_map}
+use Rattle.serde_json.specs.Data.{Data, Members}
+use Rattle.serde_json.specs.View.{items_of}
+use Rattle.serde_json.specs.Written.{has_float, items_have_float, members_have_float}
+use Rattle.kds_base.specs.Span.{Span}
+use Rattle.kds_defs.specs.declared.reply.Iter.{Iter}
+use Rattle.kds_defs.specs.declared.reply.Page.{Page}
+use Rattle.kds_defs.specs.declared.reply.Place.{Place}
+use Rattle.kds_defs.specs.declared.reply.Reply.{Reply}
+use Rattle.kds_defs.specs.declared.reply.Reply.TheVariants.{Done, Put, Iterator, Records, Shards}
+use Rattle.kds_defs.specs.declared.reply.Shard.{Shard}
+use Rattle.kds_defs.specs.declared.reply.Stored.{Stored}
+use Rattle.kds_reply.specs.Bodies.{number_data, id_data, list_data, member_if, place_data, iterator_data, page_string}
+use Rattle.kds_reply.specs.Records.{record_data, records_data}
+use Rattle.kds_reply.specs.Replies.{reply_data}
+use Rattle.kds_reply.specs.Shards.{range_data, sequence_data, shard_data, parents_of, child_data, shards_data}
+
+abbrev IsPlain : Data → Type 0
+IsPlain d = has_float d ≡ false
+
+list_plain : {A : Type 0} (f : A → Data) (xs : List A) → ((x : A) → IsPlain (f x)) → IsPlain (list_data f xs)
+list_plain f [] h = refl
+list_plain f (x ∷ xs) h = rw (h x) (list_plain f xs h)
+
+member_plain : {A : Type 0} (f : A → Data) (name : List ℕ) (o : Option A) (ms : Members) → ((x : A) → IsPlain (f x)) → members_have_float ms ≡ false → members_have_float (member_if name (option_map f o) ms) ≡ false
+member_plain f name None ms h rest = rest
+member_plain f name (Some x) ms h rest = rw (h x) rest
+
+place_plain : (p : Place) → IsPlain (place_data p)
+unfolding place_data
+place_plain p = refl
+
+iterator_plain : (i : Iter) → IsPlain (iterator_data i)
+unfolding iterator_data
+iterator_plain i = refl
+
+-- ---- shards
+
+range_plain : (r : Span) → IsPlain (range_data r)
+unfolding range_data
+range_plain r = refl
+
+sequence_plain : (start : ℕ) (end : Option ℕ) → IsPlain (sequence_data start end)
+unfolding sequence_data
+sequence_plain start end = member_plain number_data _ end _ (λ n. refl) refl
+
+shard_plain : (s : Shard) → IsPlain (shard_data s)
+unfolding shard_data
+shard_plain s =
+    member_plain id_data _ s.adjacent _ (λ n. refl)
+    (rw (range_plain s.range)
+    (member_plain id_data _ s.parent _ (λ n. refl)
+    (rw (sequence_plain s.start s.end) refl)))
+
+child_plain : (s : Shard) → IsPlain (child_data s)
+unfolding child_data
+child_plain s = rw (range_plain s.range, list_plain id_data (parents_of s) (λ n. refl)) refl
+
+shards_plain : (shards : List Shard) (next : Option Page) → IsPlain (shards_data shards next)
+unfolding shards_data
+shards_plain shards next = member_plain page_string _ next _ (λ p. refl) (rw (list_plain shard_data shards shard_plain) refl)
+
+-- ---- records
+
+record_plain : (r : Stored) → IsPlain (record_data r)
+unfolding record_data
+record_plain r = refl
+
+records_plain : (batch : List Stored) (next : Option Iter) (behind : ℕ) (children : List Shard) → IsPlain (records_data batch next behind children)
+unfolding records_data
+records_plain batch (Some next) behind children = rw (list_plain record_data batch record_plain) refl
+records_plain batch None behind children = rw (list_plain child_data children child_plain, list_plain record_data batch record_plain) refl
+
+pub reply_plain : (r : Reply) → IfSome (reply_data r) IsPlain
+reply_plain Done = tt
+reply_plain (Put p) = place_plain p
+reply_plain (Iterator i) = iterator_plain i
+reply_plain (Records batch next behind children) = records_plain batch next behind children
+reply_plain (Shards shards next) = shards_plain shards next

@@ -1,0 +1,47 @@
+-- The values of which bodies are made. The members of an object stand in the order of their bytes.
+use Rattle.std.specs.Prelude.{ℕ, List, map, codes, decimal, Option, Some, None}
+use Rattle.serde_json.specs.Data.{Data, string, array, object, Members, no_members, member, put}
+use Rattle.serde_json.specs.View.{items_of}
+use Rattle.kds_defs.specs.declared.reply.Iter.{Iter}
+use Rattle.kds_defs.specs.declared.reply.Page.{Page}
+use Rattle.kds_defs.specs.declared.reply.Place.{Place}
+use Rattle.kds_json.specs.Ids.{shard_id}
+use Rattle.kds_token.specs.Tokens.{iter_token, page_token}
+
+-- a sequence number or a hash key, which is a decimal string
+abbrev pub number_data : ℕ → Data
+number_data n = string (decimal n)
+
+-- a shard's id
+abbrev pub id_data : ℕ → Data
+id_data n = string (shard_id n)
+
+-- the values that f makes of a list
+abbrev pub list_data : {A : Type 0} → (A → Data) → List A → Data
+list_data f xs = array (items_of (map f xs))
+
+-- a member that is left out where there is no value
+abbrev pub member_if : List ℕ → Option Data → Members → Members
+member_if name None ms = ms
+member_if name (Some d) ms = member name d ms
+
+-- the members with a value at this name, if there is one
+abbrev pub put_if : List ℕ → Option Data → Members → Members
+put_if name None ms = ms
+put_if name (Some d) ms = put name d ms
+
+-- where a record was put (Kinesis API Reference, PutRecord, Response Elements)
+unfoldable pub place_data : Place → Data
+place_data p = object (member (codes "SequenceNumber") (number_data p.seq) (member (codes "ShardId") (id_data p.shard) no_members))
+
+-- the token of an iterator
+abbrev pub iterator_string : Iter → Data
+iterator_string i = string (iter_token i)
+
+-- an iterator (Kinesis API Reference, GetShardIterator, Response Elements)
+unfoldable pub iterator_data : Iter → Data
+iterator_data i = object (member (codes "ShardIterator") (iterator_string i) no_members)
+
+-- the token with which a listing goes on
+abbrev pub page_string : Page → Data
+page_string p = string (page_token p)

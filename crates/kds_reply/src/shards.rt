@@ -1,0 +1,163 @@
+//! Shards as they are shown, and listings of them.
+ghost use Rattle.std.specs.Prelude.{◌≡◌, ◌++◌, map, option_map, IfOk, OnOk};
+ghost use Rattle.std.specs.Option.{option_to_list};
+ghost use Rattle.serde_json.specs.View.{view, members_view};
+ghost use Rattle.kds_reply.specs.Bodies.{id_data, put_if};
+ghost use Rattle.kds_reply.specs.Shards.{range_data, sequence_data, shard_data, parents_of, child_data, shards_data};
+
+use crate::tokens::listing_token;
+use kds_base::{Memory, Range, Seq, ShardNo};
+use kds_defs::{Page, Shard};
+use kds_json::shard_id;
+use serde_json::{Map, Value, json, push, put};
+use std::alloc::Global;
+
+/// A range of hash keys (Kinesis API Reference, HashKeyRange).
+#[tactic(auto, unfolding(crate::specs::Shards::range_data))]
+fn range_value(alloc: Global, range: &Range) -> Result<Value, Memory>
+    ensures { IfOk result (λ v. view v ≡ range_data range.now) }
+{
+    let (start, end) = (range.start, range.end);
+    let starting_key = format!(in alloc; "{start}")?;
+    let ending_key = format!(in alloc; "{end}")?;
+    Ok(json!(in alloc; {"EndingHashKey": ending_key, "StartingHashKey": starting_key})?)
+}
+
+/// The sequence numbers of a shard, the ending one where it is closed
+/// (Kinesis API Reference, SequenceNumberRange).
+#[tactic(auto, unfolding(crate::specs::Shards::sequence_data))]
+fn sequence_value(alloc: Global, start: Seq, end: &Option<Seq>) -> Result<Value, Memory>
+    ensures { IfOk result (λ v. view v ≡ sequence_data start end.now) }
+{
+    let start = start.0;
+    let first = format!(in alloc; "{start}")?;
+    match end {
+        Some(end) => {
+            let end = end.0;
+            let last = format!(in alloc; "{end}")?;
+            Ok(json!(in alloc; {"EndingSequenceNumber": last, "StartingSequenceNumber": first})?)
+        }
+        None => Ok(json!(in alloc; {"StartingSequenceNumber": first})?),
+    }
+}
+
+fn id_value(alloc: Global, shard: ShardNo) -> Result<Value, Memory>
+    ensures { IfOk result (λ v. view v ≡ id_data shard) }
+{
+    Ok(Value::from(shard_id(alloc, shard)?))
+}
+
+/// Adds a shard's id as a member, if there is one.
+fn put_id(
+    alloc: Global,
+    members: &mut Map<String, Value>,
+    name: &str,
+    shard: &Option<ShardNo>,
+) -> Result<(), Memory>
+    ensures { OnOk result (members_view members.new.entries ≡ put_if name.now (option_map id_data shard.now) (members_view members.old.entries)) }
+{
+    match shard {
+        Some(shard) => {
+            let id = id_value(alloc, *shard)?;
+            put(members, alloc, name, id)?;
+            Ok(())
+        }
+        None => Ok(()),
+    }
+}
+
+/// A shard (Kinesis API Reference, Shard).
+#[tactic(auto, unfolding(crate::specs::Shards::shard_data))]
+fn shard_value(alloc: Global, shard: &Shard) -> Result<Value, Memory>
+    ensures { IfOk result (λ v. view v ≡ shard_data shard.now) }
+{
+    let range = range_value(alloc, &shard.range)?;
+    let numbers = sequence_value(alloc, shard.start, &shard.end)?;
+    let id = id_value(alloc, shard.no)?;
+    let mut members = Map::new(alloc);
+    put(&mut members, alloc, "HashKeyRange", range)?;
+    put(&mut members, alloc, "SequenceNumberRange", numbers)?;
+    put(&mut members, alloc, "ShardId", id)?;
+    put_id(alloc, &mut members, "ParentShardId", &shard.parent)?;
+    put_id(
+        alloc,
+        &mut members,
+        "AdjacentParentShardId",
+        &shard.adjacent,
+    )?;
+    Ok(Value::Object(members))
+}
+
+/// Adds a shard's id to a list, if there is one.
+fn push_id(alloc: Global, ids: &mut Vec<Value>, shard: &Option<ShardNo>) -> Result<(), Memory>
+    ensures { OnOk result (map view ids.new.items ≡ map view ids.old.items ++ map id_data (option_to_list shard.now)) }
+{
+    match shard {
+        Some(shard) => {
+            let id = id_value(alloc, *shard)?;
+            push(ids, id)?;
+            Ok(())
+        }
+        None => Ok(()),
+    }
+}
+
+/// The ids of a shard's parents, the adjacent one last.
+fn parent_ids(alloc: Global, shard: &Shard) -> Result<Vec<Value>, Memory>
+    ensures { IfOk result (λ ids. map view ids.items ≡ map id_data (parents_of shard.now)) }
+{
+    let mut ids = Vec::new(alloc);
+    push_id(alloc, &mut ids, &shard.parent)?;
+    push_id(alloc, &mut ids, &shard.adjacent)?;
+    Ok(ids)
+}
+
+/// A child of a shard (Kinesis API Reference, ChildShard).
+#[tactic(auto, unfolding(crate::specs::Shards::child_data))]
+fn child_value(alloc: Global, shard: &Shard) -> Result<Value, Memory>
+    ensures { IfOk result (λ v. view v ≡ child_data shard.now) }
+{
+    let range = range_value(alloc, &shard.range)?;
+    let parents = parent_ids(alloc, shard)?;
+    let id = id_value(alloc, shard.no)?;
+    Ok(json!(in alloc; {"HashKeyRange": range, "ParentShards": parents, "ShardId": id})?)
+}
+
+/// The children of a shard.
+pub fn child_values(alloc: Global, shards: &[Shard]) -> Result<Vec<Value>, Memory>
+    ensures { IfOk result (λ vs. map view vs.items ≡ map child_data shards.now) }
+{
+    let mut values = Vec::new(alloc);
+    for shard in shards {
+        let value = child_value(alloc, shard)?;
+        push(&mut values, value)?;
+    }
+    Ok(values)
+}
+
+fn shard_values(alloc: Global, shards: &[Shard]) -> Result<Vec<Value>, Memory>
+    ensures { IfOk result (λ vs. map view vs.items ≡ map shard_data shards.now) }
+{
+    let mut values = Vec::new(alloc);
+    for shard in shards {
+        let value = shard_value(alloc, shard)?;
+        push(&mut values, value)?;
+    }
+    Ok(values)
+}
+
+/// A listing, and where more shards follow the token that goes on
+/// (Kinesis API Reference, ListShards, Response Elements).
+#[tactic(auto, unfolding(crate::specs::Shards::shards_data))]
+pub fn shards_value(alloc: Global, shards: &[Shard], next: &Option<Page>) -> Result<Value, Memory>
+    ensures { IfOk result (λ v. view v ≡ shards_data shards.now next.now) }
+{
+    let shards = shard_values(alloc, shards)?;
+    match next {
+        Some(page) => {
+            let token = listing_token(alloc, page)?;
+            Ok(json!(in alloc; {"NextToken": token, "Shards": shards})?)
+        }
+        None => Ok(json!(in alloc; {"Shards": shards})?),
+    }
+}

@@ -1,0 +1,86 @@
+-- What a later clock, and the trim of the logs, leave a stream to show.
+use Rattle.std.proofs.Common.{◌≡◌, ℕ, ◌+◌, ◌<◌, ◌≤◌, Bool, true, false, List, [], ◌∷◌, length, map, Option, Some, None, refl, sym, ap, subst, ◌∙◌, arith}
+use Rattle.std.specs.Prelude.{cond, not, nat_le, nat_lt, ◌&&◌}
+use Rattle.std.specs.List.{AllByRecursion, filter}
+use Rattle.std.proofs.lemmas.Bool.Decides.{nat_tests}
+use Rattle.kds_defs.specs.Journal.{Journal}
+use Rattle.kds_defs.specs.Records.{Logged, is_left, left_among, records}
+use Rattle.kds_defs.specs.Streams.{floor_of}
+use Rattle.kds_log.specs.Log.{LogValue}
+use Rattle.kds_stream.proofs.Cuts.{advanced_floor, later_floor}
+use Rattle.kds_stream.specs.Showing.{AreKept, IsKept, Shows}
+use Rattle.kds_stream.proofs.LogLemmas.{all-filter, all-settled, arrived_later, length-settled}
+use Rattle.kds_stream.specs.Value.{HasArrived, IsBelow, IsStream, StreamValue, cut_at, later_cut, settled_log}
+
+-- ---- what is kept at a floor is kept at a higher one
+
+pub kept_higher : (floor higher : ℕ) (log : Journal) (s n : ℕ) (ls : List LogValue) → floor ≤ higher → AreKept floor log s n ls → AreKept higher log s n ls
+kept_higher floor higher log s n [] le h = tt
+kept_higher floor higher log s n (l ∷ ls) le h =
+    (record { from = h.0.from; early = omega (arith, le, h.0.early); rest = h.0.rest }, kept_higher floor higher log s (n + 1) ls le h.1)
+
+pub shows_advanced : (v : StreamValue) (log : Journal) (clock : ℕ) (cut : Option ℕ) → cut ≡ later_cut v.cut (cut_at clock) → v.clock ≤ clock → Shows v log
+    → Shows (record v { clock = clock; cut = cut; clock_before = v.clock; cut_before = v.cut }) log
+shows_advanced v log clock cut is later shown =
+    let higher : floor_of v.cut ≤ floor_of cut = omega (arith, ap floor_of is, later_floor v.cut (cut_at clock)) in
+    record {
+      live = shown.live;
+      was = shown.was;
+      named = shown.named;
+      shards_are = shown.shards_are;
+      next_is = shown.next_is;
+      floor_is = advanced_floor log v.clock clock v.no v.cut later shown.floor_is ∙ ap floor_of (sym is);
+      kept = kept_higher (floor_of v.cut) (floor_of cut) log v.no 0 v.logs higher shown.kept;
+      none_beyond = shown.none_beyond;
+    }
+
+-- ---- what is left of what is left
+
+left_twice_by : (b c : Bool) (r : Logged) (rs : List Logged) (f p g : ℕ) → is_left g 0 r ≡ b → is_left f p r ≡ c → g ≤ f
+    → left_among f p (left_among g 0 rs) ≡ left_among f p rs
+    → left_among f p (cond b (r ∷ left_among g 0 rs) (left_among g 0 rs)) ≡ cond c (r ∷ left_among f p rs) (left_among f p rs)
+left_twice_by true c r rs f p g isb isc le h = ap (λ d. cond d (r ∷ left_among f p (left_among g 0 rs)) (left_among f p (left_among g 0 rs))) isc ∙ ap (λ xs. cond c (r ∷ xs) xs) h
+left_twice_by false true r rs f p g isb isc le h = absurd (late r.arrival r.seq f p g isb isc le)
+  where
+    late : (arrival seq f p g : ℕ) → (not (nat_lt arrival g) && nat_le 0 seq) ≡ false → (not (nat_lt arrival f) && nat_le p seq) ≡ true → g ≤ f → ⊥
+    late arrival seq f p g isb isc le = grind (arith, nat_tests)
+left_twice_by false false r rs f p g isb isc le h = h
+
+-- records that are trimmed at a lower floor first
+pub left_twice : (f p g : ℕ) (rs : List Logged) → g ≤ f → left_among f p (left_among g 0 rs) ≡ left_among f p rs
+left_twice f p g [] le = refl
+left_twice f p g (r ∷ rs) le = left_twice_by (is_left g 0 r) (is_left f p r) r rs f p g refl refl le (left_twice f p g rs le)
+
+-- ---- a settled stream
+
+pub kept_settled : (floor : ℕ) (log : Journal) (s n : ℕ) (ls : List LogValue) → AreKept floor log s n ls → AreKept floor log s n (map (settled_log floor) ls)
+kept_settled floor log s n [] h = tt
+kept_settled floor log s n (l ∷ ls) h =
+    let same : left_among floor 0 l.kept ≡ left_among floor 0 (records log s n) = ap (left_among floor 0) h.0.rest ∙ left_twice floor 0 h.0.from (records log s n) h.0.early in
+    (record { from = floor; early = omega arith; rest = same }, kept_settled floor log s (n + 1) ls h.1)
+
+pub shows_settled : (v : StreamValue) (log : Journal) → Shows v log
+    → Shows (record v { logs = map (settled_log (floor_of v.cut)) v.logs; clock_before = v.clock; cut_before = v.cut }) log
+shows_settled v log shown = record {
+  live = shown.live;
+  was = shown.was;
+  named = shown.named;
+  shards_are = shown.shards_are;
+  next_is = shown.next_is;
+  floor_is = shown.floor_is;
+  kept = kept_settled (floor_of v.cut) log v.no 0 v.logs shown.kept;
+  none_beyond = shown.none_beyond;
+}
+
+pub settled_stream : (v : StreamValue) → IsStream v → IsStream (record v { logs = map (settled_log (floor_of v.cut)) v.logs; clock_before = v.clock; cut_before = v.cut })
+settled_stream v is = record {
+  as_many = length-settled (floor_of v.cut) v.logs ∙ is.as_many;
+  numbers = all-settled (IsBelow v.next) (floor_of v.cut) (λ l h. h) v.logs is.numbers;
+  endings = is.endings;
+  arrivals = all-settled (HasArrived v.clock) (floor_of v.cut) (λ l h. all-filter (λ (r : Logged). r.arrival ≤ v.clock) (is_left (floor_of v.cut) 0) l.kept h) v.logs (arrived_later v.clock_before v.clock v.logs is.order is.arrivals);
+  order = omega arith;
+  trims = is.trims;
+  trims_before = is.trims;
+  drawn = is.drawn;
+  fits = is.fits;
+}

@@ -1,0 +1,10 @@
+pub mod Clocks
+pub mod Cuts
+pub mod Listed
+pub mod LogLemmas
+pub mod NewStreams
+pub mod Others
+pub mod Puts
+pub mod ReadLemmas
+pub mod Resharded
+pub mod Reshards

@@ -1,0 +1,189 @@
+-- A put: its decision, what the stream shows after it, and that it is a stream still.
+use Rattle.std.proofs.Common.{◌≡◌, ◌≢◌, ℕ, zero, suc, ◌+◌, ◌-◌, ◌^◌, ◌<◌, ◌≤◌, Bool, true, false, List, [], ◌∷◌, ◌++◌, length, Option, Some, None, refl, sym, ap, subst, ◌∙◌, arith}
+use Rattle.std.specs.Prelude.{◌==◌, ◌&&◌, cond, not, nat_le, nat_lt, if◌then◌else◌, slice_get, Result, Ok, Err}
+use Rattle.std.specs.List.{AllByRecursion, filter}
+use Rattle.std.proofs.lemmas.Bool.Decides.{nat_tests}
+use Rattle.std.proofs.lemmas.List.Elements.{filter-append}
+use Rattle.std.proofs.lemmas.Option.{slice_get_within}
+use Rattle.kds_defs.proofs.Decisions.{after_accepted, after_refused, passed_if, refused_if}
+use Rattle.kds_defs.specs.declared.command.NewItem.{NewItem}
+use Rattle.kds_defs.specs.declared.reply.Place.{Place}
+use Rattle.kds_defs.specs.declared.reply.Refusal.{Refusal}
+use Rattle.kds_defs.specs.declared.reply.Refusal.TheVariants as refusal
+use Rattle.kds_defs.specs.declared.reply.Reply.{Reply}
+use Rattle.kds_defs.specs.declared.reply.Reply.TheVariants as reply
+use Rattle.kds_defs.specs.Decision.{Decision}
+use Rattle.kds_defs.specs.Histories.{answer_of, lines_of}
+use Rattle.kds_defs.specs.Journal.{Journal, with_lines}
+use Rattle.kds_defs.specs.Records.{Logged, is_left, left_among, next_number, records}
+use Rattle.kds_defs.specs.Shards.{Closing, ShardState, home, home_among, is_open}
+use Rattle.kds_defs.specs.StreamCommands.{last_number, put, put_line, put_place}
+use Rattle.kds_defs.specs.Streams.{floor_of}
+use Rattle.kds_log.specs.Log.{LogValue}
+use Rattle.kds_stream.proofs.Cuts.{same_floor_at}
+use Rattle.kds_stream.proofs.LogLemmas.{all-append, all-appended, all_weaker, arrived_later, length-appended}
+use Rattle.kds_stream.proofs.Others.{kept_along}
+use Rattle.kds_stream.specs.Showing.{AreKept, IsKept, Shows}
+use Rattle.kds_stream.specs.Value.{EndsUnder, HasArrived, IsBelow, IsClosedUnder, IsStream, IsUnder, StreamValue, with_appended}
+
+-- ---- a number and itself
+
+pub same_number : (n : ℕ) → (n == n) ≡ true
+same_number n = grind (arith, nat_tests)
+
+pub is_number : (n m : ℕ) → n ≡ m → (n == m) ≡ true
+is_number n m h = grind (arith, nat_tests, h)
+
+pub is_other : (n m : ℕ) → n ≢ m → (n == m) ≡ false
+is_other n m h = by (n == m) refl
+  where
+    same : (a b : ℕ) → (a == b) ≡ true → a ≡ b
+    same a b e = grind (arith, nat_tests)
+
+    by : (b : Bool) → (n == m) ≡ b → b ≡ false
+    by true e = absurd (h (same n m e))
+    by false e = refl
+
+-- ---- what a call owes, of one of two equal values
+
+pub led_along : (decided : StreamValue → Decision) (u u' w : StreamValue) (log : Journal) (a : Result Reply Refusal) → u ≡ u' → (a ≡ answer_of (decided u)) × Shows w (with_lines (lines_of (decided u)) log) → (a ≡ answer_of (decided u')) × Shows w (with_lines (lines_of (decided u')) log)
+led_along decided u u' w log a is h = (h.0 ∙ ap (λ x. answer_of (decided x)) is, subst (λ x. Shows w (with_lines (lines_of (decided x)) log)) is h.1)
+
+-- ---- the record that a put stores
+
+abbrev pub put_record : StreamValue → NewItem → Logged
+put_record v item = record { seq = v.next; arrival = v.clock; bytes = length item.payload; key = item.key; payload = item.payload }
+
+-- a record that arrived at the floor or later is kept with the others
+left_one : (from : ℕ) (rs : List Logged) (r : Logged) → from ≤ r.arrival → left_among from 0 (rs ++ r ∷ []) ≡ left_among from 0 rs ++ r ∷ []
+left_one from rs r le = filter-append (is_left from 0) rs (r ∷ []) ∙ ap (λ xs. left_among from 0 rs ++ xs) (one (is_left from 0 r) (late from r.arrival r.seq le))
+  where
+    late : (from arrival seq : ℕ) → from ≤ arrival → (not (nat_lt arrival from) && nat_le 0 seq) ≡ true
+    late from arrival seq h = grind (arith, nat_tests)
+
+    one : (b : Bool) → b ≡ true → cond b (r ∷ []) [] ≡ r ∷ []
+    one true h = refl
+    one false h = absurd cc
+
+-- the logs with the record keep the records of a journal that has it too
+kept_put : (floor : ℕ) (log log' : Journal) (s n i at : ℕ) (r : Logged) (ls : List LogValue) → floor ≤ r.arrival → at ≡ n + i → records log' s at ≡ records log s at ++ r ∷ [] → ((sh : ℕ) → at ≢ sh → records log' s sh ≡ records log s sh)
+    → AreKept floor log s n ls → AreKept floor log' s n (with_appended i r ls)
+kept_put floor log log' s n i at r [] late is here others h = tt
+kept_put floor log log' s n zero at r (l ∷ ls) late is here others h =
+    let e : at ≡ n = omega (arith, is) in
+    let here' : records log' s n ≡ records log s n ++ r ∷ [] = subst (λ m. records log' s m ≡ records log s m ++ r ∷ []) e here in
+    let rest : l.kept ++ r ∷ [] ≡ left_among h.0.from 0 (records log s n ++ r ∷ []) = ap (λ rs. rs ++ r ∷ []) h.0.rest ∙ sym (left_one h.0.from (records log s n) r (omega (arith, late, h.0.early))) in
+    (record { from = h.0.from; early = h.0.early; rest = rest ∙ ap (left_among h.0.from 0) (sym here') }, kept_after floor log log' s (n + 1) ls (λ sh beyond. others sh (omega (arith, e, beyond))) h.1)
+  where
+    kept_after : (floor : ℕ) (log log' : Journal) (s n : ℕ) (ls : List LogValue) → ((sh : ℕ) → n ≤ sh → records log' s sh ≡ records log s sh) → AreKept floor log s n ls → AreKept floor log' s n ls
+    kept_after floor log log' s n [] same h = tt
+    kept_after floor log log' s n (l ∷ ls) same h =
+        (subst (λ rs. IsKept floor rs l.kept) (sym (same n (omega arith))) h.0, kept_after floor log log' s (n + 1) ls (λ sh beyond. same sh (omega (arith, beyond))) h.1)
+kept_put floor log log' s n (suc i) at r (l ∷ ls) late is here others h =
+    (subst (λ rs. IsKept floor rs l.kept) (sym (others n (λ e. absurd (apart at n i is e)))) h.0, kept_put floor log log' s (n + 1) i at r ls late (omega (arith, is)) here others h.1)
+  where
+    apart : (at n i : ℕ) → at ≡ n + suc i → at ≡ n → ⊥
+    apart at n i is e = omega (arith, is, e)
+
+-- ---- the decision
+
+module _ (v : StreamValue) (log : Journal) (by : ℕ) (item : NewItem) (shown : Shows v log) where
+  pub put_spent : v.next ≡ last_number → (Err refusal.Spent ≡ answer_of (put log v.clock by v.no item)) × Shows v (with_lines (lines_of (put log v.clock by v.no item)) log)
+  put_spent spent =
+      after_refused _ refusal.Spent log (λ l. Shows v l) (refused_if _ _ _ (is_number (next_number log v.no) last_number (shown.next_is ∙ spent))) shown
+
+  home_is : home log v.no item.hash ≡ home_among (filter is_open v.tree) item.hash
+  home_is = ap (λ xs. home_among (filter is_open xs) item.hash) shown.shards_are
+
+  record_is : record { seq = next_number log v.no; arrival = v.clock; bytes = length item.payload; key = item.key; payload = item.payload } ≡ put_record v item
+  record_is = ap (λ n. let r : Logged = record { seq = n; arrival = v.clock; bytes = length item.payload; key = item.key; payload = item.payload } in r) shown.next_is
+
+  -- the records of a shard after the line
+  records_by : (a b : Bool) (sh : ℕ) → (v.no == v.no) ≡ a → (home log v.no item.hash == sh) ≡ b
+      → records (put_line log v.clock by v.no (next_number log v.no) item ∷ log) v.no sh ≡ (if a && b then records log v.no sh ++ record { seq = next_number log v.no; arrival = v.clock; bytes = length item.payload; key = item.key; payload = item.payload } ∷ [] else records log v.no sh)
+  records_by a b sh isa isb = ap (λ c. if c && (home log v.no item.hash == sh) then records log v.no sh ++ record { seq = next_number log v.no; arrival = v.clock; bytes = length item.payload; key = item.key; payload = item.payload } ∷ [] else records log v.no sh) isa
+      ∙ ap (λ c. if a && c then records log v.no sh ++ record { seq = next_number log v.no; arrival = v.clock; bytes = length item.payload; key = item.key; payload = item.payload } ∷ [] else records log v.no sh) isb
+
+  here : (sh : ℕ) → home log v.no item.hash ≡ sh → records (put_line log v.clock by v.no (next_number log v.no) item ∷ log) v.no sh ≡ records log v.no sh ++ put_record v item ∷ []
+  here sh is = records_by true true sh (same_number v.no) (is_number (home log v.no item.hash) sh is) ∙ ap (λ r. records log v.no sh ++ r ∷ []) record_is
+
+  elsewhere : (sh : ℕ) → home log v.no item.hash ≢ sh → records (put_line log v.clock by v.no (next_number log v.no) item ∷ log) v.no sh ≡ records log v.no sh
+  elsewhere sh differ = records_by true false sh (same_number v.no) (is_other (home log v.no item.hash) sh differ)
+
+  shows_put : (sh : ℕ) → sh ≡ home_among (filter is_open v.tree) item.hash → sh < length v.tree → floor_of v.cut ≤ v.clock
+      → Shows (record v { logs = with_appended sh (put_record v item) v.logs; next = v.next + 1; clock_before = v.clock; cut_before = v.cut }) (put_line log v.clock by v.no (next_number log v.no) item ∷ log)
+  shows_put sh at within trims =
+      let is : home log v.no item.hash ≡ sh = home_is ∙ sym at in
+      record {
+        live = shown.live;
+        was = shown.was;
+        named = shown.named;
+        shards_are = shown.shards_are;
+        next_is = one_more (v.no == v.no) (next_number log v.no) v.next (same_number v.no) shown.next_is;
+        floor_is = same_floor_at log (put_line log v.clock by v.no (next_number log v.no) item) v.clock v.no refl ∙ shown.floor_is;
+        kept =
+            kept_put (floor_of v.cut) log (put_line log v.clock by v.no (next_number log v.no) item ∷ log) v.no 0 sh sh (put_record v item) v.logs trims (omega arith) (here sh is)
+            (λ other differ. elsewhere other (λ e. differ (sym is ∙ e))) shown.kept;
+        none_beyond = λ other beyond. elsewhere other (λ e. past sh other (length v.tree) within beyond (sym is ∙ e)) ∙ shown.none_beyond other beyond;
+      }
+    where
+      one_more : (b : Bool) (n next : ℕ) → b ≡ true → n ≡ next → (if b then 1 else 0) + n ≡ next + 1
+      one_more true n next h e = omega (arith, e)
+      one_more false n next h e = absurd cc
+
+      past : (sh other len : ℕ) → sh < len → len ≤ other → sh ≡ other → ⊥
+      past sh other len within beyond e = omega (arith, within, beyond, e)
+
+  place_is : (sh : ℕ) → sh ≡ home_among (filter is_open v.tree) item.hash → record { shard = sh; seq = v.next } ≡ put_place log v.no (next_number log v.no) item
+  place_is sh at =
+      ap (λ n. let p : Place = record { shard = n; seq = v.next } in p) (at ∙ sym home_is)
+      ∙ ap (λ n. let p : Place = record { shard = home log v.no item.hash; seq = n } in p) (sym shown.next_is)
+
+  pub put_done : (sh next : ℕ) (logs : List LogValue) → next ≡ v.next + 1 → v.next ≢ last_number → sh ≡ home_among (filter is_open v.tree) item.hash → sh < length v.tree → floor_of v.cut ≤ v.clock → logs ≡ with_appended sh (put_record v item) v.logs
+      → (Ok (reply.Put (record { shard = sh; seq = v.next })) ≡ answer_of (put log v.clock by v.no item))
+      × Shows (record v { logs = logs; next = next; clock_before = v.clock; cut_before = v.cut }) (with_lines (lines_of (put log v.clock by v.no item)) log)
+  put_done sh next logs drawn more at within trims are =
+      let w : StreamValue = record v { logs = logs; next = next; clock_before = v.clock; cut_before = v.cut } in
+      let shows : Shows w (put_line log v.clock by v.no (next_number log v.no) item ∷ log) =
+      subst (λ (n : ℕ). Shows (record v { logs = logs; next = n; clock_before = v.clock; cut_before = v.cut }) (put_line log v.clock by v.no (next_number log v.no) item ∷ log)) (sym drawn)
+      (subst (λ (ls : List LogValue). Shows (record v { logs = ls; next = v.next + 1; clock_before = v.clock; cut_before = v.cut }) (put_line log v.clock by v.no (next_number log v.no) item ∷ log)) (sym are) (shows_put sh at within trims)) in
+      let both = after_accepted (put log v.clock by v.no item) (put_line log v.clock by v.no (next_number log v.no) item ∷ []) (reply.Put (put_place log v.no (next_number log v.no) item)) log (λ l. Shows w l)
+      (passed_if _ _ _ (is_other (next_number log v.no) last_number (λ e. more (sym shown.next_is ∙ e)))) shows in
+      (ap (λ (p : Place). Ok (reply.Put p)) (place_is sh at) ∙ both.0, both.1)
+
+-- ---- a stream still
+
+pub ends_later : (next higher : ℕ) (xs : List ShardState) → next ≤ higher → AllByRecursion (EndsUnder next) xs → AllByRecursion (EndsUnder higher) xs
+ends_later next higher xs le h = all_weaker (EndsUnder next) (EndsUnder higher) (λ x a. under x.closing a) xs h
+  where
+    under : (o : Option Closing) → IsClosedUnder next o → IsClosedUnder higher o
+    under None a = tt
+    under (Some closing) a = omega arith
+
+under_more : (last : Option ℕ) (next higher : ℕ) → next + 1 ≤ higher → IsUnder next last → IsUnder higher last
+under_more None next higher more h = tt
+under_more (Some n) next higher more h = omega arith
+
+pub one_free : (n m : ℕ) → m ≡ n + 1 → n ≢ last_number → n < 2 ^ 64 → m < 2 ^ 64
+one_free n m is free fits = omega (arith, is, free, fits)
+
+pub stream_put : (v : StreamValue) (sh next : ℕ) (r : Logged) (logs : List LogValue) → next ≡ v.next + 1 → v.next ≢ last_number → r.seq ≡ v.next → r.arrival ≡ v.clock → logs ≡ with_appended sh r v.logs → IsStream v
+    → IsStream (record v { logs = logs; next = next; clock_before = v.clock; cut_before = v.cut })
+stream_put v sh next r logs drawn free number arrival are is =
+    let one : next ≤ v.next + 1 = omega (arith, drawn) in
+    let more : v.next + 1 ≤ next = omega (arith, drawn) in
+    record {
+      as_many = ap length are ∙ length-appended sh r v.logs ∙ is.as_many;
+      numbers =
+          subst (AllByRecursion (IsBelow next)) (sym are)
+          (all-appended (IsBelow v.next) (IsBelow next) sh r (λ l h. under_more l.last v.next next more h) (λ l h. omega (arith, number, drawn)) v.logs is.numbers);
+      endings = ends_later v.next next v.tree (omega (arith, drawn)) is.endings;
+      arrivals =
+          subst (AllByRecursion (HasArrived v.clock)) (sym are)
+          (all-appended (HasArrived v.clock) (HasArrived v.clock) sh r (λ l h. h) (λ l h. all-append (λ (x : Logged). x.arrival ≤ v.clock) l.kept (r ∷ []) h (omega (arith, arrival), tt)) v.logs (arrived_later v.clock_before v.clock v.logs is.order is.arrivals));
+      order = omega arith;
+      trims = is.trims;
+      trims_before = is.trims;
+      drawn = omega (arith, drawn);
+      fits = one_free v.next next drawn free is.fits;
+    }

@@ -1,0 +1,158 @@
+-- What a stream shows after a split or a merge, and that it is a stream still.
+use Rattle.std.proofs.Common.{◌≡◌, ◌≢◌, ℕ, zero, suc, ◌+◌, ◌^◌, ◌<◌, ◌≤◌, Bool, true, false, List, [], ◌∷◌, ◌++◌, length, Option, Some, None, refl, sym, ap, subst, ◌∙◌, arith, length-append}
+use Rattle.std.specs.Prelude.{◌==◌, if◌then◌else◌, slice_get, Ok}
+use Rattle.std.specs.List.{AllByRecursion}
+use Rattle.kds_base.specs.Span.{joined, lower_part, upper_part}
+use Rattle.kds_defs.proofs.Decisions.{after_accepted}
+use Rattle.kds_defs.proofs.Numbers.{length-closed}
+use Rattle.kds_defs.specs.declared.reply.Reply.TheVariants as reply
+use Rattle.kds_defs.specs.Decision.{Accepted}
+use Rattle.kds_defs.specs.Histories.{answer_of, lines_of}
+use Rattle.kds_defs.specs.Journal.{Journal, Line, with_lines}
+use Rattle.kds_defs.specs.Records.{left_among, next_number, records}
+use Rattle.kds_defs.specs.Shards.{Closing, ShardState, merged_shards, new_shard, range_of, shards, split_shards, with_closed}
+use Rattle.kds_defs.specs.StreamCommands.{last_number, merge, split}
+use Rattle.kds_defs.specs.Streams.{floor_of, is_live, name_of, was_made}
+use Rattle.kds_log.specs.Log.{LogValue}
+use Rattle.kds_stream.proofs.Cuts.{same_floor_at}
+use Rattle.kds_stream.proofs.LogLemmas.{all-append, all_weaker, arrived_later, below_higher}
+use Rattle.kds_stream.proofs.Others.{kept_along}
+use Rattle.kds_stream.proofs.Puts.{ends_later, one_free, same_number}
+use Rattle.kds_stream.specs.Showing.{AreKept, Shows, merge_line, split_line}
+use Rattle.kds_stream.specs.Value.{EndsUnder, HasArrived, IsBelow, IsClosedUnder, IsStream, StreamValue, empty_log}
+
+-- ---- the shards after it
+
+pub length-split : (sh at start : ℕ) (closing : Closing) (xs : List ShardState) → length (split_shards sh at closing start xs) ≡ length xs + 2
+length-split sh at start closing xs =
+    length-append (with_closed sh closing xs) (new_shard (length xs) (lower_part (range_of (slice_get xs sh)) at) (Some sh) None start ∷ new_shard (length xs + 1) (upper_part (range_of (slice_get xs sh)) at) (Some sh) None start ∷ [])
+    ∙ ap (λ n. n + 2) (length-closed sh closing xs)
+
+pub length-merged : (sh other start : ℕ) (closing : Closing) (xs : List ShardState) → length (merged_shards sh other closing start xs) ≡ length xs + 1
+length-merged sh other start closing xs =
+    length-append (with_closed other closing (with_closed sh closing xs)) (new_shard (length xs) (joined (range_of (slice_get xs sh)) (range_of (slice_get xs other))) (Some sh) (Some other) start ∷ [])
+    ∙ ap (λ n. n + 1) (length-closed other closing (with_closed sh closing xs) ∙ length-closed sh closing xs)
+
+ends_closed : (next sh : ℕ) (closing : Closing) (xs : List ShardState) → closing.number < next → AllByRecursion (EndsUnder next) xs → AllByRecursion (EndsUnder next) (with_closed sh closing xs)
+ends_closed next sh closing [] below h = tt
+ends_closed next zero closing (x ∷ xs) below h = (below, h.1)
+ends_closed next (suc sh) closing (x ∷ xs) below h = (h.0, ends_closed next sh closing xs below h.1)
+
+ends_split : (next sh at start : ℕ) (closing : Closing) (xs : List ShardState) → closing.number < next → AllByRecursion (EndsUnder next) xs → AllByRecursion (EndsUnder next) (split_shards sh at closing start xs)
+ends_split next sh at start closing xs below h = all-append (EndsUnder next) (with_closed sh closing xs) _ (ends_closed next sh closing xs below h) (tt, (tt, tt))
+
+ends_merged : (next sh other start : ℕ) (closing : Closing) (xs : List ShardState) → closing.number < next → AllByRecursion (EndsUnder next) xs → AllByRecursion (EndsUnder next) (merged_shards sh other closing start xs)
+ends_merged next sh other start closing xs below h =
+    all-append (EndsUnder next) (with_closed other closing (with_closed sh closing xs)) _ (ends_closed next other closing (with_closed sh closing xs) below (ends_closed next sh closing xs below h)) (tt, tt)
+
+-- ---- the logs after it
+
+kept_empty : (floor : ℕ) (log : Journal) (s n : ℕ) (new : List LogValue) → AllByRecursion (λ l. l ≡ empty_log) new → ((sh : ℕ) → n ≤ sh → records log s sh ≡ []) → AreKept floor log s n new
+kept_empty floor log s n [] h none = tt
+kept_empty floor log s n (l ∷ ls) h none = (
+  record { from = 0; early = omega arith; rest = ap (λ (x : LogValue). x.kept) h.0 ∙ ap (left_among 0 0) (sym (none n (omega arith))) },
+  kept_empty floor log s (n + 1) ls h.1 (λ sh beyond. none sh (omega (arith, beyond))),
+)
+
+kept_grown : (floor : ℕ) (log : Journal) (s n : ℕ) (ls new : List LogValue) → AllByRecursion (λ l. l ≡ empty_log) new → ((sh : ℕ) → n + length ls ≤ sh → records log s sh ≡ []) → AreKept floor log s n ls → AreKept floor log s n (ls ++ new)
+kept_grown floor log s n [] new h none kept = kept_empty floor log s n new h (λ sh beyond. none sh (omega (arith, beyond)))
+kept_grown floor log s n (l ∷ ls) new h none kept = (kept.0, kept_grown floor log s (n + 1) ls new h (λ sh beyond. none sh (omega (arith, beyond))) kept.1)
+
+all_empty : (P : LogValue → Type 0) (new : List LogValue) → P empty_log → AllByRecursion (λ l. l ≡ empty_log) new → AllByRecursion P new
+all_empty P new p h = all_weaker (λ l. l ≡ empty_log) P (λ l is. subst P (sym is) p) new h
+
+-- ---- the stream after it
+
+pub stream_grown : (v : StreamValue) (tree : List ShardState) (new : List LogValue) (next : ℕ) → next ≡ v.next + 1 → v.next ≢ last_number → AllByRecursion (λ l. l ≡ empty_log) new → length tree ≡ length v.tree + length new → AllByRecursion (EndsUnder next) tree → IsStream v
+    → IsStream (record v { tree = tree; logs = v.logs ++ new; next = next; clock_before = v.clock; cut_before = v.cut })
+stream_grown v tree new next drawn free empty grown ends is = record {
+  as_many = omega (arith, length-append v.logs new, is.as_many, grown);
+  numbers = all-append (IsBelow next) v.logs new (below_higher v.next next v.logs (omega (arith, drawn)) is.numbers) (all_empty (IsBelow next) new tt empty);
+  endings = ends;
+  arrivals = all-append (HasArrived v.clock) v.logs new (arrived_later v.clock_before v.clock v.logs is.order is.arrivals) (all_empty (HasArrived v.clock) new tt empty);
+  order = omega arith;
+  trims = is.trims;
+  trims_before = is.trims;
+  drawn = omega (arith, drawn);
+  fits = one_free v.next next drawn free is.fits;
+}
+
+-- ... of a journal with one line more, which adds no record
+shows_grown : (v : StreamValue) (log : Journal) (line : Line) (tree : List ShardState) (new : List LogValue) (next : ℕ) → line.clock ≡ v.clock → is_live (line ∷ log) v.no ≡ is_live log v.no → was_made (line ∷ log) v.no ≡ was_made log v.no → name_of (line ∷ log) v.no ≡ name_of log v.no
+    → ((sh : ℕ) → records (line ∷ log) v.no sh ≡ records log v.no sh) → shards (line ∷ log) v.no ≡ tree → next_number (line ∷ log) v.no ≡ next → AllByRecursion (λ l. l ≡ empty_log) new → length tree ≡ length v.tree + length new → length v.logs ≡ length v.tree → Shows v log
+    → Shows (record v { tree = tree; logs = v.logs ++ new; next = next; clock_before = v.clock; cut_before = v.cut }) (line ∷ log)
+shows_grown v log line tree new next at live was named same shards_are next_is empty grown as_many show = record {
+  live = live ∙ show.live;
+  was = was ∙ show.was;
+  named = named ∙ show.named;
+  shards_are = shards_are;
+  next_is = next_is;
+  floor_is = same_floor_at log line v.clock v.no at ∙ show.floor_is;
+  kept = kept_along (floor_of v.cut) log (line ∷ log) v.no 0 (v.logs ++ new) same (kept_grown (floor_of v.cut) log v.no 0 v.logs new empty (λ sh beyond. show.none_beyond sh (omega (arith, beyond, as_many))) show.kept);
+  none_beyond = λ sh beyond. same sh ∙ show.none_beyond sh (omega (arith, beyond, grown));
+}
+
+chosen : {A : Type 0} (b : Bool) (x y : A) → b ≡ true → (if b then x else y) ≡ x
+chosen true x y h = refl
+chosen false x y h = absurd cc
+
+one_more : (b : Bool) (n m : ℕ) → b ≡ true → n ≡ m → (if b then 1 else 0) + n ≡ m + 1
+one_more true n m h e = omega (arith, e)
+one_more false n m h e = absurd cc
+
+module _ (v : StreamValue) (log : Journal) (by : ℕ) (show : Shows v log) (is : IsStream v) where
+  pub shows_split : (sh at next : ℕ) (tree : List ShardState) (logs : List LogValue) → next ≡ v.next + 1 → tree ≡ split_shards sh at (record { number = v.next; clock = v.clock }) (v.next + 1) v.tree → logs ≡ v.logs ++ (empty_log ∷ empty_log ∷ [])
+      → Shows (record v { tree = tree; logs = logs; next = next; clock_before = v.clock; cut_before = v.cut }) (split_line log v.clock by v.no sh at ∷ log)
+  shows_split sh at next tree logs drawn tree_is logs_are =
+      let more : next_number (split_line log v.clock by v.no sh at ∷ log) v.no ≡ v.next + 1 = one_more (v.no == v.no) (next_number log v.no) v.next (same_number v.no) show.next_is in
+      let after : shards (split_line log v.clock by v.no sh at ∷ log) v.no ≡ tree =
+      chosen (v.no == v.no) _ (shards log v.no) (same_number v.no)
+      ∙ ap (λ n. split_shards sh at (record { number = n; clock = v.clock }) (next_number (split_line log v.clock by v.no sh at ∷ log) v.no) (shards log v.no)) show.next_is
+      ∙ ap (λ n. split_shards sh at (record { number = v.next; clock = v.clock }) n (shards log v.no)) more
+      ∙ ap (split_shards sh at (record { number = v.next; clock = v.clock }) (v.next + 1)) show.shards_are
+      ∙ sym tree_is in
+      subst (λ (ls : List LogValue). Shows (record v { tree = tree; logs = ls; next = next; clock_before = v.clock; cut_before = v.cut }) (split_line log v.clock by v.no sh at ∷ log)) (sym logs_are)
+      (shows_grown v log (split_line log v.clock by v.no sh at) tree (empty_log ∷ empty_log ∷ []) next refl refl refl refl (λ n. refl) after (more ∙ sym drawn) (refl, (refl, tt))
+      (ap length tree_is ∙ length-split sh at (v.next + 1) (record { number = v.next; clock = v.clock }) v.tree) is.as_many show)
+
+  pub shows_merged : (sh other next : ℕ) (tree : List ShardState) (logs : List LogValue) → next ≡ v.next + 1 → tree ≡ merged_shards sh other (record { number = v.next; clock = v.clock }) (v.next + 1) v.tree → logs ≡ v.logs ++ (empty_log ∷ [])
+      → Shows (record v { tree = tree; logs = logs; next = next; clock_before = v.clock; cut_before = v.cut }) (merge_line log v.clock by v.no sh other ∷ log)
+  shows_merged sh other next tree logs drawn tree_is logs_are =
+      let more : next_number (merge_line log v.clock by v.no sh other ∷ log) v.no ≡ v.next + 1 = one_more (v.no == v.no) (next_number log v.no) v.next (same_number v.no) show.next_is in
+      let after : shards (merge_line log v.clock by v.no sh other ∷ log) v.no ≡ tree =
+      chosen (v.no == v.no) _ (shards log v.no) (same_number v.no)
+      ∙ ap (λ n. merged_shards sh other (record { number = n; clock = v.clock }) (next_number (merge_line log v.clock by v.no sh other ∷ log) v.no) (shards log v.no)) show.next_is
+      ∙ ap (λ n. merged_shards sh other (record { number = v.next; clock = v.clock }) n (shards log v.no)) more
+      ∙ ap (merged_shards sh other (record { number = v.next; clock = v.clock }) (v.next + 1)) show.shards_are
+      ∙ sym tree_is in
+      subst (λ (ls : List LogValue). Shows (record v { tree = tree; logs = ls; next = next; clock_before = v.clock; cut_before = v.cut }) (merge_line log v.clock by v.no sh other ∷ log)) (sym logs_are)
+      (shows_grown v log (merge_line log v.clock by v.no sh other) tree (empty_log ∷ []) next refl refl refl refl (λ n. refl) after (more ∙ sym drawn) (refl, tt)
+      (ap length tree_is ∙ length-merged sh other (v.next + 1) (record { number = v.next; clock = v.clock }) v.tree) is.as_many show)
+
+pub stream_split : (v : StreamValue) (sh at next : ℕ) (tree : List ShardState) (logs : List LogValue) → next ≡ v.next + 1 → v.next ≢ last_number → tree ≡ split_shards sh at (record { number = v.next; clock = v.clock }) (v.next + 1) v.tree → logs ≡ v.logs ++ (empty_log ∷ empty_log ∷ []) → IsStream v
+    → IsStream (record v { tree = tree; logs = logs; next = next; clock_before = v.clock; cut_before = v.cut })
+stream_split v sh at next tree logs drawn free tree_is logs_are is =
+    let how : Closing = record { number = v.next; clock = v.clock } in
+    subst (λ (ls : List LogValue). IsStream (record v { tree = tree; logs = ls; next = next; clock_before = v.clock; cut_before = v.cut })) (sym logs_are)
+    (stream_grown v tree (empty_log ∷ empty_log ∷ []) next drawn free (refl, (refl, tt)) (ap length tree_is ∙ length-split sh at (v.next + 1) how v.tree)
+    (subst (AllByRecursion (EndsUnder next)) (sym tree_is) (ends_split next sh at (v.next + 1) how v.tree (omega (arith, drawn)) (ends_later v.next next v.tree (omega (arith, drawn)) is.endings))) is)
+
+pub stream_merged : (v : StreamValue) (sh other next : ℕ) (tree : List ShardState) (logs : List LogValue) → next ≡ v.next + 1 → v.next ≢ last_number → tree ≡ merged_shards sh other (record { number = v.next; clock = v.clock }) (v.next + 1) v.tree → logs ≡ v.logs ++ (empty_log ∷ []) → IsStream v
+    → IsStream (record v { tree = tree; logs = logs; next = next; clock_before = v.clock; cut_before = v.cut })
+stream_merged v sh other next tree logs drawn free tree_is logs_are is =
+    let how : Closing = record { number = v.next; clock = v.clock } in
+    subst (λ (ls : List LogValue). IsStream (record v { tree = tree; logs = ls; next = next; clock_before = v.clock; cut_before = v.cut })) (sym logs_are)
+    (stream_grown v tree (empty_log ∷ []) next drawn free (refl, tt) (ap length tree_is ∙ length-merged sh other (v.next + 1) how v.tree)
+    (subst (AllByRecursion (EndsUnder next)) (sym tree_is) (ends_merged next sh other (v.next + 1) how v.tree (omega (arith, drawn)) (ends_later v.next next v.tree (omega (arith, drawn)) is.endings))) is)
+
+-- ---- what the calls owe
+
+pub split_done : (u v w : StreamValue) (log : Journal) (by sh at : ℕ) → v ≡ u → split log u.clock by u.no sh at ≡ Accepted (split_line log u.clock by u.no sh at ∷ []) reply.Done → Shows w (split_line log v.clock by v.no sh at ∷ log)
+    → (Ok reply.Done ≡ answer_of (split log u.clock by u.no sh at)) × Shows w (with_lines (lines_of (split log u.clock by u.no sh at)) log)
+split_done u v w log by sh at same is shows =
+    after_accepted (split log u.clock by u.no sh at) (split_line log u.clock by u.no sh at ∷ []) reply.Done log (λ l. Shows w l) is (subst (λ (x : StreamValue). Shows w (split_line log x.clock by x.no sh at ∷ log)) same shows)
+
+pub merge_done : (u v w : StreamValue) (log : Journal) (by sh other : ℕ) → v ≡ u → merge log u.clock by u.no sh other ≡ Accepted (merge_line log u.clock by u.no sh other ∷ []) reply.Done → Shows w (merge_line log v.clock by v.no sh other ∷ log)
+    → (Ok reply.Done ≡ answer_of (merge log u.clock by u.no sh other)) × Shows w (with_lines (lines_of (merge log u.clock by u.no sh other)) log)
+merge_done u v w log by sh other same is shows =
+    after_accepted (merge log u.clock by u.no sh other) (merge_line log u.clock by u.no sh other ∷ []) reply.Done log (λ l. Shows w l) is (subst (λ (x : StreamValue). Shows w (merge_line log x.clock by x.no sh other ∷ log)) same shows)

@@ -1,0 +1,46 @@
+use Rattle.std.proofs.Common.{◌≡◌, ◌≢◌, ℕ, ◌+◌, ◌<◌, ◌≤◌, ◌++◌, List, length, take, drop, sym, ap, subst, ◌∙◌, refl, arith}
+use Rattle.std.specs.Prelude.{Ok}
+use Rattle.std.specs.List.{AllByRecursion}
+use Rattle.std.proofs.lemmas.Option.{slice_get_within}
+use Rattle.kds_defs.specs.declared.reply.Reply.TheVariants as reply
+use Rattle.kds_defs.specs.Histories.{answer_of, lines_of}
+use Rattle.kds_defs.specs.Journal.{with_lines}
+use Rattle.kds_defs.specs.StreamCommands.{last_number, put}
+use Rattle.kds_log.specs.Log.{LogValue}
+use Rattle.kds_stream.proofs.LogLemmas.{appended_back, arrived_later}
+use Rattle.kds_stream.proofs.Puts.{led_along, put_done, put_record, put_spent, stream_put}
+use Rattle.kds_stream.specs.Showing.{Shows}
+use Rattle.kds_stream.specs.Value.{HasArrived, StreamValue}
+use Rattle.kds_stream.specs.contracts.stream.Stream.{the_view}
+use Rattle.kds_stream.proofs.stream.Stream.put.Goals as goal
+
+pub returns-then-seq-clause-answered : goal.returns-then-seq-clause-answered
+returns-then-seq-clause-answered c log by shown =
+    put_spent c.args.self.now log by c.args.item shown (sym (ap (λ (v : StreamValue). v.next) c.self.view_is) ∙ sym c.seq.view_is ∙ c.if-seq.true)
+
+pub append_at-requires-clause-within : goal.append_at-requires-clause-within
+append_at-requires-clause-within c =
+    let inside = slice_get_within c.self.inside.tree c.home-shard.result c.home-shard.ensures.found.state c.home-shard.ensures.found.made in
+    omega (arith, inside, c.shard.view_is, c.self.invariant.as_many, ap (length {A = LogValue}) c.deref_mut.ensures.value)
+
+pub append_at-requires-clause-arrival : goal.append_at-requires-clause-arrival
+append_at-requires-clause-arrival c =
+    subst (AllByRecursion (HasArrived c.self.inside.clock)) (sym c.deref_mut.ensures.value)
+    (arrived_later c.self.inside.clock_before c.self.inside.clock c.self.inside.logs.items c.self.invariant.order c.self.invariant.arrivals)
+
+pub invariant_of-self-2 : goal.invariant_of-self-2
+invariant_of-self-2 c =
+    let v : StreamValue = the_view c.self.inside in
+    let free : v.next ≢ last_number = λ e. c.if-seq.false (c.seq.view_is ∙ e) in
+    stream_put v c.home-shard.result _ (put_record v c.args.item) _ (ap (λ n. n + 1) c.seq-2.view_is) free refl refl
+    (appended_back _ _ _ _ c.append_at.new.logs _ _ (omega arith) c.in_ok-append_at.ensures.ok c.deref_mut.ensures.value c.shard.view_is) c.self.invariant
+
+pub returns-clause-answered : goal.returns-clause-answered
+returns-clause-answered c log by shown =
+    let v : StreamValue = the_view c.self.inside in
+    let inside = slice_get_within c.self.inside.tree c.home-shard.result c.home-shard.ensures.found.state c.home-shard.ensures.found.made in
+    let more : v.next ≢ last_number = λ e. c.if-seq.false (c.seq.view_is ∙ e) in
+    let shown' : Shows v log = subst (λ (u : StreamValue). Shows u log) (sym c.self.view_is) shown in
+    let done = put_done v log by c.args.item shown' c.home-shard.result _ _ (ap (λ n. n + 1) c.seq-2.view_is) more c.home-shard.ensures.value inside c.self.invariant.trims
+    (appended_back _ _ _ _ c.append_at.new.logs _ _ (omega arith) c.in_ok-append_at.ensures.ok c.deref_mut.ensures.value c.shard.view_is) in
+    led_along (λ (u : StreamValue). put log u.clock by u.no c.args.item) v c.args.self.now _ log _ c.self.view_is done

@@ -1,0 +1,56 @@
+-- Which journals a stream shows.
+use Rattle.std.specs.Prelude.{ℕ, ◌≡◌, ◌+◌, ◌≤◌, Bool, true, false, List, [], ◌∷◌, length}
+use Rattle.kds_defs.specs.declared.entry.Entry.{Entry}
+use Rattle.kds_defs.specs.declared.entry.Entry.TheVariants as entry
+use Rattle.kds_defs.specs.Journal.{Journal, Line, plain_line}
+use Rattle.kds_defs.specs.Records.{Logged, left_among, next_number, records}
+use Rattle.kds_defs.specs.Shards.{shards}
+use Rattle.kds_defs.specs.Streams.{floor_of, floor_of_lines, is_live, name_of, trim_floor, was_made}
+use Rattle.kds_log.specs.Log.{LogValue}
+use Rattle.kds_stream.specs.Value.{StreamValue}
+
+-- of these records all but some that arrived below the floor are kept
+pub record IsKept (floor : ℕ) (rs kept : List Logged) : Type 0 where
+  pub from : ℕ
+  pub early : from ≤ floor
+  pub rest : kept ≡ left_among from 0 rs
+
+-- each log keeps so the records of the shard at its place, from the place n on
+abbrev pub AreKept : ℕ → Journal → ℕ → ℕ → List LogValue → Type 0
+AreKept floor log s n [] = Unit {0}
+AreKept floor log s n (l ∷ ls) = IsKept floor (records log s n) l.kept × AreKept floor log s (n + 1) ls
+
+-- the stream's readings of the journal at its clock are its fields
+pub record Shows (v : StreamValue) (log : Journal) : Type 0 where
+  pub live : is_live log v.no ≡ true
+  pub was : was_made log v.no ≡ true
+  pub named : name_of log v.no ≡ v.name
+  pub shards_are : shards log v.no ≡ v.tree
+  pub next_is : next_number log v.no ≡ v.next
+  pub floor_is : trim_floor log v.clock v.no ≡ floor_of v.cut
+  pub kept : AreKept (floor_of v.cut) log v.no 0 v.logs
+  pub none_beyond : (sh : ℕ) → length v.tree ≤ sh → records log v.no sh ≡ []
+
+-- no line of the journal speaks of this stream
+pub record IsFresh (log : Journal) (s : ℕ) : Type 0 where
+  pub gone : is_live log s ≡ false
+  pub unmade : was_made log s ≡ false
+  pub undrawn : next_number log s ≡ 1
+  pub no_floor : floor_of_lines log s ≡ 0
+  pub no_shards : shards log s ≡ []
+  pub no_records : (sh : ℕ) → records log s sh ≡ []
+
+-- the stream that an entry speaks of
+abbrev pub stream_of : Entry → ℕ
+stream_of (entry.Made s name count) = s
+stream_of (entry.Put s sh number hash bytes) = s
+stream_of (entry.Split s sh at number low high) = s
+stream_of (entry.Merged s sh other number child) = s
+
+-- ---- the lines of a split and of a merge
+
+abbrev pub split_line : Journal → ℕ → ℕ → ℕ → ℕ → ℕ → Line
+split_line log c by s sh at = plain_line c by (entry.Split s sh at (next_number log s) (length (shards log s)) (length (shards log s) + 1))
+
+abbrev pub merge_line : Journal → ℕ → ℕ → ℕ → ℕ → ℕ → Line
+merge_line log c by s sh other = plain_line c by (entry.Merged s sh other (next_number log s) (length (shards log s)))

@@ -1,0 +1,97 @@
+-- What contracts see of a stream.
+use Rattle.std.specs.Prelude.{ℕ, zero, suc, ◌≡◌, ◌<◌, ◌≤◌, ◌-◌, ◌*◌, ◌^◌, max, Bool, false, not, nat_lt, if◌then◌else◌, List, [], ◌∷◌, ◌++◌, length, Option, Some, None}
+use Rattle.std.specs.List.{AllByRecursion}
+use Rattle.kds_defs.specs.declared.limits.TheConstants.{FIRST_HOURS, HOUR}
+use Rattle.kds_defs.specs.Records.{Logged, left_among}
+use Rattle.kds_defs.specs.Shards.{Closing, ShardState, is_closed_below}
+use Rattle.kds_defs.specs.Streams.{floor_of}
+use Rattle.kds_log.specs.Log.{LogValue}
+
+-- its number, its name, its shards, the log of each, its next number, its clock and its cut; and what clock and
+-- cut were before the last advance, if nothing has changed since
+pub record StreamValue : Type 0 where
+  pub no : ℕ
+  pub name : List ℕ
+  pub made : ℕ
+  pub tree : List ShardState
+  pub logs : List LogValue
+  pub next : ℕ
+  pub clock : ℕ
+  pub cut : Option ℕ
+  pub clock_before : ℕ
+  pub cut_before : Option ℕ
+
+-- the number, if there is one, is below this one
+abbrev pub IsUnder : ℕ → Option ℕ → Type 0
+IsUnder next None = Unit {0}
+IsUnder next (Some n) = n < next
+
+-- the log's numbers are below this one
+abbrev pub IsBelow : ℕ → LogValue → Type 0
+IsBelow next l = IsUnder next l.last
+
+-- what it keeps arrived at or before this moment
+abbrev pub HasArrived : ℕ → LogValue → Type 0
+HasArrived moment l = AllByRecursion (λ (r : Logged). r.arrival ≤ moment) l.kept
+
+-- the number that closed the shard, if it is closed, is below this one
+abbrev pub IsClosedUnder : ℕ → Option Closing → Type 0
+IsClosedUnder next None = Unit {0}
+IsClosedUnder next (Some closing) = closing.number < next
+
+abbrev pub EndsUnder : ℕ → ShardState → Type 0
+EndsUnder next x = IsClosedUnder next x.closing
+
+-- what holds of every stream
+pub record IsStream (v : StreamValue) : Type 0 where
+  pub as_many : length v.logs ≡ length v.tree
+  pub numbers : AllByRecursion (IsBelow v.next) v.logs
+  pub endings : AllByRecursion (EndsUnder v.next) v.tree
+  pub arrivals : AllByRecursion (HasArrived v.clock_before) v.logs
+  pub order : v.clock_before ≤ v.clock
+  pub trims : floor_of v.cut ≤ v.clock
+  pub trims_before : floor_of v.cut_before ≤ v.clock_before
+  pub drawn : 1 ≤ v.next
+  pub fits : v.next < 2 ^ 64
+
+-- after a change: when it was made, and what is trimmed, are as before, and going back to before the last advance
+-- leaves the present clock and cut
+pub record IsChangedAt (old new : StreamValue) : Type 0 where
+  pub made : new.made ≡ old.made
+  pub cut : new.cut ≡ old.cut
+  pub clock_before : new.clock_before ≡ old.clock
+  pub cut_before : new.cut_before ≡ old.cut
+
+-- the moment at or below which all is trimmed at a clock, by the retention alone
+abbrev pub cut_at : ℕ → Option ℕ
+cut_at clock = if nat_lt clock (FIRST_HOURS * HOUR) then None else Some (clock - FIRST_HOURS * HOUR)
+
+-- the later of two cuts
+abbrev pub later_cut : Option ℕ → Option ℕ → Option ℕ
+later_cut None cut = cut
+later_cut (Some a) None = Some a
+later_cut (Some a) (Some b) = Some (max a b)
+
+-- the log of a new shard
+abbrev pub empty_log : LogValue
+empty_log = record { kept = []; last = None }
+
+-- the logs with a record added to the one at a place
+abbrev pub with_appended : ℕ → Logged → List LogValue → List LogValue
+with_appended n r [] = []
+with_appended zero r (l ∷ ls) = record { kept = l.kept ++ r ∷ []; last = Some r.seq } ∷ ls
+with_appended (suc n) r (l ∷ ls) = l ∷ with_appended n r ls
+
+-- the log without the records that arrived below the floor
+abbrev pub settled_log : ℕ → LogValue → LogValue
+settled_log floor l = record l { kept = left_among floor 0 l.kept }
+
+-- the shard was made, and wasn't closed below the floor
+abbrev pub is_listed_at : ℕ → Option ShardState → Bool
+is_listed_at floor None = false
+is_listed_at floor (Some x) = not (is_closed_below floor x)
+
+-- the shard, where it is listed
+abbrev pub listed_at : ℕ → Option ShardState → Option ShardState
+listed_at floor None = None
+listed_at floor (Some x) = if is_closed_below floor x then None else Some x

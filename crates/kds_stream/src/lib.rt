@@ -1,0 +1,10 @@
+//! One stream: its shards, their records, its numbers, and what is trimmed.
+#![tactic(auto)]
+
+mod laws;
+mod logs;
+mod reading;
+mod stream;
+
+pub use laws::{fresh, other_lines};
+pub use stream::Stream;

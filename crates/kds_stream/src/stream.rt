@@ -1,0 +1,115 @@
+//! A stream.
+ghost use Rattle.std.specs.Prelude.{◌≡◌, ◌∷◌, ℕ, length, IfOk};
+ghost use Rattle.std.specs.List.{filter};
+ghost use Rattle.kds_defs.specs.declared.entry.Entry.TheVariants as entry;
+ghost use Rattle.kds_defs.specs.Journal.{Journal, plain_line};
+ghost use Rattle.kds_defs.specs.Lawful.{IsShardCount};
+ghost use Rattle.kds_defs.specs.Shards.{is_open};
+ghost use Rattle.kds_stream.specs.Showing.{IsFresh, Shows};
+
+mod clock;
+mod merges;
+mod puts;
+mod reads;
+mod splits;
+
+use crate::logs::new_logs;
+use crate::stream::clock::cut_at;
+use kds_base::{Memory, Moment, Name, Seq, StreamNo};
+use kds_log::ShardLog;
+use kds_tree::ShardTree;
+use std::alloc::Global;
+use std::marker::Model;
+
+/// One stream: its shards, the log of each, and the numbers and moments that it goes by. Contracts see its
+/// values, and say which journals it shows.
+#[derive(Drop)]
+pub struct Stream {
+    no: StreamNo,
+    name: Name,
+    made: Moment,
+    tree: ShardTree,
+    logs: Vec<ShardLog>,
+    next: Seq,
+    clock: Moment,
+    cut: Option<Moment>,
+    clock_before: Moment,
+    cut_before: Option<Moment>,
+}
+
+impl Model for Stream {
+    ghost use Rattle.kds_stream.specs.Value.{StreamValue, IsStream};
+
+    ghost Value = { StreamValue };
+
+    ghost view = { λ s. record { no = s.no; name = s.name; made = s.made; tree = s.tree; logs = s.logs.items; next = s.next; clock = s.clock; cut = s.cut; clock_before = s.clock_before; cut_before = s.cut_before } };
+
+    ghost invariant = { λ s. IsStream (record { no = s.no; name = s.name; made = s.made; tree = s.tree; logs = s.logs.items; next = s.next; clock = s.clock; cut = s.cut; clock_before = s.clock_before; cut_before = s.cut_before }) };
+}
+
+impl Stream {
+    /// A new stream, made at its clock (Kinesis API Reference, CreateStream).
+    pub fn new(
+        alloc: Global,
+        no: StreamNo,
+        name: Name,
+        made: Moment,
+        shards: u32,
+    ) -> Result<Stream, Memory>
+        requires { IsShardCount shards }
+        ensures shows { (log : Journal) (by : ℕ) → IsFresh log no
+            → IfOk result (λ v. Shows v (plain_line made by (entry.Made no name shards) ∷ log)) }
+        ensures fields { IfOk result (λ v. (v.no ≡ no) × (v.name ≡ name) × (v.clock ≡ made)) }
+        ensures made { IfOk result (λ v. v.made ≡ made) }
+    {
+        let tree = ShardTree::new(alloc, shards)?;
+        let logs = new_logs(alloc, shards)?;
+        Ok(Stream {
+            no,
+            name,
+            made,
+            tree,
+            logs,
+            next: Seq(1),
+            clock: made,
+            cut: cut_at(made),
+            clock_before: made,
+            cut_before: cut_at(made),
+        })
+    }
+
+    /// Its number.
+    pub fn no(&self) -> StreamNo
+        ensures { result ≡ self.now.no }
+    {
+        self.no
+    }
+
+    /// Its name.
+    pub fn name(&self) -> &Name
+        ensures { result.now ≡ self.now.name }
+    {
+        &self.name
+    }
+
+    /// Its shards.
+    pub fn tree(&self) -> &ShardTree
+        ensures { result.now ≡ self.now.tree }
+    {
+        &self.tree
+    }
+
+    /// The moment at or below which everything is trimmed, if it isn't before all moments.
+    pub fn cut(&self) -> Option<Moment>
+        ensures { result ≡ self.now.cut }
+    {
+        self.cut
+    }
+
+    /// How many of its shards are open.
+    pub fn open_count(&self) -> u64
+        ensures { result ≡ length (filter is_open self.now.tree) }
+    {
+        self.tree.open_count()
+    }
+}

@@ -1,0 +1,66 @@
+//! The clock of a stream, and what it trims.
+ghost use Rattle.std.specs.Prelude.{◌≡◌, ◌≤◌, map};
+ghost use Rattle.kds_defs.specs.Journal.{Journal};
+ghost use Rattle.kds_defs.specs.Streams.{floor_of};
+ghost use Rattle.kds_stream.specs.Showing.{Shows};
+ghost use Rattle.kds_stream.specs.Value.{cut_at, later_cut, settled_log};
+
+use crate::logs::settle_logs;
+use crate::stream::Stream;
+use kds_base::Moment;
+use kds_defs::limits::{FIRST_HOURS, HOUR};
+
+/// How long a record is kept, in milliseconds.
+const RETENTION: u64 = FIRST_HOURS as u64 * HOUR;
+
+/// The moment at or below which everything is trimmed at a clock.
+pub(super) fn cut_at(clock: Moment) -> Option<Moment>
+    ensures { result ≡ cut_at clock }
+{
+    let ms = clock.ms().checked_sub(RETENTION)?;
+    Moment::new(ms)
+}
+
+/// The later of two cuts.
+fn later_cut(a: Option<Moment>, b: Option<Moment>) -> Option<Moment>
+    ensures { result ≡ later_cut a b }
+{
+    match (a, b) {
+        (Some(a), Some(b)) => Some(if a < b { b } else { a }),
+        (Some(a), None) => Some(a),
+        (None, b) => b,
+    }
+}
+
+impl Stream {
+    /// Raises the clock and with it the cut, and drops nothing yet.
+    pub fn advance(&mut self, clock: Moment)
+        requires { self.old.clock ≤ clock }
+        ensures value { self.new ≡ record self.old { clock = clock; cut = later_cut self.old.cut (cut_at clock); clock_before = self.old.clock; cut_before = self.old.cut } }
+        ensures shows { (log : Journal) → Shows self.old log → Shows self.new log }
+    {
+        self.clock_before = self.clock;
+        self.cut_before = self.cut;
+        self.clock = clock;
+        self.cut = later_cut(self.cut, cut_at(clock));
+    }
+
+    /// Drops the records that are trimmed; no answer depends on it.
+    pub fn settle(&mut self)
+        ensures fields { (self.new.no ≡ self.old.no) × (self.new.name ≡ self.old.name) × (self.new.clock ≡ self.old.clock) }
+        ensures shows { (log : Journal) → Shows self.old log → Shows self.new log }
+        ensures dropped { self.new ≡ record self.old { logs = map (settled_log (floor_of self.old.cut)) self.old.logs; clock_before = self.old.clock; cut_before = self.old.cut } }
+    {
+        settle_logs(&mut self.logs, self.cut);
+        self.clock_before = self.clock;
+        self.cut_before = self.cut;
+    }
+
+    /// The clock and the cut are again what they were before the last advance, if nothing has changed since.
+    pub fn retreat(&mut self)
+        ensures { self.new ≡ record self.old { clock = self.old.clock_before; cut = self.old.cut_before } }
+    {
+        self.clock = self.clock_before;
+        self.cut = self.cut_before;
+    }
+}

@@ -1,0 +1,65 @@
+//! Merges of a stream's shards.
+ghost use Rattle.std.specs.Prelude.{◌≡◌, ◌≢◌, ◌∷◌, [], ℕ, IfOk, IfNone, IfSome, None, OnErr, OnOk};
+ghost use Rattle.kds_defs.specs.declared.reply.Reply.TheVariants as reply;
+ghost use Rattle.kds_defs.specs.Decision.{Accepted, Refused};
+ghost use Rattle.kds_defs.specs.Histories.{answer_of, lines_of};
+ghost use Rattle.kds_defs.specs.Journal.{Journal, with_lines};
+ghost use Rattle.kds_defs.specs.StreamCommands.{last_number, merge};
+ghost use Rattle.kds_stream.specs.Showing.{Shows, merge_line};
+ghost use Rattle.kds_stream.specs.Value.{IsChangedAt};
+ghost use Rattle.kds_tree.specs.Tree.{merge_refusal};
+
+use crate::stream::Stream;
+use kds_base::{Memory, Seq, ShardNo};
+use kds_defs::{Answer, Refusal, Reply};
+use kds_log::ShardLog;
+
+impl Stream {
+    /// Why a merge of the shard with the other is refused, if it is.
+    fn merge_refusal(&self, shard: ShardNo, other: ShardNo) -> Option<Refusal>
+        ensures refused { (log : Journal) (by : ℕ) → Shows self.now log → IfSome result (λ r. merge log self.now.clock by self.now.no shard other ≡ Refused r) }
+        ensures accepted { (log : Journal) (by : ℕ) → Shows self.now log → IfNone result (merge log self.now.clock by self.now.no shard other ≡ Accepted (merge_line log self.now.clock by self.now.no shard other ∷ []) reply.Done) }
+        ensures merges { IfNone result (merge_refusal self.now.tree shard other ≡ None) }
+        ensures free { IfNone result (self.now.next ≢ last_number) }
+    {
+        if !self.is_listed(shard) || !self.is_listed(other) {
+            return Some(Refusal::NoShard);
+        }
+        if let Some(refusal) = self.tree.merge_refusal(shard, other) {
+            return Some(refusal);
+        }
+        let next = self.next;
+        if next.0 == u64::MAX {
+            return Some(Refusal::Spent);
+        }
+        None
+    }
+
+    /// Merges a shard with the one beside it: both are closed with the next number, and their child comes last.
+    /// `NoShard` where one isn't listed, `ShardClosed` where one is closed, `NotAdjacent` where neither range
+    /// starts right after the other, `Spent` where the next number is the greatest of a `u64`
+    /// (Kinesis API Reference, MergeShards).
+    pub fn merge(&mut self, shard: ShardNo, other: ShardNo) -> Result<Answer, Memory>
+        ensures answered { (log : Journal) (by : ℕ) → Shows self.old log → IfOk result (λ a.
+            (a ≡ answer_of (merge log self.old.clock by self.old.no shard other))
+            × Shows self.new (with_lines (lines_of (merge log self.old.clock by self.old.no shard other)) log)) }
+        ensures fields { (self.new.no ≡ self.old.no) × (self.new.name ≡ self.old.name) × (self.new.clock ≡ self.old.clock) }
+        ensures refused { IfOk result (λ a. OnErr a (self.new ≡ self.old)) }
+        ensures changed { IfOk result (λ a. OnOk a (IsChangedAt self.old self.new)) }
+        ensures kept { OnErr result (self.new ≡ self.old) }
+    {
+        if let Some(refusal) = self.merge_refusal(shard, other) {
+            return Ok(Err(refusal));
+        }
+        let seq = self.next;
+        let alloc = *self.logs.allocator();
+        self.logs.reserve(1)?;
+        // The tree doesn't refuse the merge: it was asked.
+        let _child = self.tree.merge(shard, other, seq, self.clock)?;
+        self.next = Seq(seq.0 + 1);
+        self.logs.push_reserved(ShardLog::new(alloc, self.next));
+        self.clock_before = self.clock;
+        self.cut_before = self.cut;
+        Ok(Ok(Reply::Done))
+    }
+}

@@ -1,0 +1,47 @@
+//! Records that are put into a stream.
+ghost use Rattle.std.specs.Prelude.{◌≡◌, ℕ, IfOk, OnErr, OnOk};
+ghost use Rattle.kds_defs.specs.Histories.{answer_of, lines_of};
+ghost use Rattle.kds_defs.specs.Journal.{Journal, with_lines};
+ghost use Rattle.kds_defs.specs.Lawful.{IsItem};
+ghost use Rattle.kds_defs.specs.StreamCommands.{put};
+ghost use Rattle.kds_stream.specs.Showing.{Shows};
+ghost use Rattle.kds_stream.specs.Value.{IsChangedAt};
+
+use crate::logs::append_at;
+use crate::stream::Stream;
+use kds_base::{Memory, Seq};
+use kds_defs::{Answer, NewItem, Place, Refusal, Reply, Stored};
+use std::alloc::Global;
+
+impl Stream {
+    /// PutRecord: the record goes to the log of the open shard whose range contains its hash key, with the next
+    /// number, at the clock. `Spent` exactly where that number is the greatest of a `u64`
+    /// (Kinesis API Reference, PutRecord).
+    pub fn put(&mut self, _alloc: Global, item: NewItem) -> Result<Answer, Memory>
+        requires { IsItem item }
+        ensures answered { (log : Journal) (by : ℕ) → Shows self.old log → IfOk result (λ a.
+            (a ≡ answer_of (put log self.old.clock by self.old.no item))
+            × Shows self.new (with_lines (lines_of (put log self.old.clock by self.old.no item)) log)) }
+        ensures fields { (self.new.no ≡ self.old.no) × (self.new.name ≡ self.old.name) × (self.new.clock ≡ self.old.clock) }
+        ensures refused { IfOk result (λ a. OnErr a (self.new ≡ self.old)) }
+        ensures changed { IfOk result (λ a. OnOk a (IsChangedAt self.old self.new)) }
+        ensures kept { OnErr result (self.new ≡ self.old) }
+    {
+        let seq = self.next;
+        if seq.0 == u64::MAX {
+            return Ok(Err(Refusal::Spent));
+        }
+        let shard = self.tree.home(item.hash);
+        let record = Stored {
+            seq,
+            arrival: self.clock,
+            key: item.key,
+            payload: item.payload,
+        };
+        append_at(&mut self.logs, shard.0 as usize, record)?;
+        self.next = Seq(seq.0 + 1);
+        self.clock_before = self.clock;
+        self.cut_before = self.cut;
+        Ok(Ok(Reply::Put(Place { shard, seq })))
+    }
+}

@@ -1,0 +1,147 @@
+//! Iterators, and what is read of a stream.
+ghost use Rattle.std.specs.Prelude.{◌≡◌, ℕ, map, slice_get, true, IfOk, IfSome};
+ghost use Rattle.std.specs.Option.{option_map};
+ghost use Rattle.kds_defs.specs.Histories.{answer_of};
+ghost use Rattle.kds_defs.specs.Journal.{Journal};
+ghost use Rattle.kds_defs.specs.Lawful.{IsLimit};
+ghost use Rattle.kds_defs.specs.Listings.{ends_at, get_iterator, get_records, list_shards};
+ghost use Rattle.kds_defs.specs.Records.{batch, numbers_of, place_after, stored};
+ghost use Rattle.kds_defs.specs.Shards.{shown};
+ghost use Rattle.kds_defs.specs.Streams.{floor_of};
+ghost use Rattle.kds_stream.specs.Showing.{Shows};
+ghost use Rattle.kds_stream.specs.Value.{IsUnder, is_listed_at, listed_at};
+
+use crate::reading::{batch_at, behind, is_end, last_no, position};
+use crate::stream::Stream;
+use kds_base::{Items, Memory, ShardNo};
+use kds_defs::{Answer, Iter, Page, Refusal, Reply, Shard, Start, Stored};
+use kds_token::iter_expired;
+use std::alloc::Global;
+
+impl Stream {
+    /// The shard of this number, if it is listed.
+    fn listed(&self, no: ShardNo) -> Option<Shard>
+        ensures value { result ≡ option_map shown (listed_at (floor_of self.now.cut) (slice_get self.now.tree no)) }
+        ensures under { IfSome result (λ x. IsUnder self.now.next x.end) }
+    {
+        if self.tree.expired(no, self.cut) {
+            return None;
+        }
+        self.tree.shard(no).copied()
+    }
+
+    /// Whether the shard is listed: it was made, and wasn't closed at or before the cut.
+    pub fn is_listed(&self, no: ShardNo) -> bool
+        ensures { result ≡ is_listed_at (floor_of self.now.cut) (slice_get self.now.tree no) }
+    {
+        self.listed(no).is_some()
+    }
+
+    /// Where reading of a shard begins: an iterator, issued at the clock. `NoShard` where the shard isn't listed,
+    /// `BadNumber` where the number lies outside of the shard's (Kinesis API Reference, GetShardIterator).
+    pub fn iterator(&self, shard: ShardNo, from: Start) -> Answer
+        ensures { (log : Journal) → Shows self.now log → result ≡ answer_of (get_iterator log self.now.clock self.now.no shard from) }
+    {
+        let Some(state) = self.listed(shard) else {
+            return Err(Refusal::NoShard);
+        };
+        match position(from, self.next, &state) {
+            Some(position) => Ok(Reply::Iterator(Iter {
+                stream: self.no,
+                shard,
+                position,
+                issued: self.clock,
+            })),
+            None => Err(Refusal::BadNumber),
+        }
+    }
+
+    /// At most `limit` records at an iterator of this stream, and where reading goes on; at the end of a closed
+    /// shard its children in place of that. `Expired` where the iterator is too old, `NoShard` where its shard
+    /// isn't listed (Kinesis API Reference, GetRecords).
+    pub fn records(&self, alloc: Global, iter: &Iter, limit: u32) -> Result<Answer, Memory>
+        requires stream { iter.now.stream ≡ self.now.no }
+        requires limit { IsLimit limit }
+        ensures { (log : Journal) → Shows self.now log → IfOk result (λ a. a ≡ answer_of (get_records log self.now.clock iter.now limit)) }
+    {
+        if iter_expired(iter, self.clock) {
+            return Ok(Err(Refusal::Expired));
+        }
+        let Some(shard) = self.listed(iter.shard) else {
+            return Ok(Err(Refusal::NoShard));
+        };
+        let no = iter.shard;
+        let log = &self.logs[no.0 as usize];
+        let (batch, place) = batch_at(log, alloc, self.cut, iter.position, limit)?;
+        let left = log.first_left(self.cut, place);
+        let end = is_end(&shard, left.is_none());
+        let behind = behind(self.clock, left);
+        if end {
+            let children = self.tree.children(no)?;
+            return Ok(Ok(Reply::Records {
+                batch,
+                next: None,
+                behind,
+                children,
+            }));
+        }
+        let next = Iter {
+            stream: self.no,
+            shard: no,
+            position: place,
+            issued: self.clock,
+        };
+        Ok(Ok(Reply::Records {
+            batch,
+            next: Some(next),
+            behind,
+            children: Items::new(alloc),
+        }))
+    }
+
+    /// At most `limit` of the listed shards after a number, and where more of them follow
+    /// (Kinesis API Reference, ListShards).
+    pub fn shards(
+        &self,
+        _alloc: Global,
+        after: Option<ShardNo>,
+        limit: u32,
+    ) -> Result<Answer, Memory>
+        requires { IsLimit limit }
+        ensures { (log : Journal) → Shows self.now log → IfOk result (λ a. a ≡ answer_of (list_shards log self.now.clock self.now.no after limit)) }
+    {
+        let (shards, more) = self.tree.listed(self.cut, after, limit)?;
+        let page = Page {
+            stream: self.no,
+            after: last_no(shards.as_slice()),
+            issued: self.clock,
+        };
+        Ok(Ok(Reply::Shards {
+            shards,
+            next: more.then_some(page),
+        }))
+    }
+
+    /// A batch of a listed shard at a position, and whether the shard ends after it: it is closed, and no
+    /// record is left.
+    pub fn read(
+        &self,
+        alloc: Global,
+        shard: ShardNo,
+        position: u64,
+        limit: u32,
+    ) -> Result<(Items<Stored>, bool), Memory>
+        requires { is_listed_at (floor_of self.now.cut) (slice_get self.now.tree shard) ≡ true }
+        ensures batch { (log : Journal) → Shows self.now log → IfOk result (λ r. r.0 ≡ map stored (batch log self.now.clock self.now.no shard position limit)) }
+        ensures end { (log : Journal) → Shows self.now log → IfOk result (λ r. r.1 ≡ ends_at log self.now.clock self.now.no shard (place_after position (numbers_of (batch log self.now.clock self.now.no shard position limit)))) }
+    {
+        let log = &self.logs[shard.0 as usize];
+        let (batch, place) = batch_at(log, alloc, self.cut, position, limit)?;
+        let left = log.first_left(self.cut, place);
+        let end = match self.tree.shard(shard) {
+            Some(state) => is_end(state, left.is_none()),
+            None => false,
+        };
+        Ok((batch, end))
+    }
+}

@@ -1,0 +1,72 @@
+//! Splits of a stream's shards.
+ghost use Rattle.std.specs.Prelude.{◌≡◌, ◌≢◌, ◌∷◌, [], ◌^◌, ◌<◌, not, nat_le, ℕ, IfOk, IfNone, IfSome, None, OnErr, OnOk};
+ghost use Rattle.kds_defs.specs.declared.limits.TheConstants.{OPEN_SHARDS};
+ghost use Rattle.kds_defs.specs.declared.reply.Reply.TheVariants as reply;
+ghost use Rattle.kds_defs.specs.Decision.{Accepted, Refused};
+ghost use Rattle.kds_defs.specs.Histories.{answer_of, lines_of};
+ghost use Rattle.kds_defs.specs.Journal.{Journal, with_lines};
+ghost use Rattle.kds_defs.specs.Shards.{open_count};
+ghost use Rattle.kds_defs.specs.StreamCommands.{last_number, split};
+ghost use Rattle.kds_stream.specs.Showing.{Shows, split_line};
+ghost use Rattle.kds_stream.specs.Value.{IsChangedAt};
+ghost use Rattle.kds_tree.specs.Tree.{split_refusal};
+
+use crate::stream::Stream;
+use kds_base::{Memory, Seq, ShardNo};
+use kds_defs::{Answer, Refusal, Reply};
+use kds_log::ShardLog;
+
+impl Stream {
+    /// Why a split of the shard at the key is refused, if it is.
+    fn split_refusal(&self, shard: ShardNo, at: u128, room: bool) -> Option<Refusal>
+        ensures refused { (log : Journal) (by : ℕ) → Shows self.now log → room ≡ not (nat_le OPEN_SHARDS (open_count log)) → IfSome result (λ r. split log self.now.clock by self.now.no shard at ≡ Refused r) }
+        ensures accepted { (log : Journal) (by : ℕ) → Shows self.now log → room ≡ not (nat_le OPEN_SHARDS (open_count log)) → IfNone result (split log self.now.clock by self.now.no shard at ≡ Accepted (split_line log self.now.clock by self.now.no shard at ∷ []) reply.Done) }
+        ensures splits { IfNone result (split_refusal self.now.tree shard at ≡ None) }
+        ensures free { IfNone result (self.now.next ≢ last_number) }
+    {
+        if !self.is_listed(shard) {
+            return Some(Refusal::NoShard);
+        }
+        if let Some(refusal) = self.tree.split_refusal(shard, at) {
+            return Some(refusal);
+        }
+        if !room {
+            return Some(Refusal::Full);
+        }
+        let next = self.next;
+        if next.0 == u64::MAX {
+            return Some(Refusal::Spent);
+        }
+        None
+    }
+
+    /// Splits a shard at a key: it is closed with the next number, and its two children come last. `room` tells
+    /// whether another shard may be open. `NoShard` where the shard isn't listed, `ShardClosed` where it is
+    /// closed, `BadSplit` where a part would be empty, `Full` without room, `Spent` where the next number is the
+    /// greatest of a `u64` (Kinesis API Reference, SplitShard).
+    pub fn split(&mut self, shard: ShardNo, at: u128, room: bool) -> Result<Answer, Memory>
+        requires { at < 2 ^ 128 }
+        ensures answered { (log : Journal) (by : ℕ) → Shows self.old log → room ≡ not (nat_le OPEN_SHARDS (open_count log)) → IfOk result (λ a.
+            (a ≡ answer_of (split log self.old.clock by self.old.no shard at))
+            × Shows self.new (with_lines (lines_of (split log self.old.clock by self.old.no shard at)) log)) }
+        ensures fields { (self.new.no ≡ self.old.no) × (self.new.name ≡ self.old.name) × (self.new.clock ≡ self.old.clock) }
+        ensures refused { IfOk result (λ a. OnErr a (self.new ≡ self.old)) }
+        ensures changed { IfOk result (λ a. OnOk a (IsChangedAt self.old self.new)) }
+        ensures kept { OnErr result (self.new ≡ self.old) }
+    {
+        if let Some(refusal) = self.split_refusal(shard, at, room) {
+            return Ok(Err(refusal));
+        }
+        let seq = self.next;
+        let alloc = *self.logs.allocator();
+        self.logs.reserve(2)?;
+        // The tree doesn't refuse the split: it was asked.
+        let _children = self.tree.split(shard, at, seq, self.clock)?;
+        self.next = Seq(seq.0 + 1);
+        self.logs.push_reserved(ShardLog::new(alloc, self.next));
+        self.logs.push_reserved(ShardLog::new(alloc, self.next));
+        self.clock_before = self.clock;
+        self.cut_before = self.cut;
+        Ok(Ok(Reply::Done))
+    }
+}

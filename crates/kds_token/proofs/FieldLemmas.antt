@@ -1,0 +1,118 @@
+-- A text and its fields.
+use Rattle.std.proofs.Common.{◌≡◌, ℕ, ◌+◌, ◌<◌, ◌^◌, List, [], ◌∷◌, ◌++◌, take, drop, Bool, true, false, Option, Some, None, refl, ap, ◌∙◌, arith, decimal, inl, inr, subst}
+use Rattle.std.proofs.lemmas.Grind.{common_steps}
+use Rattle.std.proofs.lemmas.Bool.{cases_Bool, eqb-true}
+use Rattle.std.proofs.lemmas.Fmt.{digits_decimal}
+use Rattle.std.specs.Prelude.{◌==◌, ◌&&◌, if◌then◌else◌, option_map, option_and_then, nat_lt}
+use Rattle.std.specs.List.{list_all}
+use Rattle.std.specs.Char.{is_ascii_digit}
+use Rattle.kds_base.specs.NumberText.{number_of}
+use Rattle.kds_base.proofs.NumberLemmas.{own, decimal_of_number, number_of_decimal}
+use Rattle.kds_token.specs.Fields.{◌>>=◌, field, HasNoColon, IsFirstColon, in_time, moment_of}
+
+pub no_colon-append : (a b : List ℕ) → HasNoColon a → HasNoColon b → HasNoColon (a ++ b)
+no_colon-append [] b n m = m
+no_colon-append (x ∷ a) b n m = (n.0, no_colon-append a b n.1 m)
+
+pub field_at : (a b : List ℕ) → HasNoColon a → field (a ++ 58 ∷ b) ≡ Some (a, b)
+field_at [] b n = refl
+field_at (x ∷ a) b n = rw (n.0, field_at a b n.1) refl
+
+pub field_none : (a : List ℕ) → HasNoColon a → field a ≡ None
+field_none [] n = refl
+field_none (x ∷ a) n = rw (n.0, field_none a n.1) refl
+
+pub field_first : (text : List ℕ) (at : ℕ) → IsFirstColon text at → field text ≡ Some (take at text, drop (at + 1) text)
+field_first text at f = ap field f.parts ∙ field_at (take at text) (drop (at + 1) text) f.before
+
+-- ---- a field and the rest spell the text
+
+abbrev pub IsField : List ℕ → List ℕ × List ℕ → Type 0
+IsField text p = (text ≡ p.0 ++ 58 ∷ p.1) × HasNoColon p.0
+
+field_rest : (b : ℕ) (bs : List ℕ) (o : Option (List ℕ × List ℕ)) (p : List ℕ × List ℕ) → (b == 58) ≡ false
+    → ((q : List ℕ × List ℕ) → o ≡ Some q → IsField bs q) → option_map (λ (q : List ℕ × List ℕ). (b ∷ q.0, q.1)) o ≡ Some p → IsField (b ∷ bs) p
+field_rest b bs None p n rest e = absurd (cc)
+field_rest b bs (Some q) p n rest e =
+    let same : (b ∷ q.0, q.1) ≡ p = cc in
+    let f = rest q refl in
+    subst (λ (z : List ℕ × List ℕ). IsField (b ∷ bs) z) same (ap (λ z. b ∷ z) f.0, (n, f.1))
+
+field_cases : (c : Bool) (b : ℕ) (bs : List ℕ) (p : List ℕ × List ℕ) → (b == 58) ≡ c
+    → ((q : List ℕ × List ℕ) → field bs ≡ Some q → IsField bs q)
+    → (if c then Some ([], bs) else option_map (λ (q : List ℕ × List ℕ). (b ∷ q.0, q.1)) (field bs)) ≡ Some p → IsField (b ∷ bs) p
+field_cases true b bs p c rest e =
+    let same : ([], bs) ≡ p = cc in
+    let colon : b ≡ 58 = eqb-true b 58 c in
+    subst (λ (z : List ℕ × List ℕ). IsField (b ∷ bs) z) same (ap (λ z. z ∷ bs) colon, tt)
+field_cases false b bs p c rest e = field_rest b bs (field bs) p c rest e
+
+pub field_spells : (text : List ℕ) (p : List ℕ × List ℕ) → field text ≡ Some p → IsField text p
+field_spells [] p e = absurd (cc)
+field_spells (b ∷ bs) p e = field_cases (b == 58) b bs p refl (field_spells bs) e
+
+-- ---- moments
+
+in_time_is : (n m : ℕ) → in_time n ≡ Some m → (n ≡ m) × (m < 2 ^ 62)
+in_time_is n m h = elim (cases_Bool (nat_lt n (2 ^ 62))) [
+  | inl small ↦ let e : Some n ≡ Some m = rw small at h in let same : n ≡ m = cc in (same, grind (arith, common_steps))
+  | inr big ↦ let e : None ≡ Some m = rw big at h in absurd (cc)
+]
+
+moment_of_text : (o : Option ℕ) (text : List ℕ) (at : ℕ) → number_of 64 text ≡ o → option_and_then in_time o ≡ Some at → (text ≡ decimal at) × (at < 2 ^ 62)
+moment_of_text None text at e h = absurd (cc)
+moment_of_text (Some n) text at e h =
+    let t = in_time_is n at h in
+    let d = decimal_of_number text n e in
+    (d.0 ∙ ap decimal t.0, t.1)
+
+pub moment_spells : (text : List ℕ) (at : ℕ) → moment_of text ≡ Some at → (text ≡ decimal at) × (at < 2 ^ 62)
+moment_spells text at h = moment_of_text (number_of 64 text) text at refl h
+
+in_time_again : (at : ℕ) → at < 2 ^ 62 → in_time at ≡ Some at
+in_time_again at small = grind (arith, common_steps)
+
+pub moment_again : (at : ℕ) → at < 2 ^ 62 → moment_of (decimal at) ≡ Some at
+moment_again at small = ap (option_and_then in_time) (number_of_decimal at (omega arith)) ∙ in_time_again at small
+
+-- ---- steps that may fail
+
+pub bind_some : {A B : Type 0} (o : Option A) (f : A → Option B) (y : B) → (o >>= f) ≡ Some y → (x : A) × (o ≡ Some x) × (f x ≡ Some y)
+bind_some None f y h = absurd (cc)
+bind_some (Some x) f y h = (x, refl, h)
+
+-- ---- digits
+
+digit_no_colon : (b : ℕ) → is_ascii_digit b ≡ true → (b == 58) ≡ false
+digit_no_colon b h = grind (arith, common_steps)
+
+digit_small : (b : ℕ) → is_ascii_digit b ≡ true → b < 256
+digit_small b h = grind (arith, common_steps)
+
+pub both : (a b : Bool) → (a && b) ≡ true → (a ≡ true) × (b ≡ true)
+both true true h = (refl, refl)
+both true false h = absurd (cc)
+both false b h = absurd (cc)
+
+digits_no_colon : (ds : List ℕ) → list_all is_ascii_digit ds ≡ true → HasNoColon ds
+digits_no_colon [] h = tt
+digits_no_colon (d ∷ ds) h = let p = both (is_ascii_digit d) (list_all is_ascii_digit ds) h in (digit_no_colon d p.0, digits_no_colon ds p.1)
+
+pub decimal_no_colon : (n : ℕ) → n < 2 ^ 64 → HasNoColon (decimal n)
+decimal_no_colon n small = digits_no_colon (decimal n) (digits_decimal own n small)
+
+-- each byte is below 256
+abbrev pub AreSmall : List ℕ → Type 0
+AreSmall [] = Unit {0}
+AreSmall (b ∷ bs) = (b < 256) × AreSmall bs
+
+digits_small : (ds : List ℕ) → list_all is_ascii_digit ds ≡ true → AreSmall ds
+digits_small [] h = tt
+digits_small (d ∷ ds) h = let p = both (is_ascii_digit d) (list_all is_ascii_digit ds) h in (digit_small d p.0, digits_small ds p.1)
+
+pub decimal_small : (n : ℕ) → n < 2 ^ 64 → AreSmall (decimal n)
+decimal_small n small = digits_small (decimal n) (digits_decimal own n small)
+
+pub small-append : (a b : List ℕ) → AreSmall a → AreSmall b → AreSmall (a ++ b)
+small-append [] b n m = m
+small-append (x ∷ a) b n m = (n.0, small-append a b n.1 m)

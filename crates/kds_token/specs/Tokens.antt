@@ -1,0 +1,96 @@
+-- The tokens of iterators and of places in a listing (base64 is RFC 4648, section 4).
+use Rattle.std.specs.Prelude.{◌≡◌, ◌≢◌, ℕ, ◌^◌, ◌<◌, List, ◌∷◌, ◌++◌, codes, decimal, if◌then◌else◌, Option, Some, None}
+use Rattle.std.specs.Str.{bytes_eq}
+use Rattle.base64.specs.Engines.{standard}
+use Rattle.base64.specs.GeneralPurpose.{encode_of, decoded_of}
+use Rattle.kds_base.specs.NumberText.{number_of}
+use Rattle.kds_defs.specs.declared.reply.Iter.{Iter}
+use Rattle.kds_defs.specs.declared.reply.Page.{Page}
+use Rattle.kds_token.specs.Fields.{◌>>=◌, field, moment_of}
+
+-- ---- iterators
+
+-- what an iterator's token encodes: `KI1:STREAM:SHARD:POSITION:ISSUED`
+abbrev pub iter_text : Iter → List ℕ
+iter_text i = codes "KI1:" ++ (decimal i.stream ++ 58 ∷ (decimal i.shard ++ 58 ∷ (decimal i.position ++ 58 ∷ decimal i.issued)))
+
+-- the token of an iterator (Kinesis API Reference, GetShardIterator, ShardIterator)
+abbrev pub iter_token : Iter → List ℕ
+iter_token i = encode_of standard (iter_text i)
+
+-- the numbers of an iterator: the moment is below 2 ^ 62, the others below 2 ^ 64
+pub record IsIter (i : Iter) : Type 0 where
+  pub stream : i.stream < 2 ^ 64
+  pub shard : i.shard < 2 ^ 64
+  pub position : i.position < 2 ^ 64
+  pub issued : i.issued < 2 ^ 62
+
+-- what a text is to be read as: the iterator whose token it is, and none where it is no iterator's token
+abbrev pub ReadsAsIter : List ℕ → Option Iter → Type 0
+ReadsAsIter text None = (i : Iter) → IsIter i → text ≢ iter_token i
+ReadsAsIter text (Some i) = IsIter i × (text ≡ iter_token i)
+
+-- ---- places in a listing
+
+-- what a listing's token encodes: `KT1:STREAM:AFTER:ISSUED`
+abbrev pub page_text : Page → List ℕ
+page_text p = codes "KT1:" ++ (decimal p.stream ++ 58 ∷ (decimal p.after ++ 58 ∷ decimal p.issued))
+
+-- the token of a place in a listing (Kinesis API Reference, ListShards, NextToken)
+abbrev pub page_token : Page → List ℕ
+page_token p = encode_of standard (page_text p)
+
+-- the numbers of a place in a listing: the moment is below 2 ^ 62, the others below 2 ^ 64
+pub record IsPage (p : Page) : Type 0 where
+  pub stream : p.stream < 2 ^ 64
+  pub after : p.after < 2 ^ 64
+  pub issued : p.issued < 2 ^ 62
+
+-- what a text is to be read as: the place whose token it is, and none where it is no listing's token
+abbrev pub ReadsAsPage : List ℕ → Option Page → Type 0
+ReadsAsPage text None = (p : Page) → IsPage p → text ≢ page_token p
+ReadsAsPage text (Some p) = IsPage p × (text ≡ page_token p)
+
+-- ---- the same as functions of a text
+
+-- an iterator of the texts of its fields
+unfoldable pub iter_from : List ℕ → List ℕ → List ℕ → List ℕ → Option Iter
+iter_from stream shard position issued = do
+  a ← number_of 64 stream
+  b ← number_of 64 shard
+  c ← number_of 64 position
+  d ← moment_of issued
+  Some (record { stream = a; shard = b; position = c; issued = d })
+
+-- the iterator of the text that its token encodes
+unfoldable pub iter_in : List ℕ → Option Iter
+iter_in text = do
+  kind ← field text
+  stream ← field kind.1
+  shard ← field stream.1
+  position ← field shard.1
+  if bytes_eq kind.0 (codes "KI1") then iter_from stream.0 shard.0 position.0 position.1 else None
+
+-- the iterator of a token
+abbrev pub iter_of : List ℕ → Option Iter
+iter_of text = decoded_of standard text >>= iter_in
+
+-- a place in a listing of the texts of its fields
+unfoldable pub page_from : List ℕ → List ℕ → List ℕ → Option Page
+page_from stream after issued = do
+  a ← number_of 64 stream
+  b ← number_of 64 after
+  c ← moment_of issued
+  Some (record { stream = a; after = b; issued = c })
+
+-- the place in a listing of the text that its token encodes
+unfoldable pub page_in : List ℕ → Option Page
+page_in text = do
+  kind ← field text
+  stream ← field kind.1
+  after ← field stream.1
+  if bytes_eq kind.0 (codes "KT1") then page_from stream.0 after.0 after.1 else None
+
+-- the place in a listing of a token
+abbrev pub page_of : List ℕ → Option Page
+page_of text = decoded_of standard text >>= page_in

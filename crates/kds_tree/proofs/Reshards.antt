@@ -1,0 +1,234 @@
+-- Splits and merges over plain lists.
+use Rattle.std.proofs.Common.{◌≡◌, ℕ, zero, suc, ◌+◌, ◌≤◌, Bool, true, false, List, [], ◌∷◌, ◌++◌, length, Option, Some, None, refl, sym, ap, subst, ◌∙◌, arith}
+use Rattle.std.specs.Prelude.{Ok, slice_get, slice_set, slice_index_or, not, is_some, ◌&&◌, if◌then◌else◌}
+use Rattle.std.proofs.lemmas.Option.{slice_get_within, get_or_from_slice_get}
+use Rattle.std.proofs.lemmas.List.{get_or_append_left}
+use Rattle.kds_base.specs.Span.{Span, is_inside, lower_part, upper_part, are_adjacent, joined}
+use Rattle.kds_defs.specs.declared.reply.Refusal.{Refusal}
+use Rattle.kds_defs.specs.Shards.{ShardState, Closing, is_open, new_shard, range_of, with_closed, split_shards, merged_shards, made_shards}
+use Rattle.kds_defs.specs.StreamCommands.{is_open_at}
+use Rattle.kds_defs.specs.Tiled.{AreNumbered, IsTiled}
+use Rattle.kds_defs.proofs.Numbers.{numbered-closed, numbered-append, length-closed, numbered-first}
+use Rattle.kds_defs.proofs.Tiles.{tiled_split, tiled_merge, tiled_new}
+use Rattle.kds_base.specs.Span.{uniform}
+use Rattle.kds_tree.specs.Tree.{IsTree, split_refusal, merge_refusal, answer_by, value_by}
+
+-- ---- what no refusal says
+
+passed : (b : Bool) (r : Refusal) (o : Option Refusal) → (if not b then Some r else o) ≡ None → (b ≡ true) × (o ≡ None)
+passed true r o h = (refl, h)
+passed false r o h = absurd cc
+
+both : (a b : Bool) → (a && b) ≡ true → (a ≡ true) × (b ≡ true)
+both true b h = (refl, h)
+both false b h = absurd cc
+
+there : (o : Option ShardState) → is_some o ≡ true → (x : ShardState) × (o ≡ Some x)
+there None h = absurd cc
+there (Some x) h = (x, refl)
+
+pub record CanSplit (xs : List ShardState) (sh at : ℕ) : Type 0 where
+  pub state : ShardState
+  pub made : slice_get xs sh ≡ Some state
+  pub is_open_now : is_open state ≡ true
+  pub inside : is_inside state.range at ≡ true
+
+pub can_split : (xs : List ShardState) (sh at : ℕ) → split_refusal xs sh at ≡ None → CanSplit xs sh at
+can_split xs sh at h =
+    let a = passed _ _ _ h in
+    let b = passed _ _ _ a.1 in
+    let d = passed _ _ _ b.1 in
+    let x = there (slice_get xs sh) a.0 in
+    record {
+      state = x.0;
+      made = x.1;
+      is_open_now = subst (λ o. is_open_at o ≡ true) x.1 b.0;
+      inside = subst (λ o. is_inside (range_of o) at ≡ true) x.1 d.0;
+    }
+
+pub record CanMerge (xs : List ShardState) (sh other : ℕ) : Type 0 where
+  pub state : ShardState
+  pub beside : ShardState
+  pub made : slice_get xs sh ≡ Some state
+  pub other_made : slice_get xs other ≡ Some beside
+  pub is_open_now : is_open state ≡ true
+  pub other_open : is_open beside ≡ true
+  pub touch : are_adjacent state.range beside.range ≡ true
+
+pub can_merge : (xs : List ShardState) (sh other : ℕ) → merge_refusal xs sh other ≡ None → CanMerge xs sh other
+can_merge xs sh other h =
+    let a = passed _ _ _ h in
+    let b = passed _ _ _ a.1 in
+    let d = passed _ _ _ b.1 in
+    let somes = both _ _ a.0 in
+    let opens = both _ _ b.0 in
+    let x = there (slice_get xs sh) somes.0 in
+    let y = there (slice_get xs other) somes.1 in
+    record {
+      state = x.0;
+      beside = y.0;
+      made = x.1;
+      other_made = y.1;
+      is_open_now = subst (λ o. is_open_at o ≡ true) x.1 opens.0;
+      other_open = subst (λ o. is_open_at o ≡ true) y.1 opens.1;
+      touch = subst (λ o. are_adjacent x.0.range (range_of o) ≡ true) y.1 (subst (λ o. are_adjacent (range_of o) (range_of (slice_get xs other)) ≡ true) x.1 d.0);
+    }
+
+-- ---- what is kept
+
+numbered_two : (n : ℕ) (x y : ShardState) → x.no ≡ n → y.no ≡ n + 1 → AreNumbered n (x ∷ y ∷ [])
+numbered_two n x y h g = (h, (g, tt))
+
+pub tree_split : (xs : List ShardState) (sh at start : ℕ) (closing : Closing) → split_refusal xs sh at ≡ None → IsTree xs → IsTree (split_shards sh at closing start xs)
+tree_split xs sh at start closing h tree =
+    let can = can_split xs sh at h in
+    let low = new_shard (length xs) (lower_part (range_of (slice_get xs sh)) at) (Some sh) None start in
+    let high = new_shard (length xs + 1) (upper_part (range_of (slice_get xs sh)) at) (Some sh) None start in
+    let n : length (with_closed sh closing xs) ≡ length xs = length-closed sh closing xs in
+    let goes_on : AreNumbered (0 + length (with_closed sh closing xs)) (low ∷ high ∷ []) = numbered_two (0 + length (with_closed sh closing xs)) low high (omega (arith, n)) (omega (arith, n)) in
+    record {
+      numbered = numbered-append 0 (with_closed sh closing xs) (low ∷ high ∷ []) (numbered-closed 0 sh closing xs tree.numbered) goes_on;
+      tiled =
+          subst (λ o. IsTiled (with_closed sh closing xs ++ (new_shard (length xs) (lower_part (range_of o) at) (Some sh) None start ∷ new_shard (length xs + 1) (upper_part (range_of o) at) (Some sh) None start ∷ []))) (sym can.made)
+          (tiled_split xs sh (length xs) (length xs + 1) at start closing (Some sh) None can.state can.made can.is_open_now can.inside tree.tiled);
+    }
+
+pub tree_merged : (xs : List ShardState) (sh other start : ℕ) (closing : Closing) → merge_refusal xs sh other ≡ None → IsTree xs → IsTree (merged_shards sh other closing start xs)
+tree_merged xs sh other start closing h tree =
+    let can = can_merge xs sh other h in
+    let child = new_shard (length xs) (joined (range_of (slice_get xs sh)) (range_of (slice_get xs other))) (Some sh) (Some other) start in
+    let closed = with_closed other closing (with_closed sh closing xs) in
+    let n : length (with_closed other closing (with_closed sh closing xs)) ≡ length xs = length-closed other closing (with_closed sh closing xs) ∙ length-closed sh closing xs in
+    let goes_on : AreNumbered (0 + length closed) (child ∷ []) = (omega (arith, n), tt) in
+    record {
+      numbered = numbered-append 0 closed (child ∷ []) (numbered-closed 0 other closing (with_closed sh closing xs) (numbered-closed 0 sh closing xs tree.numbered)) goes_on;
+      tiled =
+          subst (λ o. IsTiled (closed ++ (new_shard (length xs) (joined (range_of o) (range_of (slice_get xs other))) (Some sh) (Some other) start ∷ []))) (sym can.made)
+          (subst (λ o. IsTiled (closed ++ (new_shard (length xs) (joined can.state.range (range_of o)) (Some sh) (Some other) start ∷ []))) (sym can.other_made)
+          (tiled_merge xs sh other (length xs) start closing (Some sh) (Some other) can.state can.beside can.made can.other_made can.is_open_now can.other_open can.touch tree.tiled));
+    }
+
+pub tree_made : (n : ℕ) → 1 ≤ n → n ≤ 500 → IsTree (made_shards n 1)
+tree_made n low high = record { numbered = numbered-first 0 1 (uniform n); tiled = tiled_new n 1 low high }
+
+-- ---- a shard that is closed at its place, where others follow
+
+closed_at : (xs ys : List ShardState) (i : ℕ) (x y : ShardState) (closing : Closing) → slice_get xs i ≡ Some x → y ≡ record x { closing = Some closing } → slice_set (xs ++ ys) i y ≡ with_closed i closing xs ++ ys
+closed_at [] ys i x y closing at is = absurd cc
+closed_at (z ∷ zs) ys zero x y closing at is =
+    let e : z ≡ x = cc in
+    ap (λ s. s ∷ zs ++ ys) (is ∙ ap (λ (k : ShardState). let s : ShardState = record k { closing = Some closing } in s) (sym e))
+closed_at (z ∷ zs) ys (suc i) x y closing at is = ap (λ ss. z ∷ ss) (closed_at zs ys i x y closing at is)
+
+-- ---- what the calls owe
+
+answered : {A : Type 0} (o : Option Refusal) (x y : A) → Ok x ≡ answer_by o y → (o ≡ None) × (x ≡ y)
+answered None x y h = let e : x ≡ y = cc in (refl, e)
+answered (Some r) x y h = absurd cc
+
+-- the element that is read at the place is the shard there
+read_at : (xs ys zs : List ShardState) (i : ℕ) (x old : ShardState) → zs ≡ xs ++ ys → slice_get xs i ≡ Some x → old ≡ slice_index_or zs i old → x ≡ old
+read_at xs ys zs i x old is at read =
+    sym (
+    read
+    ∙ ap (λ (ss : List ShardState). slice_index_or ss i old) is
+    ∙ get_or_append_left xs ys old i (slice_get_within xs i x at)
+    ∙ get_or_from_slice_get xs i x old at
+    )
+
+pub record Splits (xs : List ShardState) (sh at start : ℕ) (closing : Closing) (zs : List ShardState) : Type 0 where
+  pub allowed : split_refusal xs sh at ≡ None
+  pub value : zs ≡ split_shards sh at closing start xs
+  pub tree : IsTree xs → IsTree zs
+
+closed_in : (xs ys zs : List ShardState) (sh : ℕ) (x : ShardState) (closing : Closing) (old new : ShardState) → slice_get xs sh ≡ Some x → zs ≡ xs ++ ys → old ≡ slice_index_or zs sh old → new ≡ record old { closing = Some closing } → slice_set zs sh new ≡ with_closed sh closing xs ++ ys
+closed_in xs ys zs sh x closing old new made is read close =
+    let e = read_at xs ys zs sh x old is made read in
+    ap (λ (ss : List ShardState). slice_set ss sh new) is
+    ∙ closed_at xs ys sh x new closing made (close ∙ ap (λ (k : ShardState). let s : ShardState = record k { closing = Some closing } in s) (sym e))
+
+-- closing a shard leaves each place filled
+still_there : (xs : List ShardState) (sh other : ℕ) (closing : Closing) (y : ShardState) → slice_get xs other ≡ Some y → (z : ShardState) × (slice_get (with_closed sh closing xs) other ≡ Some z)
+still_there [] sh other closing y is = absurd cc
+still_there (x ∷ xs) zero zero closing y is = (record x { closing = Some closing }, refl)
+still_there (x ∷ xs) zero (suc other) closing y is = (y, is)
+still_there (x ∷ xs) (suc sh) zero closing y is = (x, refl)
+still_there (x ∷ xs) (suc sh) (suc other) closing y is = still_there xs sh other closing y is
+
+-- the two ranges of a split
+abbrev pub halves : Span → ℕ → Span × Span
+halves r at = (lower_part r at, upper_part r at)
+
+pub splits : (xs zs : List ShardState) (sh i at start a b s : ℕ) (closing : Closing) (ranges : Span × Span) (low high old new : ShardState)
+    → Ok ranges ≡ answer_by (split_refusal xs sh at) (halves (range_of (slice_get xs sh)) at)
+    → i ≡ sh → a ≡ length xs → b ≡ length xs → s ≡ start
+    → low ≡ new_shard a ranges.0 (Some sh) None (s + 1)
+    → high ≡ new_shard (b + 1) ranges.1 (Some sh) None (s + 1)
+    → zs ≡ xs ++ low ∷ high ∷ []
+    → old ≡ slice_index_or zs i old
+    → new ≡ record old { closing = Some closing }
+    → Splits xs sh at (start + 1) closing (slice_set zs i new)
+splits xs zs sh i at start a b s closing ranges low high old new answer is_i is_a is_b is_s is_low is_high is read close =
+    let r = range_of (slice_get xs sh) in
+    let h = answered (split_refusal xs sh at) ranges (halves r at) answer in
+    let can = can_split xs sh at h.0 in
+    let lower : ranges.0 ≡ lower_part r at = ap (λ (p : Span × Span). p.0) h.1 in
+    let upper : ranges.1 ≡ upper_part r at = ap (λ (p : Span × Span). p.1) h.1 in
+    let e_low : low ≡ new_shard (length xs) (lower_part r at) (Some sh) None (start + 1) = cc in
+    let e_high : high ≡ new_shard (length xs + 1) (upper_part r at) (Some sh) None (start + 1) = cc in
+    let value : slice_set zs i new ≡ split_shards sh at closing (start + 1) xs =
+    ap (λ (j : ℕ). slice_set zs j new) is_i
+    ∙ closed_in xs (low ∷ high ∷ []) zs sh can.state closing old new can.made is (read ∙ ap (λ (j : ℕ). slice_index_or zs j old) is_i) close
+    ∙ ap (λ (k : ShardState). with_closed sh closing xs ++ k ∷ high ∷ []) e_low
+    ∙ ap (λ (k : ShardState). with_closed sh closing xs ++ new_shard (length xs) (lower_part r at) (Some sh) None (start + 1) ∷ k ∷ []) e_high in
+    record {
+      allowed = h.0;
+      value = value;
+      tree = λ tree. subst IsTree (sym value) (tree_split xs sh at (start + 1) closing h.0 tree);
+    }
+
+-- the value after an accepted call
+by_none : (o : Option Refusal) (before after zs : List ShardState) → o ≡ None → zs ≡ after → zs ≡ value_by o before after
+by_none None before after zs none is = is
+by_none (Some r) before after zs none is = absurd cc
+
+pub split_value : (xs : List ShardState) (sh at start : ℕ) (closing : Closing) (zs : List ShardState) → Splits xs sh at start closing zs → zs ≡ value_by (split_refusal xs sh at) xs (split_shards sh at closing start xs)
+split_value xs sh at start closing zs s = by_none (split_refusal xs sh at) xs (split_shards sh at closing start xs) zs s.allowed s.value
+
+pub record Merges (xs : List ShardState) (sh other start : ℕ) (closing : Closing) (zs : List ShardState) : Type 0 where
+  pub allowed : merge_refusal xs sh other ≡ None
+  pub value : zs ≡ merged_shards sh other closing start xs
+  pub tree : IsTree xs → IsTree zs
+
+pub merge_value : (xs : List ShardState) (sh other start : ℕ) (closing : Closing) (zs : List ShardState) → Merges xs sh other start closing zs → zs ≡ value_by (merge_refusal xs sh other) xs (merged_shards sh other closing start xs)
+merge_value xs sh other start closing zs s = by_none (merge_refusal xs sh other) xs (merged_shards sh other closing start xs) zs s.allowed s.value
+
+pub merges : (xs zs : List ShardState) (sh other i j start a s : ℕ) (closing : Closing) (range : Span) (child old new old' new' : ShardState)
+    → Ok range ≡ answer_by (merge_refusal xs sh other) (joined (range_of (slice_get xs sh)) (range_of (slice_get xs other)))
+    → i ≡ sh → j ≡ other → a ≡ length xs → s ≡ start
+    → child ≡ new_shard a range (Some sh) (Some other) (s + 1)
+    → zs ≡ xs ++ child ∷ []
+    → old ≡ slice_index_or zs i old
+    → new ≡ record old { closing = Some closing }
+    → old' ≡ slice_index_or (slice_set zs i new) j old'
+    → new' ≡ record old' { closing = Some closing }
+    → Merges xs sh other (start + 1) closing (slice_set (slice_set zs i new) j new')
+merges xs zs sh other i j start a s closing range child old new old' new' answer is_i is_j is_a is_s is_child is read close read' close' =
+    let h = answered (merge_refusal xs sh other) range (joined (range_of (slice_get xs sh)) (range_of (slice_get xs other))) answer in
+    let can = can_merge xs sh other h.0 in
+    let kept = new_shard (length xs) (joined (range_of (slice_get xs sh)) (range_of (slice_get xs other))) (Some sh) (Some other) (start + 1) in
+    let e_child : child ≡ kept = cc in
+    let once = with_closed sh closing xs in
+    let first : slice_set zs i new ≡ once ++ child ∷ [] =
+    ap (λ (k : ℕ). slice_set zs k new) is_i
+    ∙ closed_in xs (child ∷ []) zs sh can.state closing old new can.made is (read ∙ ap (λ (k : ℕ). slice_index_or zs k old) is_i) close in
+    let still = still_there xs sh other closing can.beside can.other_made in
+    let second : slice_set (slice_set zs i new) j new' ≡ with_closed other closing once ++ child ∷ [] =
+    ap (λ (k : ℕ). slice_set (slice_set zs i new) k new') is_j
+    ∙ closed_in once (child ∷ []) (slice_set zs i new) other still.0 closing old' new' still.1 first (read' ∙ ap (λ (k : ℕ). slice_index_or (slice_set zs i new) k old') is_j) close' in
+    let value : slice_set (slice_set zs i new) j new' ≡ merged_shards sh other closing (start + 1) xs = second ∙ ap (λ (k : ShardState). with_closed other closing once ++ k ∷ []) e_child in
+    record {
+      allowed = h.0;
+      value = value;
+      tree = λ tree. subst IsTree (sym value) (tree_merged xs sh other (start + 1) closing h.0 tree);
+    }

@@ -1,0 +1,48 @@
+-- What a kept shard is.
+use Rattle.std.specs.Prelude.{ℕ, ◌≡◌, refl, Option, Some, None}
+use Rattle.std.proofs.Common.{ap, ◌∙◌}
+use Rattle.kds_defs.specs.Shards.{ShardState, Closing, ending, shown}
+use Rattle.kds_tree.specs.declared.kept.Kept.TheInside.{Inside}
+
+-- how the shard was closed, where it has an ending number and a moment
+abbrev pub closing_from : Option ℕ → Option ℕ → Option Closing
+closing_from (Some n) (Some c) = Some (record { number = n; clock = c })
+closing_from (Some n) None = None
+closing_from None c = None
+
+-- it has both of them or neither
+abbrev pub AreBoth : Option ℕ → Option ℕ → Type 0
+AreBoth (Some n) (Some c) = Unit {0}
+AreBoth (Some n) None = ⊥
+AreBoth None (Some c) = ⊥
+AreBoth None None = Unit {0}
+
+-- all that is known of the shard
+abbrev pub state_of : Inside → ShardState
+state_of k = record { no = k.shard.no; range = k.shard.range; parent = k.shard.parent; adjacent = k.shard.adjacent; start = k.shard.start; closing = closing_from k.shard.end k.closed }
+
+-- ---- which gives the fields back
+
+abbrev pub moment_of : Option Closing → Option ℕ
+moment_of None = None
+moment_of (Some closing) = Some closing.clock
+
+abbrev pub fields_of : ShardState → Inside
+fields_of x = record { shard = shown x; closed = moment_of x.closing }
+
+ending_back : (n c : Option ℕ) → AreBoth n c → ending (closing_from n c) ≡ n
+ending_back None None h = refl
+ending_back None (Some c) h = absurd h
+ending_back (Some n) None h = absurd h
+ending_back (Some n) (Some c) h = refl
+
+moment_back : (n c : Option ℕ) → AreBoth n c → moment_of (closing_from n c) ≡ c
+moment_back None None h = refl
+moment_back None (Some c) h = absurd h
+moment_back (Some n) None h = absurd h
+moment_back (Some n) (Some c) h = refl
+
+pub fields_back : (k : Inside) → AreBoth k.shard.end k.closed → fields_of (state_of k) ≡ k
+fields_back k h =
+    ap (λ (n : Option ℕ). let f : Inside = record { shard = record k.shard { end = n }; closed = moment_of (closing_from k.shard.end k.closed) } in f) (ending_back k.shard.end k.closed h)
+    ∙ ap (λ (c : Option ℕ). let f : Inside = record { shard = k.shard; closed = c } in f) (moment_back k.shard.end k.closed h)

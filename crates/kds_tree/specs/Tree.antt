@@ -1,0 +1,53 @@
+-- The shards of a stream as a tree keeps them, and what its calls answer.
+use Rattle.std.specs.Prelude.{ℕ, ◌≡◌, Bool, true, false, ◌&&◌, not, is_some, if◌then◌else◌, List, slice_get, Option, Some, None, Result, Ok, Err}
+use Rattle.kds_base.specs.Span.{Covers, is_inside, are_adjacent}
+use Rattle.kds_defs.specs.declared.reply.Refusal.{Refusal}
+use Rattle.kds_defs.specs.declared.reply.Refusal.TheVariants as refusal
+use Rattle.kds_defs.specs.Shards.{ShardState, is_open, is_closed_below, range_of}
+use Rattle.kds_defs.specs.StreamCommands.{is_open_at}
+use Rattle.kds_defs.specs.Tiled.{AreNumbered, IsTiled}
+
+-- what holds in every state: the shards are numbered in their order, and the open ranges partition the keys
+pub record IsTree (xs : List ShardState) : Type 0 where
+  pub numbered : AreNumbered 0 xs
+  pub tiled : IsTiled xs
+
+-- the shard of this number is there and open, and its range contains the key
+pub record IsHome (xs : List ShardState) (key sh : ℕ) : Type 0 where
+  pub state : ShardState
+  pub made : slice_get xs sh ≡ Some state
+  pub is_open_now : is_open state ≡ true
+  pub contains : Covers state.range key
+
+-- the shard was made, and was closed below the floor
+abbrev pub was_expired : ℕ → Option ShardState → Bool
+was_expired floor None = false
+was_expired floor (Some x) = is_closed_below floor x
+
+-- ---- refusals, the first that holds
+
+-- why a split of a shard at a key is refused, if it is (Kinesis API Reference, SplitShard)
+abbrev pub split_refusal : List ShardState → ℕ → ℕ → Option Refusal
+split_refusal xs sh at =
+    if not (is_some (slice_get xs sh)) then Some refusal.NoShard else
+    if not (is_open_at (slice_get xs sh)) then Some refusal.ShardClosed else
+    if not (is_inside (range_of (slice_get xs sh)) at) then Some refusal.BadSplit else
+    None
+
+-- why a merge of a shard with another is refused, if it is (Kinesis API Reference, MergeShards)
+abbrev pub merge_refusal : List ShardState → ℕ → ℕ → Option Refusal
+merge_refusal xs sh other =
+    if not (is_some (slice_get xs sh) && is_some (slice_get xs other)) then Some refusal.NoShard else
+    if not (is_open_at (slice_get xs sh) && is_open_at (slice_get xs other)) then Some refusal.ShardClosed else
+    if not (are_adjacent (range_of (slice_get xs sh)) (range_of (slice_get xs other))) then Some refusal.NotAdjacent else
+    None
+
+-- the answer: the refusal, if there is one, and else this
+abbrev pub answer_by : {A : Type 0} → Option Refusal → A → Result A Refusal
+answer_by (Some r) x = Err r
+answer_by None x = Ok x
+
+-- the value after the call: as it was before, where there is a refusal
+abbrev pub value_by : {A : Type 0} → Option Refusal → A → A → A
+value_by (Some r) before after = before
+value_by None before after = after

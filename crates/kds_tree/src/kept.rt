@@ -1,0 +1,111 @@
+ghost use Rattle.std.specs.Prelude.{◌≡◌, ◌≤◌, not, length, Some, None};
+ghost use Rattle.kds_base.specs.Span.{covers};
+ghost use Rattle.kds_defs.specs.Listings.{is_after_shard};
+ghost use Rattle.kds_defs.specs.Shards.{is_open, is_child, is_closed_below, new_shard, shown, with_closed};
+ghost use Rattle.kds_defs.specs.Streams.{floor_of};
+
+use kds_base::{Moment, Range, Seq, ShardNo};
+use kds_defs::Shard;
+use std::marker::Model;
+
+/// A shard, and when it was closed. Contracts see all that is known of it.
+#[derive(Clone, Copy)]
+pub struct Kept {
+    shard: Shard,
+    closed: Option<Moment>,
+}
+
+impl Model for Kept {
+    ghost use Rattle.kds_defs.specs.Shards.{ShardState};
+
+    ghost Value = { ShardState };
+
+    ghost use Rattle.kds_tree.specs.Keeping.{AreBoth, state_of, fields_of, fields_back};
+
+    ghost view = { state_of };
+
+    ghost invariant = { λ k. AreBoth k.shard.end k.closed };
+
+    ghost inverse = { fields_of };
+
+    ghost inverse_ok = { fields_back };
+}
+
+impl Kept {
+    /// An open shard.
+    pub fn new(
+        no: ShardNo,
+        range: Range,
+        parent: Option<ShardNo>,
+        adjacent: Option<ShardNo>,
+        start: Seq,
+    ) -> Kept
+        ensures { result ≡ new_shard no range parent adjacent start }
+    {
+        Kept {
+            shard: Shard {
+                no,
+                range,
+                parent,
+                adjacent,
+                start,
+                end: None,
+            },
+            closed: None,
+        }
+    }
+
+    /// As it is shown.
+    pub fn shard(&self) -> &Shard
+        ensures { result.now ≡ shown self.now }
+    {
+        &self.shard
+    }
+
+    pub fn range(&self) -> Range
+        ensures { result ≡ self.now.range }
+    {
+        self.shard.range
+    }
+
+    pub fn is_open(&self) -> bool
+        ensures { result ≡ is_open self.now }
+    {
+        self.closed.is_none()
+    }
+
+    /// Whether a shard is its parent or its adjacent parent.
+    pub fn is_child_of(&self, no: ShardNo) -> bool
+        ensures { result ≡ is_child no self.now }
+    {
+        self.shard.parent == Some(no) || self.shard.adjacent == Some(no)
+    }
+
+    /// Whether it was closed at or before the cut.
+    pub fn is_expired(&self, cut: &Option<Moment>) -> bool
+        ensures { result ≡ is_closed_below (floor_of cut.now) self.now }
+    {
+        match (&self.closed, cut) {
+            (Some(closed), Some(cut)) => closed <= cut,
+            _ => false,
+        }
+    }
+
+    /// Whether its number is above that one, if there is one.
+    pub fn is_after(&self, after: &Option<ShardNo>) -> bool
+        ensures { result ≡ is_after_shard after.now self.now }
+    {
+        match after {
+            Some(after) => *after < self.shard.no,
+            None => true,
+        }
+    }
+
+    /// Closes it.
+    pub fn close(&mut self, seq: Seq, clock: Moment)
+        ensures { self.new ≡ record self.old { closing = Some (record { number = seq; clock = clock }) } }
+    {
+        self.shard.end = Some(seq);
+        self.closed = Some(clock);
+    }
+}

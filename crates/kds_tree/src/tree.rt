@@ -1,0 +1,309 @@
+ghost use Rattle.std.specs.Prelude.{◌≡◌, ◌+◌, ◌-◌, ◌^◌, ◌<◌, ◌≤◌, ℕ, length, map, take, slice_get, Some, IsSome, IfOk, IfSome, OnOk, OnErr, IsOk};
+ghost use Rattle.std.specs.List.{filter};
+ghost use Rattle.std.specs.Option.{option_map};
+ghost use Rattle.kds_base.specs.Span.{joined, lower_part, upper_part};
+ghost use Rattle.kds_defs.specs.Listings.{are_more, is_after_shard};
+ghost use Rattle.kds_defs.specs.Shards.{children_among, home_among, is_open, listed_among, made_shards, merged_shards, range_of, shown, split_shards, with_closed};
+ghost use Rattle.kds_defs.specs.Streams.{floor_of};
+ghost use Rattle.kds_defs.specs.Tiled.{AreNumbered, IsTiled};
+ghost use Rattle.kds_tree.specs.Tree.{IsHome, answer_by, merge_refusal, split_refusal, value_by, was_expired};
+
+use crate::kept::Kept;
+use kds_base::{Items, Memory, Moment, Range, Seq, ShardNo};
+use kds_defs::{Refusal, Shard};
+use std::alloc::Global;
+use std::marker::Model;
+
+/// The shards of one stream in the order of their numbers, which begin with 0. Contracts see all that is
+/// known of each. At every moment the ranges of the open ones partition the hash keys.
+#[derive(Drop)]
+pub struct ShardTree {
+    shards: Vec<Kept>,
+}
+
+impl Model for ShardTree {
+    ghost use Rattle.std.specs.Prelude.{List};
+    ghost use Rattle.kds_defs.specs.Shards.{ShardState};
+    ghost use Rattle.kds_tree.specs.Tree.{IsTree};
+
+    ghost Value = { List ShardState };
+
+    ghost view = { λ t. t.shards.items };
+
+    ghost invariant = { λ t. IsTree t.shards.items };
+}
+
+impl ShardTree {
+    /// The shards of a new stream: `n` of them, with uniform ranges.
+    pub fn new(alloc: Global, n: u32) -> Result<ShardTree, Memory>
+        requires least { 1 ≤ n }
+        requires most { n ≤ 500 }
+        ensures { IfOk result (λ tree. tree ≡ made_shards n 1) }
+    {
+        let ranges = Range::uniform(alloc, n)?;
+        let mut shards = Vec::new(alloc);
+        for (i, range) in ranges.as_slice().iter().enumerate() {
+            shards.push(Kept::new(ShardNo(i as u64), *range, None, None, Seq(1)))?;
+        }
+        Ok(ShardTree { shards })
+    }
+
+    /// How many shards were made, the closed ones included.
+    pub fn len(&self) -> u64
+        ensures value { result ≡ length self.now }
+        ensures numbered { AreNumbered 0 self.now }
+        ensures tiled { IsTiled self.now }
+    {
+        self.shards.len() as u64
+    }
+
+    /// How many shards are open.
+    pub fn open_count(&self) -> u64
+        ensures { result ≡ length (filter is_open self.now) }
+    {
+        self.shards.iter().filter(|kept| kept.is_open()).count() as u64
+    }
+
+    /// The shard of this number. `None` exactly where it was never made.
+    pub fn shard(&self, no: ShardNo) -> Option<&Shard>
+        ensures value { option_map (λ s. s.now) result ≡ option_map shown (slice_get self.now no) }
+        ensures numbered { IfSome result (λ s. s.now.no ≡ no) }
+    {
+        shown_at(&self.shards, no)
+    }
+
+    /// The open shard whose range contains the key.
+    pub fn home(&self, hash: u128) -> ShardNo
+        ensures value { result ≡ home_among (filter is_open self.now) hash }
+        ensures found { IsHome self.now hash result }
+        ensures only { (sh : ℕ) → IsHome self.now hash sh → sh ≡ result }
+    {
+        home_among(&self.shards, hash)
+    }
+
+    /// Whether the shard was closed at or before the cut.
+    pub fn expired(&self, no: ShardNo, cut: Option<Moment>) -> bool
+        ensures { result ≡ was_expired (floor_of cut) (slice_get self.now no) }
+    {
+        match self.shards.get(no.0 as usize) {
+            Some(kept) => kept.is_expired(&cut),
+            None => false,
+        }
+    }
+
+    /// At most `limit` of the shards that aren't expired at the cut and come after a number, in order, and
+    /// whether more of them follow (Kinesis API Reference, ListShards).
+    pub fn listed(
+        &self,
+        cut: Option<Moment>,
+        after: Option<ShardNo>,
+        limit: u32,
+    ) -> Result<(Items<Shard>, bool), Memory>
+        ensures shards { let xs = map shown (filter (is_after_shard after) (listed_among (floor_of cut) self.now)) in IfOk result (λ r. r.0 ≡ take limit xs) }
+        ensures more { let xs = map shown (filter (is_after_shard after) (listed_among (floor_of cut) self.now)) in IfOk result (λ r. r.1 ≡ are_more limit xs) }
+    {
+        let mut listed = Items::new(*self.shards.allocator());
+        for kept in &self.shards {
+            if !kept.is_expired(&cut) && kept.is_after(&after) {
+                if listed.as_slice().len() == limit as usize {
+                    return Ok((listed, true));
+                }
+                listed.push(*kept.shard())?;
+            }
+        }
+        Ok((listed, false))
+    }
+
+    /// The children of a shard in order: it is their parent or their adjacent parent.
+    pub fn children(&self, no: ShardNo) -> Result<Items<Shard>, Memory>
+        ensures { IfOk result (λ shards. shards ≡ map shown (children_among no self.now)) }
+    {
+        let mut children = Items::new(*self.shards.allocator());
+        for kept in &self.shards {
+            if kept.is_child_of(no) {
+                children.push(*kept.shard())?;
+            }
+        }
+        Ok(children)
+    }
+
+    /// The two ranges of a split, or why it is refused.
+    fn split_ranges(&self, shard: ShardNo, at: u128) -> Result<(Range, Range), Refusal>
+        ensures { result ≡ answer_by (split_refusal self.now shard at) (lower_part (range_of (slice_get self.now shard)) at, upper_part (range_of (slice_get self.now shard)) at) }
+    {
+        match self.shards.get(shard.0 as usize) {
+            None => Err(Refusal::NoShard),
+            Some(kept) if !kept.is_open() => Err(Refusal::ShardClosed),
+            Some(kept) => kept.range().split(at).ok_or(Refusal::BadSplit),
+        }
+    }
+
+    /// Why a split of the shard at the key is refused, if it is: `NoShard` where it was never made,
+    /// `ShardClosed` where it is closed, `BadSplit` where a part would be empty.
+    pub fn split_refusal(&self, shard: ShardNo, at: u128) -> Option<Refusal>
+        ensures { result ≡ split_refusal self.now shard at }
+    {
+        self.split_ranges(shard, at).err()
+    }
+
+    /// Splits a shard at a key, by a line that drew the number `seq` at `clock`: the shard is closed, and
+    /// its children come last, the lower one first. Refused as `split_refusal` says
+    /// (Kinesis API Reference, SplitShard).
+    pub fn split(
+        &mut self,
+        shard: ShardNo,
+        at: u128,
+        seq: Seq,
+        clock: Moment,
+    ) -> Result<Result<(ShardNo, ShardNo), Refusal>, Memory>
+        requires { seq + 1 < 2 ^ 64 }
+        ensures answer { IfOk result (λ a. a ≡ answer_by (split_refusal self.old shard at) (length self.old, length self.old + 1)) }
+        ensures value { OnOk result (self.new ≡ value_by (split_refusal self.old shard at) self.old (split_shards shard at (record { number = seq; clock = clock }) (seq + 1) self.old)) }
+        ensures refused { IsSome (split_refusal self.old shard at) → IsOk result }
+        ensures memory { OnErr result (self.new ≡ self.old) }
+    {
+        let (lower, upper) = match self.split_ranges(shard, at) {
+            Ok(ranges) => ranges,
+            Err(refusal) => return Ok(Err(refusal)),
+        };
+        let low = ShardNo(self.len());
+        let high = ShardNo(self.len() + 1);
+        let start = Seq(seq.0 + 1);
+        let children = [
+            Kept::new(low, lower, Some(shard), None, start),
+            Kept::new(high, upper, Some(shard), None, start),
+        ];
+        self.shards.extend_from_slice(&children)?;
+        self.shards[shard.0 as usize].close(seq, clock);
+        Ok(Ok((low, high)))
+    }
+
+    /// The range of a merge, or why it is refused.
+    fn merged_range(&self, shard: ShardNo, other: ShardNo) -> Result<Range, Refusal>
+        ensures { result ≡ answer_by (merge_refusal self.now shard other) (joined (range_of (slice_get self.now shard)) (range_of (slice_get self.now other))) }
+    {
+        match (
+            self.shards.get(shard.0 as usize),
+            self.shards.get(other.0 as usize),
+        ) {
+            (Some(kept), Some(beside)) => {
+                if kept.is_open() && beside.is_open() {
+                    kept.range()
+                        .join(&beside.range())
+                        .ok_or(Refusal::NotAdjacent)
+                } else {
+                    Err(Refusal::ShardClosed)
+                }
+            }
+            _ => Err(Refusal::NoShard),
+        }
+    }
+
+    /// Why a merge of the shard with the other is refused, if it is: `NoShard` where one was never made,
+    /// `ShardClosed` where one is closed, `NotAdjacent` where neither range starts right after the other.
+    pub fn merge_refusal(&self, shard: ShardNo, other: ShardNo) -> Option<Refusal>
+        ensures { result ≡ merge_refusal self.now shard other }
+    {
+        self.merged_range(shard, other).err()
+    }
+
+    /// Merges a shard with the one beside it, by a line that drew the number `seq` at `clock`: both are
+    /// closed, and their child comes last, with the shard as its parent and the other as its adjacent
+    /// parent. Refused as `merge_refusal` says (Kinesis API Reference, MergeShards).
+    pub fn merge(
+        &mut self,
+        shard: ShardNo,
+        other: ShardNo,
+        seq: Seq,
+        clock: Moment,
+    ) -> Result<Result<ShardNo, Refusal>, Memory>
+        requires { seq + 1 < 2 ^ 64 }
+        ensures answer { IfOk result (λ a. a ≡ answer_by (merge_refusal self.old shard other) (length self.old)) }
+        ensures value { OnOk result (self.new ≡ value_by (merge_refusal self.old shard other) self.old (merged_shards shard other (record { number = seq; clock = clock }) (seq + 1) self.old)) }
+        ensures refused { IsSome (merge_refusal self.old shard other) → IsOk result }
+        ensures memory { OnErr result (self.new ≡ self.old) }
+    {
+        let range = match self.merged_range(shard, other) {
+            Ok(range) => range,
+            Err(refusal) => return Ok(Err(refusal)),
+        };
+        let child = ShardNo(self.len());
+        let start = Seq(seq.0 + 1);
+        self.shards
+            .push(Kept::new(child, range, Some(shard), Some(other), start))?;
+        self.shards[shard.0 as usize].close(seq, clock);
+        self.shards[other.0 as usize].close(seq, clock);
+        Ok(Ok(child))
+    }
+}
+
+/// The number of the first open shard whose range contains the key, and 0 where there is none.
+fn home_among(shards: &[Kept], hash: u128) -> ShardNo
+    ensures { result ≡ home_among (filter is_open shards.now) hash }
+{
+    for kept in shards {
+        if kept.is_open() && kept.range().contains(hash) {
+            return kept.shard().no;
+        }
+    }
+    ShardNo(0)
+}
+
+/// The shard of this number as it is shown.
+fn shown_at(shards: &[Kept], no: ShardNo) -> Option<&Shard>
+    ensures { option_map (λ s. s.now) result ≡ option_map shown (slice_get shards.now no) }
+{
+    shards.get(no.0 as usize).map(|kept| kept.shard())
+}
+
+#[cfg(test)]
+mod tests {
+    use super::*;
+    use std::test::Fail;
+
+    const MIDDLE: u128 = 1 << 127;
+
+    #[test]
+    fn a_split(rt: HostRuntime) -> Result<(), Fail> {
+        let mut tree = ShardTree::new(rt.alloc(), 1)?;
+        let children = tree.split(ShardNo(0), MIDDLE, Seq(1), Moment::start())?;
+        assert_eq!(rt; children, Ok((ShardNo(1), ShardNo(2))));
+        assert_eq!(rt; (tree.len(), tree.open_count()), (3, 2));
+        for (key, home) in [(0, 1), (MIDDLE - 1, 1), (MIDDLE, 2), (u128::MAX, 2)] {
+            assert_eq!(rt; tree.home(key), ShardNo(home), "of {key}");
+        }
+        let refused = [
+            (0, MIDDLE, Refusal::ShardClosed),
+            (1, 0, Refusal::BadSplit),
+            (2, MIDDLE, Refusal::BadSplit),
+            (3, MIDDLE, Refusal::NoShard),
+        ];
+        for (shard, at, refusal) in refused {
+            assert_eq!(rt;
+                tree.split_refusal(ShardNo(shard), at),
+                Some(refusal),
+                "of {shard}"
+            );
+        }
+        Ok(())
+    }
+
+    #[test]
+    fn a_merge(rt: HostRuntime) -> Result<(), Fail> {
+        let now = Moment::start();
+        let mut tree = ShardTree::new(rt.alloc(), 3)?;
+        for (shard, other) in [(0, 2), (1, 1)] {
+            let refusal = tree.merge_refusal(ShardNo(shard), ShardNo(other));
+            assert_eq!(rt; refusal, Some(Refusal::NotAdjacent), "of {shard}");
+        }
+        let child = tree.merge(ShardNo(1), ShardNo(0), Seq(1), now)?;
+        assert_eq!(rt; child, Ok(ShardNo(3)));
+        let parents = tree.shard(ShardNo(3)).map(|s| (s.parent, s.adjacent));
+        assert_eq!(rt; parents, Some((Some(ShardNo(1)), Some(ShardNo(0)))));
+        assert_eq!(rt; tree.children(ShardNo(0))?.as_slice().len(), 1);
+        assert!(rt; tree.expired(ShardNo(0), Some(now)));
+        let (listed, more) = tree.listed(Some(now), None, 1)?;
+        assert_eq!(rt; (listed.as_slice().len(), more), (1, true));
+        Ok(())
+    }
+}
