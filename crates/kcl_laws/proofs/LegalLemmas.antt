@@ -17,7 +17,10 @@ use Rattle.kds_defs.specs.Histories.{decide, decision, lines_of, journal, clock}
 use Rattle.kds_defs.specs.Journal.{Line, Journal, with_lines}
 use Rattle.kds_defs.specs.Lawful.{IsLawfulCommand, IsHistory, IsItem}
 use Rattle.kds_defs.specs.Legal.{told, in_stream, IsGood, IsLegal, IsInRange, last_clock}
-use Rattle.kds_defs.specs.Streams.{is_live, stream_named}
+use Rattle.kds_defs.specs.Records.{next_number}
+use Rattle.kds_defs.specs.Shards.{ShardState, shards, is_open, home_among}
+use Rattle.kds_defs.specs.StreamCommands.{last_number, put_place, put_line, put_lines}
+use Rattle.kds_defs.specs.Streams.{is_live, stream_named, hours}
 use Rattle.kds_defs.proofs.Decisions.{passes, found, same_lines}
 
 -- the journal with these lines is legal, and its clock is at most c
@@ -63,12 +66,62 @@ retested r false d h = refl
 in_live : (log : Journal) (s : ℕ) (d : Decision) → is_live log s ≡ true → in_stream log s d ≡ d
 in_live log s d live = retested refusal.NoStream (not (is_live log s)) d (ap not live)
 
+not_both : (wanted have : ℕ) (raise : Bool) → (if raise then nat_lt wanted have else nat_lt have wanted) ≡ false → (if not (nat_lt wanted have) then nat_lt wanted have else nat_lt have wanted) ≡ false
+not_both wanted have true h = grind (arith, nat_tests)
+not_both wanted have false h = grind (arith, nat_tests)
+
+-- the line of a put, by the shards of its stream
+put_line_of : List ShardState → ℕ → ℕ → ℕ → ℕ → NewItem → Line
+put_line_of xs c by s number item =
+    record { clock = c; by = by; what = entry.Put s (home_among (filter is_open xs) item.hash) number item.hash (length item.payload); key = item.key; payload = item.payload }
+
+same_put : (first log : Journal) (c by s number : ℕ) (item : NewItem) → shards first s ≡ shards log s → put_line first c by s number item ≡ put_line log c by s number item
+unfolding put_line_of
+same_put first log c by s number item same = ap (λ xs. put_line_of xs c by s number item) same
+
+draws_one : (s n m : ℕ) → n ≡ m → n + 1 ≡ (if s == s then 1 else 0) + m
+draws_one s n m h = grind (arith, nat_tests)
+
+not_spent : (n last more : ℕ) → n + suc more ≤ last → (n == last) ≡ false
+not_spent n last more h = grind (arith, nat_tests)
+
+not_past : (n last : ℕ) → nat_lt last n ≡ false → n ≤ last
+not_past n last h = grind (arith, nat_tests)
+
+-- the puts of several items
+adds_puts : (items : List NewItem) (first log : Journal) (c by s number : ℕ) → AllByRecursion IsItem items → is_live log s ≡ true → shards first s ≡ shards log s → number ≡ next_number log s → number + length items ≤ last_number → IsLegal log → last_clock log ≤ c → Adds log (put_lines first c by s number items) c
+adds_puts [] first log c by s number lawful live same is fits legal order = record { legal = legal; clock = order }
+adds_puts (item ∷ items) first log c by s number lawful live same is fits legal order =
+    let line = put_line first c by s number item in
+    let same_line' : put_line log c by s (next_number log s) item ≡ line =
+    ap (λ n. put_line log c by s n item) (sym is) ∙ sym (same_put first log c by s number item same) in
+    let told_reply : Reply = replies.Put (put_place log s (next_number log s) item) in
+    let spent = ap (λ n. n == last_number) (sym is) ∙ not_spent number last_number (length items) fits in
+    let good : IsGood log line = record {
+      in_order = order;
+      in_range = lawful.0.hash;
+      reply = told_reply;
+      allowed = in_live log s _ live ∙ retested refusal.Spent _ _ spent ∙ ap (λ l. Accepted (l ∷ []) told_reply) same_line';
+    } in
+    let rest = adds_puts items first (line ∷ log) c by s (number + 1) lawful.1 live same (draws_one s number (next_number log s) is) (omega (arith, fits)) (good, legal) (omega arith) in
+    record { legal = rest.legal; clock = rest.clock }
+
 accepted_legal : (log : Journal) (c by : ℕ) (what : Command) (lines : List Line) (reply : Reply) → IsLawfulCommand what → decide log c by what ≡ Accepted lines reply → IsLegal log → last_clock log ≤ c → Adds log lines c
 accepted_legal log c by (command.Create name count) lines reply lawful h legal order =
     let a = passes _ _ _ _ reply h in
     let b = passes _ _ _ _ reply a.1 in
     let d = passes _ _ _ _ reply b.1 in
     adds_one log _ lines reply _ d.1 h lawful.1 legal order
+accepted_legal log c by (command.Delete name) lines reply lawful h legal order =
+    let f = found _ _ _ _ reply h in
+    adds_one log _ lines reply _ f.2 (in_live log f.0 _ (live_named log name f.0 f.1) ∙ f.2) tt legal order
+accepted_legal log c by (command.Streams after limit) lines reply lawful h legal order = adds_none log lines reply _ c h legal order
+accepted_legal log c by (command.Describe name after limit) lines reply lawful h legal order =
+    let f = found _ _ _ _ reply h in
+    adds_none log lines reply _ c f.2 legal order
+accepted_legal log c by (command.Summary name) lines reply lawful h legal order =
+    let f = found _ _ _ _ reply h in
+    adds_none log lines reply _ c f.2 legal order
 accepted_legal log c by (command.Shards name after limit) lines reply lawful h legal order =
     let f = found _ _ _ _ reply h in
     adds_none log lines reply _ c f.2 legal order
@@ -91,6 +144,11 @@ accepted_legal log c by (command.Put name item) lines reply lawful h legal order
     let f = found _ _ _ _ reply h in
     let a = passes _ _ _ _ reply f.2 in
     adds_one log _ lines reply _ a.1 (in_live log f.0 _ (live_named log name f.0 f.1) ∙ f.2) lawful.1.hash legal order
+accepted_legal log c by (command.PutMany name items) lines reply lawful h legal order =
+    let f = found _ _ _ _ reply h in
+    let a = passes _ _ _ _ reply f.2 in
+    subst (λ ls. Adds log ls c) (same_lines _ lines _ reply a.1)
+    (adds_puts items log log c by f.0 (next_number log f.0) lawful.1.each (live_named log name f.0 f.1) refl refl (not_past _ _ a.0) legal order)
 accepted_legal log c by (command.Split name sh at) lines reply lawful h legal order =
     let f = found _ _ _ _ reply h in
     let a = passes _ _ _ _ reply f.2 in
@@ -106,6 +164,10 @@ accepted_legal log c by (command.Merge name sh other) lines reply lawful h legal
     let d = passes _ _ _ _ reply b.1 in
     let e = passes _ _ _ _ reply d.1 in
     adds_one log _ lines reply _ e.1 (in_live log f.0 _ (live_named log name f.0 f.1) ∙ f.2) tt legal order
+accepted_legal log c by (command.Keep name wanted raise) lines reply lawful h legal order =
+    let f = found _ _ _ _ reply h in
+    let a = passes _ _ _ _ reply f.2 in
+    adds_one log _ lines reply _ a.1 (in_live log f.0 _ (live_named log name f.0 f.1) ∙ retested refusal.BadRetention _ _ (not_both wanted (hours log f.0) raise a.0) ∙ a.1) lawful.1 legal order
 
 -- the lines of a decision
 decided_legal : (d : Decision) (log : Journal) (c by : ℕ) (what : Command) → decide log c by what ≡ d → IsLawfulCommand what → IsLegal log → last_clock log ≤ c → Adds log (lines_of d) c

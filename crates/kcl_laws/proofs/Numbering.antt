@@ -17,7 +17,7 @@ use Rattle.kds_defs.specs.Safe.{IsHome, ArePlaced, IsPlaced}
 use Rattle.kds_defs.specs.Shards.{ShardState, Closing, is_open, shards, shards_after, with_closed, home, home_among}
 use Rattle.kds_defs.specs.Streams.{is_live, is_live_after, was_made, was_made_after}
 use Rattle.kds_defs.proofs.Decisions.{passes, holds_so, same_line}
-use Rattle.kcl_laws.proofs.PartitionLemmas.{tiled}
+use Rattle.kcl_laws.proofs.PartitionLemmas.{both_hold, tiled}
 
 numbered_choice : (b : Bool) (xs ys : List ShardState) → AreNumbered 0 xs → AreNumbered 0 ys → AreNumbered 0 (if b then xs else ys)
 numbered_choice true xs ys h g = h
@@ -84,6 +84,7 @@ live_after (entry.Made stream name count) s live made h g = either (stream == s)
     either : (b live made : Bool) → (live ≡ true → made ≡ true) → (b || live) ≡ true → (b || made) ≡ true
     either true live made h g = refl
     either false live made h g = h g
+live_after (entry.Gone stream) s live made h g = h (both_hold _ _ g).1
 live_after _ s live made h g = h g
 
 pub made_if_live : (log : Journal) (s : ℕ) → is_live log s ≡ true → was_made log s ≡ true

@@ -1,5 +1,5 @@
 -- Worked examples, computed from the definitions.
-use Rattle.std.specs.Prelude.{ℕ, ◌≡◌, List, [], ◌∷◌, Some, None, Ok, Err}
+use Rattle.std.specs.Prelude.{ℕ, ◌≡◌, true, false, List, [], ◌∷◌, Some, None, Ok, Err}
 use Rattle.std.proofs.Common.{refl}
 use Rattle.kds_defs.specs.declared.command.Command.{Command}
 use Rattle.kds_defs.specs.declared.command.Command.TheVariants as command
@@ -123,3 +123,52 @@ starts : answers [] (
     ∷ Ok (reply.Records (kept 1 1000 ∷ []) (Some (record { stream = 1; shard = 0; position = 2; issued = 2000 })) 999 []) ∷ [])
 unfolding refuse◌if◌else◌ with◌or◌then◌ turn name item kept
 starts = refl
+
+-- records put together, a deleted stream, names by pages, descriptions
+service : answers [] (
+    turn 1000 (command.Create name 2)
+    ∷ turn 1000 (command.Create other 1)
+    ∷ turn 1000 (command.PutMany name (item ∷ record { key = 98 ∷ []; hash = 0x92eb5ffee6ae2fec3ad71c777531578f; payload = [] } ∷ []))
+    ∷ turn 1000 (command.Streams None 1)
+    ∷ turn 1000 (command.Streams (Some name) 1)
+    ∷ turn 1000 (command.Summary name)
+    ∷ turn 1000 (command.Delete name)
+    ∷ turn 1000 (command.Summary name)
+    ∷ turn 1000 (command.Streams None 1)
+    ∷ turn 2000 (command.Create name 1)
+    ∷ turn 2000 (command.GetIterator name 0 start.Latest)
+    ∷ turn 2000 (command.Records (record { stream = 1; shard = 0; position = 0; issued = 2000 }) 1) ∷ [])
+    ≡ (Ok reply.Done ∷ Ok reply.Done
+    ∷ Ok (reply.PutMany (record { shard = 0; seq = 1 } ∷ record { shard = 1; seq = 2 } ∷ []))
+    ∷ Ok (reply.Streams (name ∷ []) true)
+    ∷ Ok (reply.Streams (other ∷ []) false)
+    ∷ Ok (reply.Summary (record { name = name; made = 1000; hours = 24 }) 2)
+    ∷ Ok reply.Done
+    ∷ Err refusal.NoStream
+    ∷ Ok (reply.Streams (other ∷ []) false)
+    ∷ Ok reply.Done
+    ∷ Ok (reply.Iterator (record { stream = 3; shard = 0; position = 1; issued = 2000 }))
+    ∷ Err refusal.NoStream ∷ [])
+unfolding refuse◌if◌else◌ with◌or◌then◌ turn name other item
+service = refl
+
+-- a longer retention brings nothing back, and both retentions count at a change; where reading by time begins
+kept_hours : answers [] (
+    turn 1000 (command.Create name 1)
+    ∷ turn 1000 (command.Put name item)
+    ∷ turn 2000 (command.Put name item)
+    ∷ turn 2000 (command.GetIterator name 0 (start.Time 1001))
+    ∷ turn 2000 (command.GetIterator name 0 (start.Time 2001))
+    ∷ turn 86401000 (command.Keep name 23 true)
+    ∷ turn 86401000 (command.Keep name 48 false)
+    ∷ turn 86401000 (command.Keep name 48 true)
+    ∷ turn 86401000 (command.Records (record { stream = 1; shard = 0; position = 0; issued = 86401000 }) 10)
+    ∷ turn 86401000 (command.GetIterator name 0 (start.Time 0)) ∷ [])
+    ≡ (Ok reply.Done ∷ Ok (reply.Put (record { shard = 0; seq = 1 })) ∷ Ok (reply.Put (record { shard = 0; seq = 2 }))
+    ∷ Ok (reply.Iterator (record { stream = 1; shard = 0; position = 2; issued = 2000 }))
+    ∷ Ok (reply.Iterator (record { stream = 1; shard = 0; position = 3; issued = 2000 }))
+    ∷ Err refusal.BadRetention ∷ Err refusal.BadRetention ∷ Ok reply.Done
+    ∷ Ok (reply.Records (kept 2 2000 ∷ []) (Some (record { stream = 1; shard = 0; position = 3; issued = 86401000 })) 0 [])
+    ∷ Ok (reply.Iterator (record { stream = 1; shard = 0; position = 2; issued = 86401000 })) ∷ [])
+unfolding refuse◌if◌else◌ with◌or◌then◌ turn name item kept
+kept_hours = refl

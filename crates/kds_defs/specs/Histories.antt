@@ -8,8 +8,8 @@ use Rattle.kds_defs.specs.declared.reply.Refusal.TheVariants as refusal
 use Rattle.kds_defs.specs.declared.reply.Reply.{Reply}
 use Rattle.kds_defs.specs.Decision.{Decision, Refused, Accepted, with◌or◌then◌}
 use Rattle.kds_defs.specs.Journal.{Line, Journal, with_lines}
-use Rattle.kds_defs.specs.Listings.{list_shards, more, get_iterator, get_records}
-use Rattle.kds_defs.specs.StreamCommands.{create, put, split, merge}
+use Rattle.kds_defs.specs.Listings.{streams, describe, summary, list_shards, more, get_iterator, get_records}
+use Rattle.kds_defs.specs.StreamCommands.{create, delete, put, put_many, split, merge, keep}
 use Rattle.kds_defs.specs.Streams.{stream_named}
 
 -- what follows where a live stream has the name
@@ -19,13 +19,19 @@ with_stream log name next = with stream_named log name or refusal.NoStream then 
 -- what a command leads to, after the lines of log, at the clock c, by this actor
 abbrev pub decide : Journal → ℕ → ℕ → Command → Decision
 decide log c by (command.Create name count) = create log c by name count
+decide log c by (command.Delete name) = with_stream log name λ s. delete log c by s
+decide log c by (command.Streams after limit) = streams log after limit
+decide log c by (command.Describe name after limit) = with_stream log name λ s. describe log c s after limit
+decide log c by (command.Summary name) = with_stream log name λ s. summary log s
 decide log c by (command.Shards name after limit) = with_stream log name λ s. list_shards log c s after limit
 decide log c by (command.More page limit) = more log c page limit
 decide log c by (command.GetIterator name sh from) = with_stream log name λ s. get_iterator log c s sh from
 decide log c by (command.Records iter limit) = get_records log c iter limit
 decide log c by (command.Put name item) = with_stream log name λ s. put log c by s item
+decide log c by (command.PutMany name items) = with_stream log name λ s. put_many log c by s items
 decide log c by (command.Split name sh at) = with_stream log name λ s. split log c by s sh at
 decide log c by (command.Merge name sh other) = with_stream log name λ s. merge log c by s sh other
+decide log c by (command.Keep name wanted raise) = with_stream log name λ s. keep log c by s wanted raise
 
 -- the lines that a decision adds
 abbrev pub lines_of : Decision → List Line

@@ -1,5 +1,5 @@
 -- Which journals a machine can leave: each line is good after the lines before it.
-use Rattle.std.specs.Prelude.{ℕ, ◌^◌, ◌<◌, ◌≤◌, ◌≡◌, not, [], ◌∷◌}
+use Rattle.std.specs.Prelude.{ℕ, ◌^◌, ◌<◌, ◌≤◌, ◌≡◌, not, nat_lt, [], ◌∷◌}
 use Rattle.kds_defs.specs.declared.command.NewItem.{NewItem}
 use Rattle.kds_defs.specs.declared.entry.Entry.{Entry}
 use Rattle.kds_defs.specs.declared.entry.Entry.TheVariants as entry
@@ -7,9 +7,9 @@ use Rattle.kds_defs.specs.declared.reply.Refusal.TheVariants as refusal
 use Rattle.kds_defs.specs.declared.reply.Reply.{Reply}
 use Rattle.kds_defs.specs.Decision.{Decision, Accepted, refuse◌if◌else◌}
 use Rattle.kds_defs.specs.Journal.{Line, Journal}
-use Rattle.kds_defs.specs.Lawful.{IsShardCount}
-use Rattle.kds_defs.specs.StreamCommands.{create, put, split, merge}
-use Rattle.kds_defs.specs.Streams.{is_live}
+use Rattle.kds_defs.specs.Lawful.{IsShardCount, IsRetention}
+use Rattle.kds_defs.specs.StreamCommands.{create, delete, put, split, merge, keep}
+use Rattle.kds_defs.specs.Streams.{is_live, hours}
 
 -- what follows where the stream of this number is live
 abbrev pub in_stream : Journal → ℕ → Decision → Decision
@@ -22,14 +22,17 @@ item_of line hash = record { key = line.key; hash = hash; payload = line.payload
 -- what the command that an entry tells leads to after the lines of log
 abbrev pub told : Journal → Line → Entry → Decision
 told log line (entry.Made s name count) = create log line.clock line.by name count
+told log line (entry.Gone s) = in_stream log s (delete log line.clock line.by s)
 told log line (entry.Put s sh number hash bytes) = in_stream log s (put log line.clock line.by s (item_of line hash))
 told log line (entry.Split s sh at number low high) = in_stream log s (split log line.clock line.by s sh at)
 told log line (entry.Merged s sh other number child) = in_stream log s (merge log line.clock line.by s sh other)
+told log line (entry.Kept s wanted) = in_stream log s (keep log line.clock line.by s wanted (not (nat_lt wanted (hours log s))))
 
 -- the numbers of an entry lie in their ranges
 abbrev pub IsInRange : Entry → Type 0
 IsInRange (entry.Made s name count) = IsShardCount count
 IsInRange (entry.Put s sh number hash bytes) = hash < 2 ^ 128
+IsInRange (entry.Kept s wanted) = IsRetention wanted
 IsInRange _ = Unit {0}
 
 -- the clock of the newest line

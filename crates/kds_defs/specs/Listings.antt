@@ -1,9 +1,14 @@
 -- The commands that read streams: their refusals in order, and their replies.
 use Rattle.std.specs.Prelude.{ℕ, ◌+◌, ◌-◌, Bool, true, false, ◌&&◌, not, is_none, nat_le, nat_lt, if◌then◌else◌, List, [], ◌∷◌, length, map, take, Option, Some, None}
 use Rattle.std.specs.List.{filter}
+use Rattle.std.specs.Cmp.Lexicographic.{slice_cmp}
+use Rattle.std.specs.Ordering.{nat_cmp}
+use Rattle.std.specs.declared.cmp.Ordering.{Ordering}
+use Rattle.std.specs.declared.cmp.Ordering.TheVariants.{Less, Equal, Greater}
 use Rattle.kds_defs.specs.declared.command.Start.{Start}
 use Rattle.kds_defs.specs.declared.command.Start.TheVariants as start
 use Rattle.kds_defs.specs.declared.limits.TheConstants.{TOKEN_LIFE}
+use Rattle.kds_defs.specs.declared.reply.About.{About}
 use Rattle.kds_defs.specs.declared.reply.Iter.{Iter}
 use Rattle.kds_defs.specs.declared.reply.Page.{Page}
 use Rattle.kds_defs.specs.declared.reply.Shard.{Shard}
@@ -11,15 +16,49 @@ use Rattle.kds_defs.specs.declared.reply.Refusal.TheVariants as refusal
 use Rattle.kds_defs.specs.declared.reply.Reply.TheVariants as reply
 use Rattle.kds_defs.specs.Decision.{Decision, Accepted, refuse◌if◌else◌, with◌or◌then◌}
 use Rattle.kds_defs.specs.Journal.{Journal}
-use Rattle.kds_defs.specs.Records.{Logged, next_number, left_from, batch, numbers_of, place_after, stored}
-use Rattle.kds_defs.specs.Shards.{ShardState, shard_at, Closing, is_listed, listed_shards, children, shown}
-use Rattle.kds_defs.specs.Streams.{is_live}
+use Rattle.kds_defs.specs.Records.{Logged, next_number, left_from, batch, numbers_of, place_after, stored, first_at}
+use Rattle.kds_defs.specs.Shards.{ShardState, shard_at, Closing, is_listed, listed_shards, open_shards, children, shown}
+use Rattle.kds_defs.specs.Streams.{is_live, live_streams, name_of, made_at, hours}
 
 -- there are more of them than the limit
 abbrev pub are_more : {A : Type 0} → ℕ → List A → Bool
 are_more limit xs = nat_lt limit (length xs)
 
--- ---- ListShards, of a live stream
+-- ---- ListStreams
+
+-- a comes before b in the order of bytes
+abbrev pub is_less : Ordering → Bool
+is_less Less = true
+is_less Equal = false
+is_less Greater = false
+
+abbrev pub name_before : List ℕ → List ℕ → Bool
+name_before a b = is_less (slice_cmp nat_cmp a b)
+
+abbrev pub with_name : List ℕ → List (List ℕ) → List (List ℕ)
+with_name name [] = name ∷ []
+with_name name (n ∷ names) = if name_before name n then name ∷ n ∷ names else n ∷ with_name name names
+
+abbrev pub names_in_order : List (List ℕ) → List (List ℕ)
+names_in_order [] = []
+names_in_order (name ∷ names) = with_name name (names_in_order names)
+
+abbrev pub is_after_name : Option (List ℕ) → List ℕ → Bool
+is_after_name None name = true
+is_after_name (Some after) name = name_before after name
+
+-- the names of the live streams after a name, in the order of bytes
+abbrev pub names_after : Journal → Option (List ℕ) → List (List ℕ)
+names_after log after = filter (is_after_name after) (names_in_order (map (name_of log) (live_streams log)))
+
+abbrev pub streams : Journal → Option (List ℕ) → ℕ → Decision
+streams log after limit =
+    Accepted [] (reply.Streams (take limit (names_after log after)) (are_more limit (names_after log after)))
+
+-- ---- DescribeStream, DescribeStreamSummary, ListShards, of a live stream
+
+abbrev pub about : Journal → ℕ → About
+about log s = record { name = name_of log s; made = made_at log s; hours = hours log s }
 
 abbrev pub is_after_shard : Option ℕ → ShardState → Bool
 is_after_shard None x = true
@@ -28,6 +67,13 @@ is_after_shard (Some after) x = nat_lt after x.no
 -- the listed shards after a number, as they are shown
 abbrev pub shards_from : Journal → ℕ → ℕ → Option ℕ → List Shard
 shards_from log c s after = map shown (filter (is_after_shard after) (listed_shards log c s))
+
+abbrev pub describe : Journal → ℕ → ℕ → Option ℕ → ℕ → Decision
+describe log c s after limit =
+    Accepted [] (reply.Described (about log s) (take limit (shards_from log c s after)) (are_more limit (shards_from log c s after)))
+
+abbrev pub summary : Journal → ℕ → Decision
+summary log s = Accepted [] (reply.Summary (about log s) (length (open_shards log s)))
 
 -- the number of the last shard that is shown
 abbrev pub last_no : List Shard → ℕ
@@ -69,6 +115,7 @@ is_good_start (start.At q) next x = is_good_at x.start next q x.closing
 is_good_start (start.After q) next x = is_good_after x.start next q x.closing
 is_good_start start.TrimHorizon next x = true
 is_good_start start.Latest next x = true
+is_good_start (start.Time moment) next x = true
 
 -- the position where reading begins
 abbrev pub position_of : Journal → ℕ → ℕ → ℕ → Start → ℕ
@@ -76,6 +123,7 @@ position_of log c s sh (start.At q) = q
 position_of log c s sh (start.After q) = q + 1
 position_of log c s sh start.TrimHorizon = 0
 position_of log c s sh start.Latest = next_number log s
+position_of log c s sh (start.Time moment) = first_at (left_from log c s sh 0) moment (next_number log s)
 
 abbrev pub iterator_at : ℕ → ℕ → ℕ → ℕ → Iter
 iterator_at c s sh position = record { stream = s; shard = sh; position = position; issued = c }

@@ -83,3 +83,8 @@ left_from log c s sh position =
 -- a batch (Kinesis API Reference, GetRecords)
 abbrev pub batch : Journal → ℕ → ℕ → ℕ → ℕ → ℕ → List Logged
 batch log c s sh position limit = beginning limit BATCH_BYTES (left_from log c s sh position)
+
+-- the number of the first of these records that arrived at or after a moment, or else this number
+abbrev pub first_at : List Logged → ℕ → ℕ → ℕ
+first_at [] moment otherwise = otherwise
+first_at (r ∷ rs) moment otherwise = if nat_le moment r.arrival then r.seq else first_at rs moment otherwise

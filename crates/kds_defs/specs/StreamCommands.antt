@@ -11,7 +11,7 @@ use Rattle.kds_defs.specs.Decision.{Decision, Accepted, refuse◌if◌else◌}
 use Rattle.kds_defs.specs.Journal.{Line, Journal, plain_line}
 use Rattle.kds_defs.specs.Records.{next_number}
 use Rattle.kds_defs.specs.Shards.{ShardState, shards, shard_at, range_of, is_open, is_listed, open_count, home}
-use Rattle.kds_defs.specs.Streams.{made_count, live_streams, stream_named}
+use Rattle.kds_defs.specs.Streams.{made_count, live_streams, hours, stream_named}
 
 -- the greatest number of a u64
 abbrev pub last_number : ℕ
@@ -29,6 +29,10 @@ create log c by name count =
     refuse refusal.Full if nat_le LIVE_STREAMS (length (live_streams log)) || nat_lt OPEN_SHARDS (open_count log + count) else
     refuse refusal.Spent if made_count log == last_number else
     Accepted (plain_line c by (entry.Made (made_count log + 1) name count) ∷ []) reply.Done
+
+-- DeleteStream, of a live stream
+abbrev pub delete : Journal → ℕ → ℕ → ℕ → Decision
+delete log c by s = Accepted (plain_line c by (entry.Gone s) ∷ []) reply.Done
 
 -- the line of a put: the record goes to the home of its hash
 abbrev pub put_line : Journal → ℕ → ℕ → ℕ → ℕ → NewItem → Line
@@ -51,6 +55,21 @@ put log c by s item =
     refuse refusal.Spent if next_number log s == last_number else
     Accepted (put_line log c by s (next_number log s) item ∷ []) (reply.Put (put_place log s (next_number log s) item))
 
+-- one line for each item, with numbers that go on by one
+abbrev pub put_lines : Journal → ℕ → ℕ → ℕ → ℕ → List NewItem → List Line
+put_lines log c by s number [] = []
+put_lines log c by s number (item ∷ items) = put_line log c by s number item ∷ put_lines log c by s (number + 1) items
+
+abbrev pub put_places : Journal → ℕ → ℕ → List NewItem → List Place
+put_places log s number [] = []
+put_places log s number (item ∷ items) = put_place log s number item ∷ put_places log s (number + 1) items
+
+-- PutRecords, to a live stream
+abbrev pub put_many : Journal → ℕ → ℕ → ℕ → List NewItem → Decision
+put_many log c by s items =
+    refuse refusal.Spent if nat_lt last_number (next_number log s + length items) else
+    Accepted (put_lines log c by s (next_number log s) items) (reply.PutMany (put_places log s (next_number log s) items))
+
 -- SplitShard, in a live stream
 abbrev pub split : Journal → ℕ → ℕ → ℕ → ℕ → ℕ → Decision
 split log c by s sh at =
@@ -69,3 +88,9 @@ merge log c by s sh other =
     refuse refusal.NotAdjacent if not (are_adjacent (range_of (shard_at log s sh)) (range_of (shard_at log s other))) else
     refuse refusal.Spent if nat_lt last_number (length (shards log s)) || next_number log s == last_number else
     Accepted (plain_line c by (entry.Merged s sh other (next_number log s) (length (shards log s))) ∷ []) reply.Done
+
+-- IncreaseStreamRetentionPeriod and DecreaseStreamRetentionPeriod, of a live stream
+abbrev pub keep : Journal → ℕ → ℕ → ℕ → ℕ → Bool → Decision
+keep log c by s wanted raise =
+    refuse refusal.BadRetention if (if raise then nat_lt wanted (hours log s) else nat_lt (hours log s) wanted) else
+    Accepted (plain_line c by (entry.Kept s wanted) ∷ []) reply.Done

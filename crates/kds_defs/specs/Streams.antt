@@ -1,5 +1,5 @@
 -- The streams of a journal: which are live, their names, their retention, and what is trimmed.
-use Rattle.std.specs.Prelude.{ℕ, zero, suc, ◌+◌, ◌-◌, ◌*◌, max, Bool, false, ◌==◌, ◌||◌, not, nat_lt, if◌then◌else◌, nat_eq, List, [], ◌∷◌, Option, Some, None}
+use Rattle.std.specs.Prelude.{ℕ, zero, suc, ◌+◌, ◌-◌, ◌*◌, max, Bool, false, ◌==◌, ◌&&◌, ◌||◌, not, nat_lt, if◌then◌else◌, nat_eq, List, [], ◌∷◌, Option, Some, None}
 use Rattle.std.specs.List.{filter, find}
 use Rattle.std.specs.Cmp.Lexicographic.{pointwise}
 use Rattle.kds_defs.specs.declared.entry.Entry.{Entry}
@@ -31,9 +31,10 @@ abbrev pub was_made : Journal → ℕ → Bool
 was_made [] s = false
 was_made (line ∷ log) s = was_made_after line.what s (was_made log s)
 
--- the stream was made and is there
+-- the stream was made, and has not gone since
 abbrev pub is_live_after : Entry → ℕ → Bool → Bool
 is_live_after (entry.Made stream name shards) s before = (stream == s) || before
+is_live_after (entry.Gone stream) s before = not (stream == s) && before
 is_live_after _ s before = before
 
 abbrev pub is_live : Journal → ℕ → Bool
@@ -49,9 +50,19 @@ abbrev pub name_of : Journal → ℕ → List ℕ
 name_of [] s = []
 name_of (line ∷ log) s = name_of_after line.what s (name_of log s)
 
--- a stream's retention in hours (Kinesis API Reference, CreateStream: 24 hours)
+-- when a stream was made
+abbrev pub made_at_after : Line → Entry → ℕ → ℕ → ℕ
+made_at_after line (entry.Made stream name shards) s before = if stream == s then line.clock else before
+made_at_after line _ s before = before
+
+abbrev pub made_at : Journal → ℕ → ℕ
+made_at [] s = 0
+made_at (line ∷ log) s = made_at_after line line.what s (made_at log s)
+
+-- a stream's retention in hours: 24 hours at first (Kinesis API Reference, IncreaseStreamRetentionPeriod)
 abbrev pub hours_after : Entry → ℕ → ℕ → ℕ
 hours_after (entry.Made stream name shards) s before = if stream == s then FIRST_HOURS else before
+hours_after (entry.Kept stream hours) s before = if stream == s then hours else before
 hours_after _ s before = before
 
 abbrev pub hours : Journal → ℕ → ℕ

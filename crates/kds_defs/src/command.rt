@@ -2,7 +2,7 @@
 ghost use Rattle.std.specs.Prelude.{◌≡◌, IfOk};
 
 use crate::reply::{Iter, Page};
-use kds_base::{Memory, Moment, Name, Octets, Seq, ShardNo};
+use kds_base::{Items, Memory, Moment, Name, Octets, Seq, ShardNo};
 use std::alloc::Global;
 
 /// One event: who acts, when, and what is asked.
@@ -21,10 +21,34 @@ pub enum Command {
         name: Name,
         shards: u32,
     },
+    /// DeleteStream.
+    Delete {
+        name: Name,
+    },
+    /// ListStreams: at most so many names after one.
+    Streams {
+        after: Option<Name>,
+        limit: u32,
+    },
+    /// DescribeStream: the stream, and at most so many of its shards after one.
+    Describe {
+        name: Name,
+        after: Option<ShardNo>,
+        limit: u32,
+    },
+    /// DescribeStreamSummary.
+    Summary {
+        name: Name,
+    },
     /// PutRecord: the stream's name, and the record.
     Put {
         name: Name,
         item: NewItem,
+    },
+    /// PutRecords: the records in order.
+    PutMany {
+        name: Name,
+        items: Items<NewItem>,
     },
     /// GetShardIterator: where reading of a shard begins.
     GetIterator {
@@ -49,6 +73,13 @@ pub enum Command {
         shard: ShardNo,
         other: ShardNo,
     },
+    /// IncreaseStreamRetentionPeriod, where `raise` holds, or DecreaseStreamRetentionPeriod: the retention in
+    /// hours.
+    Keep {
+        name: Name,
+        hours: u32,
+        raise: bool,
+    },
     /// ListShards: at most so many shards after one.
     Shards {
         name: Name,
@@ -69,6 +100,8 @@ pub enum Start {
     After(Seq),
     TrimHorizon,
     Latest,
+    /// At the first record that arrived at or after this moment.
+    Time(Moment),
 }
 
 /// A record as it is put: its partition key in UTF-8, its hash key, its payload.
@@ -94,6 +127,31 @@ impl NewItem {
     }
 }
 
+/// Equal items, in their order.
+fn copy_items(alloc: Global, items: &[NewItem]) -> Result<Items<NewItem>, Memory>
+    ensures { IfOk result (λ c. c ≡ items.now) }
+{
+    let mut copies = Items::new(alloc);
+    for item in items {
+        let copy = item.copy(alloc)?;
+        copies.push(copy)?;
+    }
+    Ok(copies)
+}
+
+/// An equal name, where there is one.
+fn copy_name(alloc: Global, name: &Option<Name>) -> Result<Option<Name>, Memory>
+    ensures { IfOk result (λ c. c ≡ name.now) }
+{
+    match name {
+        Some(name) => {
+            let copy = name.copy(alloc)?;
+            Ok(Some(copy))
+        }
+        None => Ok(None),
+    }
+}
+
 impl Command {
     /// An equal command.
     pub fn copy(&self, alloc: Global) -> Result<Command, Memory>
@@ -105,6 +163,42 @@ impl Command {
                 Ok(Command::Create {
                     name,
                     shards: *shards,
+                })
+            }
+            Command::Delete { name } => {
+                let name = name.copy(alloc)?;
+                Ok(Command::Delete { name })
+            }
+            Command::Streams { after, limit } => {
+                let after = copy_name(alloc, after)?;
+                Ok(Command::Streams {
+                    after,
+                    limit: *limit,
+                })
+            }
+            Command::Describe { name, after, limit } => {
+                let name = name.copy(alloc)?;
+                Ok(Command::Describe {
+                    name,
+                    after: *after,
+                    limit: *limit,
+                })
+            }
+            Command::Summary { name } => {
+                let name = name.copy(alloc)?;
+                Ok(Command::Summary { name })
+            }
+            Command::PutMany { name, items } => {
+                let name = name.copy(alloc)?;
+                let items = copy_items(alloc, items.as_slice())?;
+                Ok(Command::PutMany { name, items })
+            }
+            Command::Keep { name, hours, raise } => {
+                let name = name.copy(alloc)?;
+                Ok(Command::Keep {
+                    name,
+                    hours: *hours,
+                    raise: *raise,
                 })
             }
             Command::Put { name, item } => {

@@ -10,6 +10,10 @@ pub enum Entry {
         name: Name,
         shards: u32,
     },
+    /// A stream was deleted.
+    Gone {
+        stream: StreamNo,
+    },
     /// A record was put; `bytes` counts its payload.
     Put {
         stream: StreamNo,
@@ -34,5 +38,10 @@ pub enum Entry {
         other: ShardNo,
         seq: Seq,
         child: ShardNo,
+    },
+    /// A stream's retention was set, in hours.
+    Kept {
+        stream: StreamNo,
+        hours: u32,
     },
 }

@@ -11,4 +11,4 @@ pub mod reply;
 pub use command::{Command, NewItem, Start, Turn};
 pub use entry::Entry;
 pub use machine::{Answer, Machine};
-pub use reply::{Iter, Page, Place, Refusal, Reply, Shard, Stored};
+pub use reply::{About, Iter, Page, Place, Refusal, Reply, Shard, Stored};

@@ -18,12 +18,24 @@ pub const KEY_CHARACTERS: u64 = 256;
 /// The payload and key bytes that one record may have (Kinesis API Reference, PutRecord, Data).
 pub const RECORD_BYTES: u64 = 1_048_576;
 
+/// The records that one PutRecords may have (Kinesis API Reference, PutRecords, Records).
+pub const MANY_ITEMS: u64 = 500;
+
+/// The payload and key bytes that all records of one PutRecords may have (Kinesis API Reference, PutRecords).
+pub const MANY_BYTES: u64 = 5_242_880;
+
 /// How long an iterator and a listing's token are good, in milliseconds (Kinesis API Reference,
 /// GetShardIterator: 5 minutes).
 pub const TOKEN_LIFE: u64 = 300_000;
 
 /// The retention of a new stream, in hours.
 pub const FIRST_HOURS: u32 = 24;
+
+/// The least retention, in hours (Kinesis API Reference, DecreaseStreamRetentionPeriod).
+pub const LEAST_HOURS: u32 = 24;
+
+/// The greatest, in hours: 365 days (Kinesis API Reference, IncreaseStreamRetentionPeriod).
+pub const MOST_HOURS: u32 = 8_760;
 
 /// The milliseconds of an hour.
 pub const HOUR: u64 = 3_600_000;

@@ -1,5 +1,5 @@
 //! What the machine answers.
-use kds_base::{Items, Moment, Octets, Range, Seq, ShardNo, StreamNo};
+use kds_base::{Items, Moment, Name, Octets, Range, Seq, ShardNo, StreamNo};
 use std::marker::Model;
 
 /// Where a record was put.
@@ -58,13 +58,40 @@ impl Model for Shard {
     ghost inverse = { λ x. record { no = x.no; range = x.range; parent = x.parent; adjacent = x.adjacent; start = x.start; end = x.end } };
 }
 
+/// What is told of a stream: its name, when it was made, its retention in hours (Kinesis API Reference,
+/// StreamDescription and StreamDescriptionSummary).
+#[derive(Drop)]
+pub struct About {
+    pub name: Name,
+    pub made: Moment,
+    pub hours: u32,
+}
+
 /// The answer to an accepted command.
 #[derive(Drop)]
 pub enum Reply {
     /// It was done, and there is nothing to tell.
     Done,
+    /// ListStreams: names, and whether more follow.
+    Streams {
+        names: Items<Name>,
+        more: bool,
+    },
+    /// DescribeStream: the stream, its shards, and whether more of them follow.
+    Described {
+        about: About,
+        shards: Items<Shard>,
+        more: bool,
+    },
+    /// DescribeStreamSummary: the stream, and how many of its shards are open.
+    Summary {
+        about: About,
+        open_shards: u32,
+    },
     /// PutRecord: where the record stands.
     Put(Place),
+    /// PutRecords: where each record stands, in order.
+    PutMany(Items<Place>),
     /// GetShardIterator.
     Iterator(Iter),
     /// GetRecords: the records, where reading goes on, the milliseconds behind the latest, and at the end
@@ -99,6 +126,8 @@ pub enum Refusal {
     BadSplit,
     /// The sequence number lies outside the shard's.
     BadNumber,
+    /// The retention isn't above the present one, or not below it, as was asked.
+    BadRetention,
     /// The iterator is too old.
     Expired,
     /// The listing's token is too old.
