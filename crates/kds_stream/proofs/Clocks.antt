@@ -1,14 +1,13 @@
 -- What a later clock, and the trim of the logs, leave a stream to show.
-use Rattle.std.proofs.Common.{◌≡◌, ℕ, ◌+◌, ◌<◌, ◌≤◌, Bool, true, false, List, [], ◌∷◌, length, map, Option, Some, None, refl, sym, ap, subst, ◌∙◌, arith}
+use Rattle.std.proofs.Common.{◌≡◌, ℕ, ◌+◌, ◌≤◌, Bool, true, false, List, [], ◌∷◌, map, Option, refl, sym, ap, ◌∙◌, arith}
 use Rattle.std.specs.Prelude.{cond, not, nat_le, nat_lt, ◌&&◌}
-use Rattle.std.specs.List.{AllByRecursion, filter}
 use Rattle.std.proofs.lemmas.Bool.Decides.{nat_tests}
 use Rattle.kds_defs.specs.Journal.{Journal}
 use Rattle.kds_defs.specs.Records.{Logged, is_left, left_among, records}
 use Rattle.kds_defs.specs.Streams.{floor_of}
 use Rattle.kds_log.specs.Log.{LogValue}
 use Rattle.kds_stream.proofs.Cuts.{advanced_floor, later_floor}
-use Rattle.kds_stream.specs.Showing.{AreKept, IsKept, Shows}
+use Rattle.kds_stream.specs.Showing.{AreKept, Shows}
 use Rattle.kds_stream.proofs.LogLemmas.{all-filter, all-settled, arrived_later, length-settled}
 use Rattle.kds_stream.specs.Value.{HasArrived, IsBelow, IsStream, StreamValue, cut_at, later_cut, settled_log}
 
@@ -19,17 +18,19 @@ kept_higher floor higher log s n [] le h = tt
 kept_higher floor higher log s n (l ∷ ls) le h =
     (record { from = h.0.from; early = omega (arith, le, h.0.early); rest = h.0.rest }, kept_higher floor higher log s (n + 1) ls le h.1)
 
-pub shows_advanced : (v : StreamValue) (log : Journal) (clock : ℕ) (cut : Option ℕ) → cut ≡ later_cut v.cut (cut_at clock) → v.clock ≤ clock → Shows v log
+pub shows_advanced : (v : StreamValue) (log : Journal) (clock : ℕ) (cut : Option ℕ) → cut ≡ later_cut v.cut (cut_at clock v.hours) → v.clock ≤ clock → Shows v log
     → Shows (record v { clock = clock; cut = cut; clock_before = v.clock; cut_before = v.cut }) log
 shows_advanced v log clock cut is later shown =
-    let higher : floor_of v.cut ≤ floor_of cut = omega (arith, ap floor_of is, later_floor v.cut (cut_at clock)) in
+    let higher : floor_of v.cut ≤ floor_of cut = omega (arith, ap floor_of is, later_floor v.cut (cut_at clock v.hours)) in
     record {
       live = shown.live;
       was = shown.was;
       named = shown.named;
+      made_is = shown.made_is;
+      hours_are = shown.hours_are;
       shards_are = shown.shards_are;
       next_is = shown.next_is;
-      floor_is = advanced_floor log v.clock clock v.no v.cut later shown.floor_is ∙ ap floor_of (sym is);
+      floor_is = advanced_floor log v.clock clock v.no v.hours v.cut later shown.hours_are shown.floor_is ∙ ap floor_of (sym is);
       kept = kept_higher (floor_of v.cut) (floor_of cut) log v.no 0 v.logs higher shown.kept;
       none_beyond = shown.none_beyond;
     }
@@ -65,6 +66,8 @@ shows_settled v log shown = record {
   live = shown.live;
   was = shown.was;
   named = shown.named;
+  made_is = shown.made_is;
+  hours_are = shown.hours_are;
   shards_are = shown.shards_are;
   next_is = shown.next_is;
   floor_is = shown.floor_is;
@@ -75,6 +78,8 @@ shows_settled v log shown = record {
 pub settled_stream : (v : StreamValue) → IsStream v → IsStream (record v { logs = map (settled_log (floor_of v.cut)) v.logs; clock_before = v.clock; cut_before = v.cut })
 settled_stream v is = record {
   as_many = length-settled (floor_of v.cut) v.logs ∙ is.as_many;
+  few = is.few;
+  lasting = is.lasting;
   numbers = all-settled (IsBelow v.next) (floor_of v.cut) (λ l h. h) v.logs is.numbers;
   endings = is.endings;
   arrivals = all-settled (HasArrived v.clock) (floor_of v.cut) (λ l h. all-filter (λ (r : Logged). r.arrival ≤ v.clock) (is_left (floor_of v.cut) 0) l.kept h) v.logs (arrived_later v.clock_before v.clock v.logs is.order is.arrivals);

@@ -3,6 +3,7 @@ pub mod Cuts
 pub mod Listed
 pub mod LogLemmas
 pub mod NewStreams
+pub mod Opens
 pub mod Others
 pub mod Puts
 pub mod ReadLemmas

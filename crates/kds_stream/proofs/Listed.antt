@@ -1,7 +1,6 @@
 -- Which shards are listed, and what iterators and reads of them are answered.
-use Rattle.std.proofs.Common.{◌≡◌, ℕ, ◌+◌, ◌-◌, ◌<◌, Bool, true, false, List, [], length, get_or, map, Option, Some, None, refl, sym, ap, subst, ◌∙◌, arith}
+use Rattle.std.proofs.Common.{◌≡◌, ℕ, ◌<◌, Bool, true, false, List, [], length, get_or, map, Option, Some, None, refl, sym, ap, ◌∙◌, arith}
 use Rattle.std.specs.Prelude.{slice_get, is_none, is_some, not, ◌&&◌, ◌||◌, if◌then◌else◌, Result, Ok, Err}
-use Rattle.std.specs.List.{filter}
 use Rattle.std.specs.Option.{option_map}
 use Rattle.std.proofs.lemmas.Option.{slice_get_within}
 use Rattle.kds_defs.proofs.Decisions.{passed_if, refused_if, with_some}
@@ -17,10 +16,10 @@ use Rattle.kds_defs.specs.declared.reply.Stored.{Stored}
 use Rattle.kds_defs.specs.Decision.{Decision, Accepted}
 use Rattle.kds_defs.specs.Histories.{answer_of}
 use Rattle.kds_defs.specs.Journal.{Journal}
-use Rattle.kds_defs.specs.Listings.{are_more, are_none, behind, ends_at, get_iterator, get_records, is_after_shard, is_closed_at, is_good_start, is_old, iterator_at, last_no, list_shards, position_of, records_reply, shards_from}
-use Rattle.kds_defs.specs.Records.{Logged, batch, left_among, left_from, next_number, numbers_of, place_after, stored}
-use Rattle.kds_defs.specs.Shards.{Closing, ShardState, children, children_among, ending, is_closed_below, is_listed, is_listed_state, listed_among, listed_shards, shard_at, shards, shown}
-use Rattle.kds_defs.specs.Streams.{floor_of, is_live, trim_floor}
+use Rattle.kds_defs.specs.Listings.{are_none, behind, ends_at, get_iterator, get_records, is_closed_at, is_good_start, is_old, iterator_at, position_of, records_reply}
+use Rattle.kds_defs.specs.Records.{Logged, batch, first_at, left_among, left_from, next_number, numbers_of, place_after, stored}
+use Rattle.kds_defs.specs.Shards.{Closing, ShardState, children, children_among, ending, is_closed_below, is_listed, is_listed_state, shard_at, shown}
+use Rattle.kds_defs.specs.Streams.{floor_of, trim_floor}
 use Rattle.kds_log.specs.Log.{LogValue, first_arrival}
 use Rattle.kds_stream.proofs.ReadLemmas.{are_none_by, batch_is, behind_first, left_is}
 use Rattle.kds_stream.specs.Reading.{batch_among, behind_by, position_from}
@@ -102,21 +101,24 @@ module _ (v : StreamValue) (log : Journal) (show : Shows v log) where
   pub iterator_unlisted : (sh : ℕ) (from : Start) → None ≡ option_map shown (listed_at (floor_of v.cut) (slice_get v.tree sh)) → Err refusal.NoShard ≡ answer_of (get_iterator log v.clock v.no sh from)
   iterator_unlisted sh from h = sym (ap answer_of (refused_if _ _ _ (ap not (listed_is sh ∙ unlisted (floor_of v.cut) (slice_get v.tree sh) h))))
 
-  position_is : (sh : ℕ) (from : Start) → position_of log v.clock v.no sh from ≡ position_from v.next from
-  position_is sh (start.At q) = refl
-  position_is sh (start.After q) = refl
-  position_is sh start.TrimHorizon = refl
-  position_is sh start.Latest = show.next_is
+  position_is : (sh : ℕ) (from : Start) (l : LogValue) → sh < length v.logs → l ≡ get_or v.logs sh l → position_of log v.clock v.no sh from ≡ position_from v.next (left_among (floor_of v.cut) 0 l.kept) from
+  position_is sh (start.At q) l below is = refl
+  position_is sh (start.After q) l below is = refl
+  position_is sh start.TrimHorizon l below is = refl
+  position_is sh start.Latest l below is = show.next_is
+  position_is sh (start.Time moment) l below is =
+      ap (λ rs. first_at rs moment (next_number log v.no)) (left_is v log show sh l below is 0)
+      ∙ ap (λ n. first_at (left_among (floor_of v.cut) 0 l.kept) moment n) show.next_is
 
-  iterator_by : (sh : ℕ) (from : Start) (y : Shard) (b : Bool) (has : HasState (floor_of v.cut) (slice_get v.tree sh) y) → is_good_start from v.next has.state ≡ b
-      → answer_of (get_iterator log v.clock v.no sh from) ≡ (if b then Ok (reply.Iterator (iterator_at v.clock v.no sh (position_from v.next from))) else Err refusal.BadNumber)
-  iterator_by sh from y true has good =
+  iterator_by : (sh : ℕ) (from : Start) (y : Shard) (l : LogValue) (below : sh < length v.logs) (is : l ≡ get_or v.logs sh l) (b : Bool) (has : HasState (floor_of v.cut) (slice_get v.tree sh) y) → is_good_start from v.next has.state ≡ b
+      → answer_of (get_iterator log v.clock v.no sh from) ≡ (if b then Ok (reply.Iterator (iterator_at v.clock v.no sh (position_from v.next (left_among (floor_of v.cut) 0 l.kept) from))) else Err refusal.BadNumber)
+  iterator_by sh from y l below is true has good =
       ap answer_of
       (passed_if _ _ _ (ap not (listed_is sh ∙ has.listed))
       ∙ with_some _ _ _ has.state (shard_is sh ∙ has.at)
       ∙ passed_if _ _ _ (ap not (ap (λ n. is_good_start from n has.state) show.next_is ∙ good)))
-      ∙ ap (λ p. Ok (reply.Iterator (iterator_at v.clock v.no sh p))) (position_is sh from)
-  iterator_by sh from y false has good =
+      ∙ ap (λ p. Ok (reply.Iterator (iterator_at v.clock v.no sh p))) (position_is sh from l below is)
+  iterator_by sh from y l below is false has good =
       ap answer_of
       (passed_if _ _ _ (ap not (listed_is sh ∙ has.listed))
       ∙ with_some _ _ _ has.state (shard_is sh ∙ has.at)
@@ -133,20 +135,20 @@ module _ (v : StreamValue) (log : Journal) (show : Shows v log) where
   chosen_none true n h = absurd cc
   chosen_none false n h = refl
 
-  pub iterator_done : (sh : ℕ) (from : Start) (y : Shard) (p : ℕ) → Some y ≡ option_map shown (listed_at (floor_of v.cut) (slice_get v.tree sh))
-      → ((x : ShardState) → y ≡ shown x → Some p ≡ (if is_good_start from v.next x then Some (position_from v.next from) else None))
+  pub iterator_done : (sh : ℕ) (from : Start) (y : Shard) (l : LogValue) (p : ℕ) → sh < length v.logs → l ≡ get_or v.logs sh l → Some y ≡ option_map shown (listed_at (floor_of v.cut) (slice_get v.tree sh))
+      → ((x : ShardState) → y ≡ shown x → Some p ≡ (if is_good_start from v.next x then Some (position_from v.next (left_among (floor_of v.cut) 0 l.kept) from) else None))
       → Ok (reply.Iterator (iterator_at v.clock v.no sh p)) ≡ answer_of (get_iterator log v.clock v.no sh from)
-  iterator_done sh from y p is good =
+  iterator_done sh from y l p below at is good =
       let has = has_state (floor_of v.cut) (slice_get v.tree sh) y is in
-      let begun = chosen_some (is_good_start from v.next has.state) (position_from v.next from) p (good has.state has.is_shown) in
-      sym (iterator_by sh from y true has begun.0 ∙ ap (λ n. Ok (reply.Iterator (iterator_at v.clock v.no sh n))) (sym begun.1))
+      let begun = chosen_some (is_good_start from v.next has.state) (position_from v.next (left_among (floor_of v.cut) 0 l.kept) from) p (good has.state has.is_shown) in
+      sym (iterator_by sh from y l below at true has begun.0 ∙ ap (λ n. Ok (reply.Iterator (iterator_at v.clock v.no sh n))) (sym begun.1))
 
-  pub iterator_bad : (sh : ℕ) (from : Start) (y : Shard) → Some y ≡ option_map shown (listed_at (floor_of v.cut) (slice_get v.tree sh))
-      → ((x : ShardState) → y ≡ shown x → None ≡ (if is_good_start from v.next x then Some (position_from v.next from) else None))
+  pub iterator_bad : (sh : ℕ) (from : Start) (y : Shard) (l : LogValue) → sh < length v.logs → l ≡ get_or v.logs sh l → Some y ≡ option_map shown (listed_at (floor_of v.cut) (slice_get v.tree sh))
+      → ((x : ShardState) → y ≡ shown x → None ≡ (if is_good_start from v.next x then Some (position_from v.next (left_among (floor_of v.cut) 0 l.kept) from) else None))
       → Err refusal.BadNumber ≡ answer_of (get_iterator log v.clock v.no sh from)
-  iterator_bad sh from y is good =
+  iterator_bad sh from y l below at is good =
       let has = has_state (floor_of v.cut) (slice_get v.tree sh) y is in
-      sym (iterator_by sh from y false has (chosen_none (is_good_start from v.next has.state) (position_from v.next from) (good has.state has.is_shown)))
+      sym (iterator_by sh from y l below at false has (chosen_none (is_good_start from v.next has.state) (position_from v.next (left_among (floor_of v.cut) 0 l.kept) from) (good has.state has.is_shown)))
 
   -- ---- the end of a shard
 

@@ -1,20 +1,21 @@
 -- A new stream: it is one, and what it shows.
-use Rattle.std.proofs.Common.{◌≡◌, ℕ, zero, suc, ◌+◌, ◌*◌, ◌/◌, ◌^◌, max, ◌<◌, ◌≤◌, Bool, true, false, List, [], ◌∷◌, length, Option, None, refl, sym, ap, subst, ◌∙◌, arith}
+use Rattle.std.proofs.Common.{◌≡◌, ℕ, zero, suc, ◌+◌, ◌*◌, ◌/◌, ◌^◌, ◌≤◌, Bool, true, false, List, [], ◌∷◌, length, Option, refl, sym, ap, subst, ◌∙◌, arith}
 use Rattle.std.specs.Prelude.{◌==◌, ◌||◌, if◌then◌else◌, replicate}
-use Rattle.std.specs.List.{AllByRecursion}
+use Rattle.std.specs.List.{AllByRecursion, filter}
 use Rattle.std.proofs.lemmas.List.{length-replicate}
 use Rattle.kds_base.specs.Span.{Span, uniform, uniform_from}
 use Rattle.kds_defs.specs.declared.entry.Entry.TheVariants as entry
-use Rattle.kds_defs.specs.declared.limits.TheConstants.{FIRST_HOURS, HOUR}
+use Rattle.kds_defs.specs.declared.limits.TheConstants.{FIRST_HOURS, HOUR, OPEN_SHARDS}
 use Rattle.kds_defs.specs.Journal.{Journal, plain_line}
-use Rattle.kds_defs.specs.Records.{Logged, left_among, next_number, records}
-use Rattle.kds_defs.specs.Shards.{ShardState, first_shards, made_shards, shards}
-use Rattle.kds_defs.specs.Streams.{floor_at, floor_of, floor_of_lines, is_live, name_of, retention, trim_floor, was_made}
+use Rattle.kds_defs.specs.Records.{left_among, next_number, records}
+use Rattle.kds_defs.specs.Lawful.{IsShardCount}
+use Rattle.kds_defs.specs.Shards.{ShardState, first_shards, is_open, made_shards, shards}
+use Rattle.kds_defs.specs.Streams.{floor_at, floor_of, hours, is_live, made_at, name_of, trim_floor, was_made}
 use Rattle.kds_log.specs.Log.{LogValue}
-use Rattle.kds_stream.proofs.Cuts.{cut_floor, retention_is, same_floor}
+use Rattle.kds_stream.proofs.Cuts.{cut_floor, first_floor, trims_at}
 use Rattle.kds_stream.proofs.Puts.{same_number}
 use Rattle.kds_stream.specs.Showing.{AreKept, IsFresh, Shows}
-use Rattle.kds_stream.specs.Value.{EndsUnder, HasArrived, IsBelow, IsStream, StreamValue, cut_at, empty_log}
+use Rattle.kds_stream.specs.Value.{EndsUnder, HasArrived, IsBelow, IsStream, cut_at, empty_log}
 
 -- ---- so many shards, and so many logs
 
@@ -44,13 +45,22 @@ kept_none floor log s n (suc count) none = (record { from = 0; early = omega ari
 
 -- ---- the stream
 
-trims_new : (made : ℕ) (cut : Option ℕ) → cut ≡ cut_at made → floor_of cut ≤ made
-trims_new made cut is = omega (arith, ap floor_of is, cut_floor made)
+trims_new : (made : ℕ) (cut : Option ℕ) → cut ≡ cut_at made FIRST_HOURS → floor_of cut ≤ made
+trims_new made cut is = omega (arith, ap floor_of is, trims_at made FIRST_HOURS (omega arith, omega arith))
 
-pub new_stream : (s : ℕ) (name : List ℕ) (made count : ℕ) (tree : List ShardState) (logs : List LogValue) (cut cut_before : Option ℕ) → tree ≡ made_shards count 1 → logs ≡ replicate count empty_log → cut ≡ cut_at made → cut_before ≡ cut_at made
-    → IsStream (record { no = s; name = name; made = made; tree = tree; logs = logs; next = 1; clock = made; cut = cut; clock_before = made; cut_before = cut_before })
-new_stream s name made count tree logs cut cut_before shards_are logs_are is is_before = record {
+open_first : (n start : ℕ) (ranges : List Span) → length (filter is_open (first_shards n start ranges)) ≡ length ranges
+open_first n start [] = refl
+open_first n start (r ∷ rs) = ap suc (open_first (n + 1) start rs)
+
+few_made : (count : ℕ) → IsShardCount count → length (filter is_open (made_shards count 1)) ≤ OPEN_SHARDS
+few_made count h = omega (arith, h.1, open_first 0 1 (uniform count), length-uniform (2 ^ 128 / count) 0 count)
+
+pub new_stream : (s : ℕ) (name : List ℕ) (made count : ℕ) (tree : List ShardState) (logs : List LogValue) (cut cut_before : Option ℕ) → IsShardCount count → tree ≡ made_shards count 1 → logs ≡ replicate count empty_log → cut ≡ cut_at made FIRST_HOURS → cut_before ≡ cut_at made FIRST_HOURS
+    → IsStream (record { no = s; name = name; made = made; hours = FIRST_HOURS; tree = tree; logs = logs; next = 1; clock = made; cut = cut; clock_before = made; cut_before = cut_before })
+new_stream s name made count tree logs cut cut_before counted shards_are logs_are is is_before = record {
   as_many = ap length logs_are ∙ length-replicate count empty_log ∙ sym (length-made count 1) ∙ ap length (sym shards_are);
+  few = subst (λ (xs : List ShardState). length (filter is_open xs) ≤ OPEN_SHARDS) (sym shards_are) (few_made count counted);
+  lasting = (omega arith, omega arith);
   numbers = subst (AllByRecursion (IsBelow 1)) (sym logs_are) (all_replicate (IsBelow 1) count empty_log tt);
   endings = subst (AllByRecursion (EndsUnder 1)) (sym shards_are) (all_first 1 0 1 (uniform count));
   arrivals = subst (AllByRecursion (HasArrived made)) (sym logs_are) (all_replicate (HasArrived made) count empty_log tt);
@@ -73,24 +83,21 @@ module _ (log : Journal) (by s : ℕ) (name : List ℕ) (made count : ℕ) (fres
   drawn : next_number (plain_line made by (entry.Made s name count) ∷ log) s ≡ 1
   drawn = omega (arith, fresh.undrawn)
 
-  floor_made : (cut : Option ℕ) → cut ≡ cut_at made → trim_floor (plain_line made by (entry.Made s name count) ∷ log) made s ≡ floor_of cut
+  floor_made : (cut : Option ℕ) → cut ≡ cut_at made FIRST_HOURS → trim_floor (plain_line made by (entry.Made s name count) ∷ log) made s ≡ floor_of cut
   floor_made cut is =
-      same_floor log (plain_line made by (entry.Made s name count)) s
-      ∙ ap (λ r. max (floor_at made r) (floor_of_lines log s)) (retention_is log s)
-      ∙ ap (λ n. max (floor_at made (FIRST_HOURS * HOUR)) n) fresh.no_floor
-      ∙ max_zero (floor_at made (FIRST_HOURS * HOUR))
-      ∙ sym (cut_floor made)
+      first_floor log (plain_line made by (entry.Made s name count)) s (either (s == s) (was_made log s) (same_number s)) fresh.unmade fresh.no_floor
+      ∙ ap (λ h. floor_at made (h * HOUR)) (chosen (s == s) FIRST_HOURS (hours log s) (same_number s))
+      ∙ sym (cut_floor made FIRST_HOURS)
       ∙ ap floor_of (sym is)
-    where
-      max_zero : (n : ℕ) → max n 0 ≡ n
-      max_zero n = omega arith
 
-  pub shows_new : (tree : List ShardState) (logs : List LogValue) (cut cut_before : Option ℕ) → tree ≡ made_shards count 1 → logs ≡ replicate count empty_log → cut ≡ cut_at made
-      → Shows (record { no = s; name = name; made = made; tree = tree; logs = logs; next = 1; clock = made; cut = cut; clock_before = made; cut_before = cut_before }) (plain_line made by (entry.Made s name count) ∷ log)
+  pub shows_new : (tree : List ShardState) (logs : List LogValue) (cut cut_before : Option ℕ) → tree ≡ made_shards count 1 → logs ≡ replicate count empty_log → cut ≡ cut_at made FIRST_HOURS
+      → Shows (record { no = s; name = name; made = made; hours = FIRST_HOURS; tree = tree; logs = logs; next = 1; clock = made; cut = cut; clock_before = made; cut_before = cut_before }) (plain_line made by (entry.Made s name count) ∷ log)
   shows_new tree logs cut cut_before shards_are logs_are is = record {
     live = either (s == s) (is_live log s) (same_number s);
     was = either (s == s) (was_made log s) (same_number s);
     named = chosen (s == s) name (name_of log s) (same_number s);
+    made_is = chosen (s == s) made (made_at log s) (same_number s);
+    hours_are = chosen (s == s) FIRST_HOURS (hours log s) (same_number s);
     shards_are = chosen (s == s) _ (shards log s) (same_number s) ∙ ap (made_shards count) drawn ∙ sym shards_are;
     next_is = drawn;
     floor_is = floor_made cut is;

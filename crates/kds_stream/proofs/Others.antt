@@ -1,13 +1,13 @@
 -- The lines of other streams leave every reading of a stream as it was.
-use Rattle.std.proofs.Common.{◌≡◌, ℕ, ◌+◌, ◌≤◌, ◌≢◌, Bool, true, false, List, [], ◌∷◌, length, refl, sym, ap, subst, ◌∙◌, arith}
-use Rattle.std.specs.Prelude.{◌==◌, ◌&&◌, ◌||◌, if◌then◌else◌}
+use Rattle.std.proofs.Common.{◌≡◌, ℕ, ◌+◌, ◌≢◌, Bool, true, false, List, [], ◌∷◌, refl, sym, ap, subst, ◌∙◌, arith}
+use Rattle.std.specs.Prelude.{◌==◌, ◌&&◌, ◌||◌, not, if◌then◌else◌}
 use Rattle.std.proofs.lemmas.Bool.Decides.{nat_tests}
 use Rattle.kds_defs.specs.declared.entry.Entry.{Entry}
 use Rattle.kds_defs.specs.declared.entry.Entry.TheVariants as entry
 use Rattle.kds_defs.specs.Journal.{Line, Journal}
 use Rattle.kds_defs.specs.Records.{Logged, draws, next_number, records, records_after}
 use Rattle.kds_defs.specs.Shards.{ShardState, shards, shards_after}
-use Rattle.kds_defs.specs.Streams.{floor_after, floor_of, floor_of_lines, is_live, is_live_after, name_of, name_of_after, trim_floor, was_made, was_made_after}
+use Rattle.kds_defs.specs.Streams.{floor_after, floor_of, hours, hours_after, is_live, is_live_after, made_at, made_at_after, name_of, name_of_after, was_made, was_made_after}
 use Rattle.kds_log.specs.Log.{LogValue}
 use Rattle.kds_stream.proofs.Cuts.{same_floor_at}
 use Rattle.kds_stream.specs.Showing.{AreKept, IsFresh, IsKept, Shows, stream_of}
@@ -40,6 +40,7 @@ not_both false c h = refl
 
 live_same : (what : Entry) (s : ℕ) (before : Bool) → stream_of what ≢ s → is_live_after what s before ≡ before
 live_same (entry.Made a name count) s before h = not_either (a == s) before (differ a s h)
+live_same (entry.Gone a) s before h = ap (λ b. not b && before) (differ a s h)
 live_same _ s before h = refl
 
 made_same : (what : Entry) (s : ℕ) (before : Bool) → stream_of what ≢ s → was_made_after what s before ≡ before
@@ -50,14 +51,27 @@ name_same : (what : Entry) (s : ℕ) (before : List ℕ) → stream_of what ≢ 
 name_same (entry.Made a name count) s before h = not_chosen (a == s) name before (differ a s h)
 name_same _ s before h = refl
 
+made_at_same : (line : Line) (what : Entry) (s before : ℕ) → stream_of what ≢ s → made_at_after line what s before ≡ before
+made_at_same line (entry.Made a name count) s before h = not_chosen (a == s) line.clock before (differ a s h)
+made_at_same line _ s before h = refl
+
+hours_same : (what : Entry) (s before : ℕ) → stream_of what ≢ s → hours_after what s before ≡ before
+hours_same (entry.Made a name count) s before h = not_chosen (a == s) _ before (differ a s h)
+hours_same (entry.Kept a wanted) s before h = not_chosen (a == s) wanted before (differ a s h)
+hours_same _ s before h = refl
+
 draws_none : (what : Entry) (s : ℕ) → stream_of what ≢ s → draws what s ≡ 0
 draws_none (entry.Made a name count) s h = refl
+draws_none (entry.Gone a) s h = refl
+draws_none (entry.Kept a wanted) s h = refl
 draws_none (entry.Put a sh number hash bytes) s h = not_chosen (a == s) 1 0 (differ a s h)
 draws_none (entry.Split a sh at number low high) s h = not_chosen (a == s) 1 0 (differ a s h)
 draws_none (entry.Merged a sh other number child) s h = not_chosen (a == s) 1 0 (differ a s h)
 
 shards_same : (line : Line) (what : Entry) (s start : ℕ) (before : List ShardState) → stream_of what ≢ s → shards_after line what s start before ≡ before
 shards_same line (entry.Made a name count) s start before h = not_chosen (a == s) _ before (differ a s h)
+shards_same line (entry.Gone a) s start before h = refl
+shards_same line (entry.Kept a wanted) s start before h = refl
 shards_same line (entry.Put a sh number hash bytes) s start before h = refl
 shards_same line (entry.Split a sh at number low high) s start before h = not_chosen (a == s) _ before (differ a s h)
 shards_same line (entry.Merged a sh other number child) s start before h = not_chosen (a == s) _ before (differ a s h)
@@ -84,9 +98,11 @@ shows_other v log line shown at other = record {
   live = live_same line.what v.no (is_live log v.no) other ∙ shown.live;
   was = made_same line.what v.no (was_made log v.no) other ∙ shown.was;
   named = name_same line.what v.no (name_of log v.no) other ∙ shown.named;
+  made_is = made_at_same line line.what v.no (made_at log v.no) other ∙ shown.made_is;
+  hours_are = hours_same line.what v.no (hours log v.no) other ∙ shown.hours_are;
   shards_are = shards_same line line.what v.no (next_number (line ∷ log) v.no) (shards log v.no) other ∙ shown.shards_are;
   next_is = next_same log line v.no other ∙ shown.next_is;
-  floor_is = same_floor_at log line v.clock v.no at ∙ shown.floor_is;
+  floor_is = same_floor_at log line v.clock v.no at (hours_same line.what v.no (hours log v.no) other) ∙ shown.floor_is;
   kept = kept_along (floor_of v.cut) log (line ∷ log) v.no 0 v.logs (λ sh. records_same line line.what v.no sh (records log v.no sh) other) shown.kept;
   none_beyond = λ sh beyond. records_same line line.what v.no sh (records log v.no sh) other ∙ shown.none_beyond sh beyond;
 }

@@ -1,10 +1,9 @@
 -- A put: its decision, what the stream shows after it, and that it is a stream still.
-use Rattle.std.proofs.Common.{◌≡◌, ◌≢◌, ℕ, zero, suc, ◌+◌, ◌-◌, ◌^◌, ◌<◌, ◌≤◌, Bool, true, false, List, [], ◌∷◌, ◌++◌, length, Option, Some, None, refl, sym, ap, subst, ◌∙◌, arith}
-use Rattle.std.specs.Prelude.{◌==◌, ◌&&◌, cond, not, nat_le, nat_lt, if◌then◌else◌, slice_get, Result, Ok, Err}
+use Rattle.std.proofs.Common.{◌≡◌, ◌≢◌, ℕ, zero, suc, ◌+◌, ◌^◌, ◌<◌, ◌≤◌, Bool, true, false, List, [], ◌∷◌, ◌++◌, length, Option, Some, None, refl, sym, ap, subst, ◌∙◌, arith}
+use Rattle.std.specs.Prelude.{◌==◌, ◌&&◌, cond, not, nat_le, nat_lt, if◌then◌else◌, Result, Ok, Err}
 use Rattle.std.specs.List.{AllByRecursion, filter}
 use Rattle.std.proofs.lemmas.Bool.Decides.{nat_tests}
 use Rattle.std.proofs.lemmas.List.Elements.{filter-append}
-use Rattle.std.proofs.lemmas.Option.{slice_get_within}
 use Rattle.kds_defs.proofs.Decisions.{after_accepted, after_refused, passed_if, refused_if}
 use Rattle.kds_defs.specs.declared.command.NewItem.{NewItem}
 use Rattle.kds_defs.specs.declared.reply.Place.{Place}
@@ -22,7 +21,6 @@ use Rattle.kds_defs.specs.Streams.{floor_of}
 use Rattle.kds_log.specs.Log.{LogValue}
 use Rattle.kds_stream.proofs.Cuts.{same_floor_at}
 use Rattle.kds_stream.proofs.LogLemmas.{all-append, all-appended, all_weaker, arrived_later, length-appended}
-use Rattle.kds_stream.proofs.Others.{kept_along}
 use Rattle.kds_stream.specs.Showing.{AreKept, IsKept, Shows}
 use Rattle.kds_stream.specs.Value.{EndsUnder, HasArrived, IsBelow, IsClosedUnder, IsStream, IsUnder, StreamValue, with_appended}
 
@@ -118,9 +116,11 @@ module _ (v : StreamValue) (log : Journal) (by : ℕ) (item : NewItem) (shown : 
         live = shown.live;
         was = shown.was;
         named = shown.named;
+        made_is = shown.made_is;
+        hours_are = shown.hours_are;
         shards_are = shown.shards_are;
         next_is = one_more (v.no == v.no) (next_number log v.no) v.next (same_number v.no) shown.next_is;
-        floor_is = same_floor_at log (put_line log v.clock by v.no (next_number log v.no) item) v.clock v.no refl ∙ shown.floor_is;
+        floor_is = same_floor_at log (put_line log v.clock by v.no (next_number log v.no) item) v.clock v.no refl refl ∙ shown.floor_is;
         kept =
             kept_put (floor_of v.cut) log (put_line log v.clock by v.no (next_number log v.no) item ∷ log) v.no 0 sh sh (put_record v item) v.logs trims (omega arith) (here sh is)
             (λ other differ. elsewhere other (λ e. differ (sym is ∙ e))) shown.kept;
@@ -174,6 +174,8 @@ stream_put v sh next r logs drawn free number arrival are is =
     let more : v.next + 1 ≤ next = omega (arith, drawn) in
     record {
       as_many = ap length are ∙ length-appended sh r v.logs ∙ is.as_many;
+      few = is.few;
+      lasting = is.lasting;
       numbers =
           subst (AllByRecursion (IsBelow next)) (sym are)
           (all-appended (IsBelow v.next) (IsBelow next) sh r (λ l h. under_more l.last v.next next more h) (λ l h. omega (arith, number, drawn)) v.logs is.numbers);

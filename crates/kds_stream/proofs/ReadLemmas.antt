@@ -1,15 +1,15 @@
 -- What is read of a shard: the last of a batch, and what a log holds of the records that are left.
-use Rattle.std.proofs.Common.{◌≡◌, ℕ, zero, suc, ◌+◌, ◌-◌, ◌^◌, ◌<◌, ◌≤◌, Bool, true, false, List, [], ◌∷◌, length, get_or, map, Option, Some, None, refl, sym, ap, subst, ◌∙◌, arith}
-use Rattle.std.specs.Prelude.{slice_get, is_none, nat_le, if◌then◌else◌}
-use Rattle.std.specs.List.{AllByRecursion, filter}
+use Rattle.std.proofs.Common.{◌≡◌, ℕ, zero, suc, ◌+◌, ◌-◌, ◌^◌, ◌<◌, Bool, true, false, List, [], ◌∷◌, length, get_or, map, Option, Some, None, refl, sym, ap, subst, ◌∙◌, arith}
+use Rattle.std.specs.Prelude.{cond, slice_get, is_none, nat_le, if◌then◌else◌}
+use Rattle.std.specs.List.{AllByRecursion}
 use Rattle.kds_defs.specs.declared.reply.Shard.{Shard}
 use Rattle.kds_defs.specs.declared.reply.Stored.{Stored}
 use Rattle.kds_defs.specs.declared.limits.TheConstants.{BATCH_BYTES}
 use Rattle.kds_defs.specs.Journal.{Journal}
 use Rattle.kds_defs.specs.Listings.{are_none, behind, last_no}
-use Rattle.kds_defs.specs.Records.{Logged, batch, beginning, is_left, left_among, left_from, numbers_of, place_after, records, stored}
-use Rattle.kds_defs.specs.Streams.{floor_of, is_live, trim_floor}
-use Rattle.kds_log.specs.Log.{IsOrderly, IsUpTo, LogValue, first_arrival}
+use Rattle.kds_defs.specs.Records.{Logged, batch, beginning, first_at, is_left, left_among, left_from, numbers_of, place_after, records, stored}
+use Rattle.kds_defs.specs.Streams.{floor_of, trim_floor}
+use Rattle.kds_log.specs.Log.{IsOrderly, IsUpTo, LogValue, first_arrival, first_number, since}
 use Rattle.kds_stream.proofs.Clocks.{left_twice}
 use Rattle.kds_stream.proofs.LogLemmas.{all-filter, all_at, all_weaker}
 use Rattle.kds_stream.specs.Reading.{batch_among, behind_by}
@@ -66,6 +66,22 @@ below_last v i l is below at = by l.last (all_at (IsBelow v.next) v.logs i l bel
     by : (last : Option ℕ) → IsUnder v.next last → IsUnder (2 ^ 64 - 1) last
     by None h = tt
     by (Some n) h = omega (arith, is.fits)
+
+-- ---- the first that arrived at or after a moment
+
+-- a number, or else the next one
+abbrev pub or_next : Option ℕ → ℕ → ℕ
+or_next None next = next
+or_next (Some n) next = n
+
+first_by : (b : Bool) (r : Logged) (rs : List Logged) (moment next : ℕ) (o : Option ℕ) → o ≡ first_number (cond b (r ∷ since moment rs) (since moment rs))
+    → (o ≡ first_number (since moment rs) → or_next o next ≡ first_at rs moment next) → or_next o next ≡ (if b then r.seq else first_at rs moment next)
+first_by true r rs moment next o is rest = ap (λ x. or_next x next) is
+first_by false r rs moment next o is rest = rest is
+
+pub first_is : (rs : List Logged) (moment next : ℕ) (o : Option ℕ) → o ≡ first_number (since moment rs) → or_next o next ≡ first_at rs moment next
+first_is [] moment next o is = ap (λ x. or_next x next) is
+first_is (r ∷ rs) moment next o is = first_by (nat_le moment r.arrival) r rs moment next o is (first_is rs moment next o)
 
 -- ---- what is left of a shard's records
 

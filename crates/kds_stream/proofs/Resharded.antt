@@ -1,25 +1,28 @@
 -- What a stream shows after a split or a merge, and that it is a stream still.
-use Rattle.std.proofs.Common.{◌≡◌, ◌≢◌, ℕ, zero, suc, ◌+◌, ◌^◌, ◌<◌, ◌≤◌, Bool, true, false, List, [], ◌∷◌, ◌++◌, length, Option, Some, None, refl, sym, ap, subst, ◌∙◌, arith, length-append}
+use Rattle.std.proofs.Common.{◌≡◌, ◌≢◌, ℕ, zero, suc, ◌+◌, ◌<◌, ◌≤◌, Bool, true, false, List, [], ◌∷◌, ◌++◌, length, Some, None, refl, sym, ap, subst, ◌∙◌, arith, length-append}
 use Rattle.std.specs.Prelude.{◌==◌, if◌then◌else◌, slice_get, Ok}
-use Rattle.std.specs.List.{AllByRecursion}
+use Rattle.std.specs.List.{AllByRecursion, filter}
 use Rattle.kds_base.specs.Span.{joined, lower_part, upper_part}
 use Rattle.kds_defs.proofs.Decisions.{after_accepted}
 use Rattle.kds_defs.proofs.Numbers.{length-closed}
+use Rattle.kds_defs.specs.declared.limits.TheConstants.{OPEN_SHARDS}
 use Rattle.kds_defs.specs.declared.reply.Reply.TheVariants as reply
 use Rattle.kds_defs.specs.Decision.{Accepted}
 use Rattle.kds_defs.specs.Histories.{answer_of, lines_of}
 use Rattle.kds_defs.specs.Journal.{Journal, Line, with_lines}
 use Rattle.kds_defs.specs.Records.{left_among, next_number, records}
-use Rattle.kds_defs.specs.Shards.{Closing, ShardState, merged_shards, new_shard, range_of, shards, split_shards, with_closed}
+use Rattle.kds_defs.specs.Shards.{Closing, ShardState, is_open, merged_shards, new_shard, range_of, shards, split_shards, with_closed}
 use Rattle.kds_defs.specs.StreamCommands.{last_number, merge, split}
-use Rattle.kds_defs.specs.Streams.{floor_of, is_live, name_of, was_made}
+use Rattle.kds_defs.specs.Streams.{floor_of, hours, is_live, made_at, name_of, was_made}
 use Rattle.kds_log.specs.Log.{LogValue}
 use Rattle.kds_stream.proofs.Cuts.{same_floor_at}
 use Rattle.kds_stream.proofs.LogLemmas.{all-append, all_weaker, arrived_later, below_higher}
+use Rattle.kds_stream.proofs.Opens.{few_merged, few_split}
 use Rattle.kds_stream.proofs.Others.{kept_along}
 use Rattle.kds_stream.proofs.Puts.{ends_later, one_free, same_number}
 use Rattle.kds_stream.specs.Showing.{AreKept, Shows, merge_line, split_line}
-use Rattle.kds_stream.specs.Value.{EndsUnder, HasArrived, IsBelow, IsClosedUnder, IsStream, StreamValue, empty_log}
+use Rattle.kds_stream.specs.Value.{EndsUnder, HasArrived, IsBelow, IsStream, StreamValue, empty_log}
+use Rattle.kds_tree.specs.Tree.{merge_refusal, split_refusal}
 
 -- ---- the shards after it
 
@@ -63,10 +66,12 @@ all_empty P new p h = all_weaker (λ l. l ≡ empty_log) P (λ l is. subst P (sy
 
 -- ---- the stream after it
 
-pub stream_grown : (v : StreamValue) (tree : List ShardState) (new : List LogValue) (next : ℕ) → next ≡ v.next + 1 → v.next ≢ last_number → AllByRecursion (λ l. l ≡ empty_log) new → length tree ≡ length v.tree + length new → AllByRecursion (EndsUnder next) tree → IsStream v
+pub stream_grown : (v : StreamValue) (tree : List ShardState) (new : List LogValue) (next : ℕ) → next ≡ v.next + 1 → v.next ≢ last_number → AllByRecursion (λ l. l ≡ empty_log) new → length tree ≡ length v.tree + length new → length (filter is_open tree) ≤ OPEN_SHARDS → AllByRecursion (EndsUnder next) tree → IsStream v
     → IsStream (record v { tree = tree; logs = v.logs ++ new; next = next; clock_before = v.clock; cut_before = v.cut })
-stream_grown v tree new next drawn free empty grown ends is = record {
+stream_grown v tree new next drawn free empty grown few ends is = record {
   as_many = omega (arith, length-append v.logs new, is.as_many, grown);
+  few = few;
+  lasting = is.lasting;
   numbers = all-append (IsBelow next) v.logs new (below_higher v.next next v.logs (omega (arith, drawn)) is.numbers) (all_empty (IsBelow next) new tt empty);
   endings = ends;
   arrivals = all-append (HasArrived v.clock) v.logs new (arrived_later v.clock_before v.clock v.logs is.order is.arrivals) (all_empty (HasArrived v.clock) new tt empty);
@@ -78,16 +83,18 @@ stream_grown v tree new next drawn free empty grown ends is = record {
 }
 
 -- ... of a journal with one line more, which adds no record
-shows_grown : (v : StreamValue) (log : Journal) (line : Line) (tree : List ShardState) (new : List LogValue) (next : ℕ) → line.clock ≡ v.clock → is_live (line ∷ log) v.no ≡ is_live log v.no → was_made (line ∷ log) v.no ≡ was_made log v.no → name_of (line ∷ log) v.no ≡ name_of log v.no
+shows_grown : (v : StreamValue) (log : Journal) (line : Line) (tree : List ShardState) (new : List LogValue) (next : ℕ) → line.clock ≡ v.clock → is_live (line ∷ log) v.no ≡ is_live log v.no → was_made (line ∷ log) v.no ≡ was_made log v.no → name_of (line ∷ log) v.no ≡ name_of log v.no → made_at (line ∷ log) v.no ≡ made_at log v.no → hours (line ∷ log) v.no ≡ hours log v.no
     → ((sh : ℕ) → records (line ∷ log) v.no sh ≡ records log v.no sh) → shards (line ∷ log) v.no ≡ tree → next_number (line ∷ log) v.no ≡ next → AllByRecursion (λ l. l ≡ empty_log) new → length tree ≡ length v.tree + length new → length v.logs ≡ length v.tree → Shows v log
     → Shows (record v { tree = tree; logs = v.logs ++ new; next = next; clock_before = v.clock; cut_before = v.cut }) (line ∷ log)
-shows_grown v log line tree new next at live was named same shards_are next_is empty grown as_many show = record {
+shows_grown v log line tree new next at live was named made lasts same shards_are next_is empty grown as_many show = record {
   live = live ∙ show.live;
   was = was ∙ show.was;
   named = named ∙ show.named;
+  made_is = made ∙ show.made_is;
+  hours_are = lasts ∙ show.hours_are;
   shards_are = shards_are;
   next_is = next_is;
-  floor_is = same_floor_at log line v.clock v.no at ∙ show.floor_is;
+  floor_is = same_floor_at log line v.clock v.no at lasts ∙ show.floor_is;
   kept = kept_along (floor_of v.cut) log (line ∷ log) v.no 0 (v.logs ++ new) same (kept_grown (floor_of v.cut) log v.no 0 v.logs new empty (λ sh beyond. show.none_beyond sh (omega (arith, beyond, as_many))) show.kept);
   none_beyond = λ sh beyond. same sh ∙ show.none_beyond sh (omega (arith, beyond, grown));
 }
@@ -112,7 +119,7 @@ module _ (v : StreamValue) (log : Journal) (by : ℕ) (show : Shows v log) (is :
       ∙ ap (split_shards sh at (record { number = v.next; clock = v.clock }) (v.next + 1)) show.shards_are
       ∙ sym tree_is in
       subst (λ (ls : List LogValue). Shows (record v { tree = tree; logs = ls; next = next; clock_before = v.clock; cut_before = v.cut }) (split_line log v.clock by v.no sh at ∷ log)) (sym logs_are)
-      (shows_grown v log (split_line log v.clock by v.no sh at) tree (empty_log ∷ empty_log ∷ []) next refl refl refl refl (λ n. refl) after (more ∙ sym drawn) (refl, (refl, tt))
+      (shows_grown v log (split_line log v.clock by v.no sh at) tree (empty_log ∷ empty_log ∷ []) next refl refl refl refl refl refl (λ n. refl) after (more ∙ sym drawn) (refl, (refl, tt))
       (ap length tree_is ∙ length-split sh at (v.next + 1) (record { number = v.next; clock = v.clock }) v.tree) is.as_many show)
 
   pub shows_merged : (sh other next : ℕ) (tree : List ShardState) (logs : List LogValue) → next ≡ v.next + 1 → tree ≡ merged_shards sh other (record { number = v.next; clock = v.clock }) (v.next + 1) v.tree → logs ≡ v.logs ++ (empty_log ∷ [])
@@ -126,23 +133,25 @@ module _ (v : StreamValue) (log : Journal) (by : ℕ) (show : Shows v log) (is :
       ∙ ap (merged_shards sh other (record { number = v.next; clock = v.clock }) (v.next + 1)) show.shards_are
       ∙ sym tree_is in
       subst (λ (ls : List LogValue). Shows (record v { tree = tree; logs = ls; next = next; clock_before = v.clock; cut_before = v.cut }) (merge_line log v.clock by v.no sh other ∷ log)) (sym logs_are)
-      (shows_grown v log (merge_line log v.clock by v.no sh other) tree (empty_log ∷ []) next refl refl refl refl (λ n. refl) after (more ∙ sym drawn) (refl, tt)
+      (shows_grown v log (merge_line log v.clock by v.no sh other) tree (empty_log ∷ []) next refl refl refl refl refl refl (λ n. refl) after (more ∙ sym drawn) (refl, tt)
       (ap length tree_is ∙ length-merged sh other (v.next + 1) (record { number = v.next; clock = v.clock }) v.tree) is.as_many show)
 
-pub stream_split : (v : StreamValue) (sh at next : ℕ) (tree : List ShardState) (logs : List LogValue) → next ≡ v.next + 1 → v.next ≢ last_number → tree ≡ split_shards sh at (record { number = v.next; clock = v.clock }) (v.next + 1) v.tree → logs ≡ v.logs ++ (empty_log ∷ empty_log ∷ []) → IsStream v
+pub stream_split : (v : StreamValue) (sh at next : ℕ) (tree : List ShardState) (logs : List LogValue) → next ≡ v.next + 1 → v.next ≢ last_number → length (filter is_open v.tree) < OPEN_SHARDS → split_refusal v.tree sh at ≡ None → tree ≡ split_shards sh at (record { number = v.next; clock = v.clock }) (v.next + 1) v.tree → logs ≡ v.logs ++ (empty_log ∷ empty_log ∷ []) → IsStream v
     → IsStream (record v { tree = tree; logs = logs; next = next; clock_before = v.clock; cut_before = v.cut })
-stream_split v sh at next tree logs drawn free tree_is logs_are is =
+stream_split v sh at next tree logs drawn free few passes tree_is logs_are is =
     let how : Closing = record { number = v.next; clock = v.clock } in
     subst (λ (ls : List LogValue). IsStream (record v { tree = tree; logs = ls; next = next; clock_before = v.clock; cut_before = v.cut })) (sym logs_are)
     (stream_grown v tree (empty_log ∷ empty_log ∷ []) next drawn free (refl, (refl, tt)) (ap length tree_is ∙ length-split sh at (v.next + 1) how v.tree)
+    (subst (λ (xs : List ShardState). length (filter is_open xs) ≤ OPEN_SHARDS) (sym tree_is) (few_split v.tree sh at (v.next + 1) how few passes))
     (subst (AllByRecursion (EndsUnder next)) (sym tree_is) (ends_split next sh at (v.next + 1) how v.tree (omega (arith, drawn)) (ends_later v.next next v.tree (omega (arith, drawn)) is.endings))) is)
 
-pub stream_merged : (v : StreamValue) (sh other next : ℕ) (tree : List ShardState) (logs : List LogValue) → next ≡ v.next + 1 → v.next ≢ last_number → tree ≡ merged_shards sh other (record { number = v.next; clock = v.clock }) (v.next + 1) v.tree → logs ≡ v.logs ++ (empty_log ∷ []) → IsStream v
+pub stream_merged : (v : StreamValue) (sh other next : ℕ) (tree : List ShardState) (logs : List LogValue) → next ≡ v.next + 1 → v.next ≢ last_number → merge_refusal v.tree sh other ≡ None → tree ≡ merged_shards sh other (record { number = v.next; clock = v.clock }) (v.next + 1) v.tree → logs ≡ v.logs ++ (empty_log ∷ []) → IsStream v
     → IsStream (record v { tree = tree; logs = logs; next = next; clock_before = v.clock; cut_before = v.cut })
-stream_merged v sh other next tree logs drawn free tree_is logs_are is =
+stream_merged v sh other next tree logs drawn free passes tree_is logs_are is =
     let how : Closing = record { number = v.next; clock = v.clock } in
     subst (λ (ls : List LogValue). IsStream (record v { tree = tree; logs = ls; next = next; clock_before = v.clock; cut_before = v.cut })) (sym logs_are)
     (stream_grown v tree (empty_log ∷ []) next drawn free (refl, tt) (ap length tree_is ∙ length-merged sh other (v.next + 1) how v.tree)
+    (subst (λ (xs : List ShardState). length (filter is_open xs) ≤ OPEN_SHARDS) (sym tree_is) (few_merged v.tree sh other (v.next + 1) how is.few passes))
     (subst (AllByRecursion (EndsUnder next)) (sym tree_is) (ends_merged next sh other (v.next + 1) how v.tree (omega (arith, drawn)) (ends_later v.next next v.tree (omega (arith, drawn)) is.endings))) is)
 
 -- ---- what the calls owe

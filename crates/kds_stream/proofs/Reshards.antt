@@ -1,31 +1,23 @@
 -- Splits and merges: their decisions, and what the stream shows after them.
-use Rattle.std.proofs.Common.{◌≡◌, ◌≢◌, ℕ, zero, suc, ◌+◌, ◌-◌, ◌^◌, ◌<◌, ◌≤◌, Bool, true, false, List, [], ◌∷◌, ◌++◌, length, Option, Some, None, refl, sym, ap, subst, ◌∙◌, arith, length-append}
+use Rattle.std.proofs.Common.{◌≡◌, ◌≢◌, ℕ, ◌+◌, ◌^◌, ◌<◌, Bool, true, false, List, [], ◌∷◌, length, Option, Some, None, refl, sym, ap, subst, ◌∙◌, arith}
 use Rattle.std.specs.Prelude.{◌==◌, ◌&&◌, ◌||◌, not, nat_le, nat_lt, is_some, slice_get, if◌then◌else◌}
-use Rattle.std.specs.List.{AllByRecursion}
-use Rattle.std.specs.Option.{option_map}
 use Rattle.std.proofs.lemmas.Bool.Decides.{nat_tests}
-use Rattle.kds_base.specs.Span.{are_adjacent, is_inside, joined, lower_part, upper_part}
+use Rattle.kds_base.specs.Span.{are_adjacent, is_inside}
 use Rattle.kds_defs.proofs.Decisions.{passed_if, refused_if}
-use Rattle.kds_defs.proofs.Numbers.{length-closed}
-use Rattle.kds_defs.specs.declared.entry.Entry.TheVariants as entry
 use Rattle.kds_defs.specs.declared.limits.TheConstants.{OPEN_SHARDS}
 use Rattle.kds_defs.specs.declared.reply.Refusal.{Refusal}
 use Rattle.kds_defs.specs.declared.reply.Refusal.TheVariants as refusal
 use Rattle.kds_defs.specs.declared.reply.Reply.TheVariants as reply
 use Rattle.kds_defs.specs.Decision.{Accepted, Decision, Refused, refuse◌if◌else◌}
-use Rattle.kds_defs.specs.Journal.{Journal, Line, plain_line}
-use Rattle.kds_defs.specs.Records.{next_number, records}
-use Rattle.kds_defs.specs.Shards.{Closing, ShardState, is_listed, merged_shards, new_shard, open_count, range_of, shard_at, shards, split_shards, with_closed}
+use Rattle.kds_defs.specs.Journal.{Journal}
+use Rattle.kds_defs.specs.Records.{next_number}
+use Rattle.kds_defs.specs.Shards.{ShardState, is_listed, open_count, range_of, shard_at, shards}
 use Rattle.kds_defs.specs.StreamCommands.{is_open_at, last_number, merge, split}
-use Rattle.kds_defs.specs.Streams.{floor_of, is_live, name_of, was_made}
-use Rattle.kds_log.specs.Log.{LogValue}
-use Rattle.kds_stream.proofs.Cuts.{same_floor_at}
-use Rattle.kds_stream.proofs.Listed.{listed_is, shard_is, unlisted}
-use Rattle.kds_stream.proofs.LogLemmas.{all-append, all_weaker, arrived_later, below_higher}
-use Rattle.kds_stream.proofs.Others.{kept_along}
-use Rattle.kds_stream.proofs.Puts.{ends_later, is_number, is_other, one_free, same_number}
-use Rattle.kds_stream.specs.Showing.{AreKept, IsKept, Shows, merge_line, split_line}
-use Rattle.kds_stream.specs.Value.{EndsUnder, HasArrived, IsBelow, IsClosedUnder, IsStream, StreamValue, empty_log, is_listed_at, listed_at}
+use Rattle.kds_defs.specs.Streams.{floor_of}
+use Rattle.kds_stream.proofs.Listed.{listed_is, shard_is}
+use Rattle.kds_stream.proofs.Puts.{is_number, is_other}
+use Rattle.kds_stream.specs.Showing.{Shows, merge_line, split_line}
+use Rattle.kds_stream.specs.Value.{StreamValue, is_listed_at}
 use Rattle.kds_tree.specs.Tree.{merge_refusal, split_refusal}
 
 -- ---- the tests of the tree

@@ -3,14 +3,16 @@ use Rattle.std.specs.Prelude.{ℕ, ◌+◌, ◌-◌, List, Option, Some, None}
 use Rattle.kds_defs.specs.declared.command.Start.{Start}
 use Rattle.kds_defs.specs.declared.command.Start.TheVariants as start
 use Rattle.kds_defs.specs.declared.limits.TheConstants.{BATCH_BYTES}
-use Rattle.kds_defs.specs.Records.{Logged, beginning, left_among}
+use Rattle.kds_defs.specs.Records.{Logged, beginning, first_at, left_among}
 
--- the position where reading begins, where the next number is this one (Kinesis API Reference, GetShardIterator)
-abbrev pub position_from : ℕ → Start → ℕ
-position_from next (start.At q) = q
-position_from next (start.After q) = q + 1
-position_from next start.TrimHorizon = 0
-position_from next start.Latest = next
+-- the position where reading begins, where the next number is this one and these records are left (Kinesis API
+-- Reference, GetShardIterator)
+abbrev pub position_from : ℕ → List Logged → Start → ℕ
+position_from next left (start.At q) = q
+position_from next left (start.After q) = q + 1
+position_from next left start.TrimHorizon = 0
+position_from next left start.Latest = next
+position_from next left (start.Time moment) = first_at left moment next
 
 -- a batch of these records at a position (Kinesis API Reference, GetRecords)
 abbrev pub batch_among : ℕ → ℕ → ℕ → List Logged → List Logged

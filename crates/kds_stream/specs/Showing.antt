@@ -1,11 +1,11 @@
 -- Which journals a stream shows.
-use Rattle.std.specs.Prelude.{ℕ, ◌≡◌, ◌+◌, ◌≤◌, Bool, true, false, List, [], ◌∷◌, length}
+use Rattle.std.specs.Prelude.{ℕ, ◌≡◌, ◌+◌, ◌≤◌, true, false, List, [], ◌∷◌, length}
 use Rattle.kds_defs.specs.declared.entry.Entry.{Entry}
 use Rattle.kds_defs.specs.declared.entry.Entry.TheVariants as entry
 use Rattle.kds_defs.specs.Journal.{Journal, Line, plain_line}
 use Rattle.kds_defs.specs.Records.{Logged, left_among, next_number, records}
 use Rattle.kds_defs.specs.Shards.{shards}
-use Rattle.kds_defs.specs.Streams.{floor_of, floor_of_lines, is_live, name_of, trim_floor, was_made}
+use Rattle.kds_defs.specs.Streams.{floor_of, floor_of_lines, hours, is_live, made_at, name_of, trim_floor, was_made}
 use Rattle.kds_log.specs.Log.{LogValue}
 use Rattle.kds_stream.specs.Value.{StreamValue}
 
@@ -25,6 +25,8 @@ pub record Shows (v : StreamValue) (log : Journal) : Type 0 where
   pub live : is_live log v.no ≡ true
   pub was : was_made log v.no ≡ true
   pub named : name_of log v.no ≡ v.name
+  pub made_is : made_at log v.no ≡ v.made
+  pub hours_are : hours log v.no ≡ v.hours
   pub shards_are : shards log v.no ≡ v.tree
   pub next_is : next_number log v.no ≡ v.next
   pub floor_is : trim_floor log v.clock v.no ≡ floor_of v.cut
@@ -43,9 +45,11 @@ pub record IsFresh (log : Journal) (s : ℕ) : Type 0 where
 -- the stream that an entry speaks of
 abbrev pub stream_of : Entry → ℕ
 stream_of (entry.Made s name count) = s
+stream_of (entry.Gone s) = s
 stream_of (entry.Put s sh number hash bytes) = s
 stream_of (entry.Split s sh at number low high) = s
 stream_of (entry.Merged s sh other number child) = s
+stream_of (entry.Kept s hours) = s
 
 -- ---- the lines of a split and of a merge
 

@@ -1,18 +1,20 @@
 -- What contracts see of a stream.
 use Rattle.std.specs.Prelude.{ℕ, zero, suc, ◌≡◌, ◌<◌, ◌≤◌, ◌-◌, ◌*◌, ◌^◌, max, Bool, false, not, nat_lt, if◌then◌else◌, List, [], ◌∷◌, ◌++◌, length, Option, Some, None}
-use Rattle.std.specs.List.{AllByRecursion}
-use Rattle.kds_defs.specs.declared.limits.TheConstants.{FIRST_HOURS, HOUR}
+use Rattle.std.specs.List.{AllByRecursion, filter}
+use Rattle.kds_defs.specs.declared.limits.TheConstants.{HOUR, OPEN_SHARDS}
+use Rattle.kds_defs.specs.Lawful.{IsRetention}
 use Rattle.kds_defs.specs.Records.{Logged, left_among}
-use Rattle.kds_defs.specs.Shards.{Closing, ShardState, is_closed_below}
+use Rattle.kds_defs.specs.Shards.{Closing, ShardState, is_closed_below, is_open}
 use Rattle.kds_defs.specs.Streams.{floor_of}
 use Rattle.kds_log.specs.Log.{LogValue}
 
--- its number, its name, its shards, the log of each, its next number, its clock and its cut; and what clock and
--- cut were before the last advance, if nothing has changed since
+-- its number, its name, when it was made, its retention in hours, its shards, the log of each, its next number, its
+-- clock and its cut; and what clock and cut were before the last advance, if nothing has changed since
 pub record StreamValue : Type 0 where
   pub no : ℕ
   pub name : List ℕ
   pub made : ℕ
+  pub hours : ℕ
   pub tree : List ShardState
   pub logs : List LogValue
   pub next : ℕ
@@ -45,6 +47,8 @@ EndsUnder next x = IsClosedUnder next x.closing
 -- what holds of every stream
 pub record IsStream (v : StreamValue) : Type 0 where
   pub as_many : length v.logs ≡ length v.tree
+  pub few : length (filter is_open v.tree) ≤ OPEN_SHARDS
+  pub lasting : IsRetention v.hours
   pub numbers : AllByRecursion (IsBelow v.next) v.logs
   pub endings : AllByRecursion (EndsUnder v.next) v.tree
   pub arrivals : AllByRecursion (HasArrived v.clock_before) v.logs
@@ -54,17 +58,18 @@ pub record IsStream (v : StreamValue) : Type 0 where
   pub drawn : 1 ≤ v.next
   pub fits : v.next < 2 ^ 64
 
--- after a change: when it was made, and what is trimmed, are as before, and going back to before the last advance
--- leaves the present clock and cut
+-- after a change: when it was made, its retention, and what is trimmed, are as before, and going back to before the
+-- last advance leaves the present clock and cut
 pub record IsChangedAt (old new : StreamValue) : Type 0 where
   pub made : new.made ≡ old.made
+  pub hours : new.hours ≡ old.hours
   pub cut : new.cut ≡ old.cut
   pub clock_before : new.clock_before ≡ old.clock
   pub cut_before : new.cut_before ≡ old.cut
 
--- the moment at or below which all is trimmed at a clock, by the retention alone
-abbrev pub cut_at : ℕ → Option ℕ
-cut_at clock = if nat_lt clock (FIRST_HOURS * HOUR) then None else Some (clock - FIRST_HOURS * HOUR)
+-- the moment at or below which all is trimmed at a clock, by a retention of so many hours alone
+abbrev pub cut_at : ℕ → ℕ → Option ℕ
+cut_at clock hours = if nat_lt clock (hours * HOUR) then None else Some (clock - hours * HOUR)
 
 -- the later of two cuts
 abbrev pub later_cut : Option ℕ → Option ℕ → Option ℕ

@@ -2,7 +2,7 @@
 ghost use Rattle.std.specs.Prelude.{◌≡◌, ◌&&◌, is_some, ◌-◌, ◌^◌, ◌<◌, ◌≤◌, map, if◌then◌else◌, IfOk, Some, None, true};
 ghost use Rattle.std.specs.List.{AllByRecursion};
 ghost use Rattle.kds_defs.specs.Listings.{is_good_after, is_good_at, is_good_start, last_no};
-ghost use Rattle.kds_defs.specs.Records.{numbers_of, place_after, stored};
+ghost use Rattle.kds_defs.specs.Records.{first_at, left_among, numbers_of, place_after, stored};
 ghost use Rattle.kds_defs.specs.Shards.{ShardState, shown};
 ghost use Rattle.kds_defs.specs.Streams.{floor_of};
 ghost use Rattle.kds_stream.specs.Reading.{batch_among, behind_by, position_from};
@@ -36,11 +36,27 @@ fn is_good_after(q: Seq, next: Seq, shard: &Shard) -> bool
         }
 }
 
+/// The number of the first untrimmed record of a log that arrived at or after the moment, or else the next one.
+fn first_since(log: &ShardLog, cut: Option<Moment>, moment: Moment, next: Seq) -> u64
+    ensures { result ≡ first_at (left_among (floor_of cut) 0 log.now.kept) moment next }
+{
+    match log.at_time(cut, moment) {
+        Some(seq) => seq.0,
+        None => next.0,
+    }
+}
+
 /// The position where reading of a shard begins. `None` exactly where the number lies outside of the shard's.
-/// `next` is the stream's next number.
-pub fn position(from: Start, next: Seq, shard: &Shard) -> Option<u64>
+/// `next` is the stream's next number, `log` the shard's, whose records up to the cut are trimmed.
+pub fn position(
+    from: Start,
+    next: Seq,
+    shard: &Shard,
+    log: &ShardLog,
+    cut: Option<Moment>,
+) -> Option<u64>
     requires { IsUnder next shard.now.end }
-    ensures { (x : ShardState) → shard.now ≡ shown x → result ≡ (if is_good_start from next x then Some (position_from next from) else None) }
+    ensures { (x : ShardState) → shard.now ≡ shown x → result ≡ (if is_good_start from next x then Some (position_from next (left_among (floor_of cut) 0 log.now.kept) from) else None) }
 {
     let latest = next.0;
     match from {
@@ -54,6 +70,7 @@ pub fn position(from: Start, next: Seq, shard: &Shard) -> Option<u64>
         }
         Start::TrimHorizon => Some(0),
         Start::Latest => Some(latest),
+        Start::Time(moment) => Some(first_since(log, cut, moment, next)),
     }
 }
 

@@ -2,6 +2,7 @@
 ghost use Rattle.std.specs.Prelude.{◌≡◌, ◌∷◌, ℕ, length, IfOk};
 ghost use Rattle.std.specs.List.{filter};
 ghost use Rattle.kds_defs.specs.declared.entry.Entry.TheVariants as entry;
+ghost use Rattle.kds_defs.specs.declared.limits.TheConstants.{FIRST_HOURS};
 ghost use Rattle.kds_defs.specs.Journal.{Journal, plain_line};
 ghost use Rattle.kds_defs.specs.Lawful.{IsShardCount};
 ghost use Rattle.kds_defs.specs.Shards.{is_open};
@@ -16,6 +17,7 @@ mod splits;
 use crate::logs::new_logs;
 use crate::stream::clock::cut_at;
 use kds_base::{Memory, Moment, Name, Seq, StreamNo};
+use kds_defs::limits::FIRST_HOURS;
 use kds_log::ShardLog;
 use kds_tree::ShardTree;
 use std::alloc::Global;
@@ -28,6 +30,7 @@ pub struct Stream {
     no: StreamNo,
     name: Name,
     made: Moment,
+    hours: u32,
     tree: ShardTree,
     logs: Vec<ShardLog>,
     next: Seq,
@@ -42,9 +45,9 @@ impl Model for Stream {
 
     ghost Value = { StreamValue };
 
-    ghost view = { λ s. record { no = s.no; name = s.name; made = s.made; tree = s.tree; logs = s.logs.items; next = s.next; clock = s.clock; cut = s.cut; clock_before = s.clock_before; cut_before = s.cut_before } };
+    ghost view = { λ s. record { no = s.no; name = s.name; made = s.made; hours = s.hours; tree = s.tree; logs = s.logs.items; next = s.next; clock = s.clock; cut = s.cut; clock_before = s.clock_before; cut_before = s.cut_before } };
 
-    ghost invariant = { λ s. IsStream (record { no = s.no; name = s.name; made = s.made; tree = s.tree; logs = s.logs.items; next = s.next; clock = s.clock; cut = s.cut; clock_before = s.clock_before; cut_before = s.cut_before }) };
+    ghost invariant = { λ s. IsStream (record { no = s.no; name = s.name; made = s.made; hours = s.hours; tree = s.tree; logs = s.logs.items; next = s.next; clock = s.clock; cut = s.cut; clock_before = s.clock_before; cut_before = s.cut_before }) };
 }
 
 impl Stream {
@@ -61,6 +64,7 @@ impl Stream {
             → IfOk result (λ v. Shows v (plain_line made by (entry.Made no name shards) ∷ log)) }
         ensures fields { IfOk result (λ v. (v.no ≡ no) × (v.name ≡ name) × (v.clock ≡ made)) }
         ensures made { IfOk result (λ v. v.made ≡ made) }
+        ensures hours { IfOk result (λ v. v.hours ≡ FIRST_HOURS) }
     {
         let tree = ShardTree::new(alloc, shards)?;
         let logs = new_logs(alloc, shards)?;
@@ -68,13 +72,14 @@ impl Stream {
             no,
             name,
             made,
+            hours: FIRST_HOURS,
             tree,
             logs,
             next: Seq(1),
             clock: made,
-            cut: cut_at(made),
+            cut: cut_at(made, FIRST_HOURS),
             clock_before: made,
-            cut_before: cut_at(made),
+            cut_before: cut_at(made, FIRST_HOURS),
         })
     }
 
@@ -107,7 +112,7 @@ impl Stream {
     }
 
     /// How many of its shards are open.
-    pub fn open_count(&self) -> u64
+    pub fn open_count(&self) -> u32
         ensures { result ≡ length (filter is_open self.now.tree) }
     {
         self.tree.open_count()

@@ -1,4 +1,4 @@
-ghost use Rattle.std.specs.Prelude.{◌≡◌, ◌+◌, ◌-◌, ◌^◌, ◌<◌, ◌≤◌, ℕ, length, map, take, slice_get, Some, IsSome, IfOk, IfSome, OnOk, OnErr, IsOk};
+ghost use Rattle.std.specs.Prelude.{◌≡◌, ◌+◌, ◌-◌, ◌^◌, ◌<◌, ◌≤◌, ℕ, min, length, map, take, slice_get, Some, IsSome, IfOk, IfSome, OnOk, OnErr, IsOk};
 ghost use Rattle.std.specs.List.{filter};
 ghost use Rattle.std.specs.Option.{option_map};
 ghost use Rattle.kds_base.specs.Span.{joined, lower_part, upper_part};
@@ -57,11 +57,11 @@ impl ShardTree {
         self.shards.len() as u64
     }
 
-    /// How many shards are open.
-    pub fn open_count(&self) -> u64
-        ensures { result ≡ length (filter is_open self.now) }
+    /// How many shards are open, and the greatest number of a `u32` where they are more.
+    pub fn open_count(&self) -> u32
+        ensures { result ≡ min (length (filter is_open self.now)) (2 ^ 32 - 1) }
     {
-        self.shards.iter().filter(|kept| kept.is_open()).count() as u64
+        count_open(&self.shards).min(u32::MAX as usize) as u32
     }
 
     /// The shard of this number. `None` exactly where it was never made.
@@ -235,6 +235,13 @@ impl ShardTree {
         self.shards[other.0 as usize].close(seq, clock);
         Ok(Ok(child))
     }
+}
+
+/// How many of these shards are open.
+fn count_open(shards: &[Kept]) -> usize
+    ensures { result ≡ length (filter is_open shards.now) }
+{
+    shards.iter().filter(|kept| kept.is_open()).count()
 }
 
 /// The number of the first open shard whose range contains the key, and 0 where there is none.

@@ -8,16 +8,14 @@ ghost use Rattle.kds_stream.specs.Value.{cut_at, later_cut, settled_log};
 use crate::logs::settle_logs;
 use crate::stream::Stream;
 use kds_base::Moment;
-use kds_defs::limits::{FIRST_HOURS, HOUR};
+use kds_defs::limits::HOUR;
 
-/// How long a record is kept, in milliseconds.
-const RETENTION: u64 = FIRST_HOURS as u64 * HOUR;
-
-/// The moment at or below which everything is trimmed at a clock.
-pub(super) fn cut_at(clock: Moment) -> Option<Moment>
-    ensures { result ≡ cut_at clock }
+/// The moment at or below which everything is trimmed at a clock, by a retention of so many hours.
+pub(super) fn cut_at(clock: Moment, hours: u32) -> Option<Moment>
+    ensures { result ≡ cut_at clock hours }
 {
-    let ms = clock.ms().checked_sub(RETENTION)?;
+    let retention = u64::from(hours) * HOUR;
+    let ms = clock.ms().checked_sub(retention)?;
     Moment::new(ms)
 }
 
@@ -36,13 +34,13 @@ impl Stream {
     /// Raises the clock and with it the cut, and drops nothing yet.
     pub fn advance(&mut self, clock: Moment)
         requires { self.old.clock ≤ clock }
-        ensures value { self.new ≡ record self.old { clock = clock; cut = later_cut self.old.cut (cut_at clock); clock_before = self.old.clock; cut_before = self.old.cut } }
+        ensures value { self.new ≡ record self.old { clock = clock; cut = later_cut self.old.cut (cut_at clock self.old.hours); clock_before = self.old.clock; cut_before = self.old.cut } }
         ensures shows { (log : Journal) → Shows self.old log → Shows self.new log }
     {
         self.clock_before = self.clock;
         self.cut_before = self.cut;
         self.clock = clock;
-        self.cut = later_cut(self.cut, cut_at(clock));
+        self.cut = later_cut(self.cut, cut_at(clock, self.hours));
     }
 
     /// Drops the records that are trimmed; no answer depends on it.

@@ -11,13 +11,12 @@ use crate::logs::append_at;
 use crate::stream::Stream;
 use kds_base::{Memory, Seq};
 use kds_defs::{Answer, NewItem, Place, Refusal, Reply, Stored};
-use std::alloc::Global;
 
 impl Stream {
     /// PutRecord: the record goes to the log of the open shard whose range contains its hash key, with the next
     /// number, at the clock. `Spent` exactly where that number is the greatest of a `u64`
     /// (Kinesis API Reference, PutRecord).
-    pub fn put(&mut self, _alloc: Global, item: NewItem) -> Result<Answer, Memory>
+    pub fn put(&mut self, item: NewItem) -> Result<Answer, Memory>
         requires { IsItem item }
         ensures answered { (log : Journal) (by : ℕ) → Shows self.old log → IfOk result (λ a.
             (a ≡ answer_of (put log self.old.clock by self.old.no item))

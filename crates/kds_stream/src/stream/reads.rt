@@ -45,7 +45,8 @@ impl Stream {
         let Some(state) = self.listed(shard) else {
             return Err(Refusal::NoShard);
         };
-        match position(from, self.next, &state) {
+        let log = &self.logs[shard.0 as usize];
+        match position(from, self.next, &state, log, self.cut) {
             Some(position) => Ok(Reply::Iterator(Iter {
                 stream: self.no,
                 shard,
@@ -101,12 +102,7 @@ impl Stream {
 
     /// At most `limit` of the listed shards after a number, and where more of them follow
     /// (Kinesis API Reference, ListShards).
-    pub fn shards(
-        &self,
-        _alloc: Global,
-        after: Option<ShardNo>,
-        limit: u32,
-    ) -> Result<Answer, Memory>
+    pub fn shards(&self, after: Option<ShardNo>, limit: u32) -> Result<Answer, Memory>
         requires { IsLimit limit }
         ensures { (log : Journal) → Shows self.now log → IfOk result (λ a. a ≡ answer_of (list_shards log self.now.clock self.now.no after limit)) }
     {

@@ -1,11 +1,12 @@
 //! Splits of a stream's shards.
-ghost use Rattle.std.specs.Prelude.{◌≡◌, ◌≢◌, ◌∷◌, [], ◌^◌, ◌<◌, not, nat_le, ℕ, IfOk, IfNone, IfSome, None, OnErr, OnOk};
+ghost use Rattle.std.specs.Prelude.{◌≡◌, ◌≢◌, ◌∷◌, [], ◌^◌, ◌<◌, ◌≤◌, not, nat_le, length, true, ℕ, IfOk, IfNone, IfSome, None, OnErr, OnOk};
+ghost use Rattle.std.specs.List.{filter};
 ghost use Rattle.kds_defs.specs.declared.limits.TheConstants.{OPEN_SHARDS};
 ghost use Rattle.kds_defs.specs.declared.reply.Reply.TheVariants as reply;
 ghost use Rattle.kds_defs.specs.Decision.{Accepted, Refused};
 ghost use Rattle.kds_defs.specs.Histories.{answer_of, lines_of};
 ghost use Rattle.kds_defs.specs.Journal.{Journal, with_lines};
-ghost use Rattle.kds_defs.specs.Shards.{open_count};
+ghost use Rattle.kds_defs.specs.Shards.{is_open, open_count};
 ghost use Rattle.kds_defs.specs.StreamCommands.{last_number, split};
 ghost use Rattle.kds_stream.specs.Showing.{Shows, split_line};
 ghost use Rattle.kds_stream.specs.Value.{IsChangedAt};
@@ -13,16 +14,26 @@ ghost use Rattle.kds_tree.specs.Tree.{split_refusal};
 
 use crate::stream::Stream;
 use kds_base::{Memory, Seq, ShardNo};
+use kds_defs::limits::OPEN_SHARDS;
 use kds_defs::{Answer, Refusal, Reply};
 use kds_log::ShardLog;
 
 impl Stream {
+    /// Whether another shard may be open: over all streams, as `room` tells, and in this one.
+    fn has_room(&self, room: bool) -> bool
+        ensures value { (count : ℕ) → room ≡ not (nat_le OPEN_SHARDS count) → length (filter is_open self.now.tree) ≤ count → result ≡ not (nat_le OPEN_SHARDS count) }
+        ensures few { result ≡ true → length (filter is_open self.now.tree) < OPEN_SHARDS }
+    {
+        room && u64::from(self.tree.open_count()) < OPEN_SHARDS
+    }
+
     /// Why a split of the shard at the key is refused, if it is.
     fn split_refusal(&self, shard: ShardNo, at: u128, room: bool) -> Option<Refusal>
-        ensures refused { (log : Journal) (by : ℕ) → Shows self.now log → room ≡ not (nat_le OPEN_SHARDS (open_count log)) → IfSome result (λ r. split log self.now.clock by self.now.no shard at ≡ Refused r) }
-        ensures accepted { (log : Journal) (by : ℕ) → Shows self.now log → room ≡ not (nat_le OPEN_SHARDS (open_count log)) → IfNone result (split log self.now.clock by self.now.no shard at ≡ Accepted (split_line log self.now.clock by self.now.no shard at ∷ []) reply.Done) }
+        ensures refused { (log : Journal) (by : ℕ) → Shows self.now log → room ≡ not (nat_le OPEN_SHARDS (open_count log)) → length (filter is_open self.now.tree) ≤ open_count log → IfSome result (λ r. split log self.now.clock by self.now.no shard at ≡ Refused r) }
+        ensures accepted { (log : Journal) (by : ℕ) → Shows self.now log → room ≡ not (nat_le OPEN_SHARDS (open_count log)) → length (filter is_open self.now.tree) ≤ open_count log → IfNone result (split log self.now.clock by self.now.no shard at ≡ Accepted (split_line log self.now.clock by self.now.no shard at ∷ []) reply.Done) }
         ensures splits { IfNone result (split_refusal self.now.tree shard at ≡ None) }
         ensures free { IfNone result (self.now.next ≢ last_number) }
+        ensures few { IfNone result (length (filter is_open self.now.tree) < OPEN_SHARDS) }
     {
         if !self.is_listed(shard) {
             return Some(Refusal::NoShard);
@@ -30,7 +41,7 @@ impl Stream {
         if let Some(refusal) = self.tree.split_refusal(shard, at) {
             return Some(refusal);
         }
-        if !room {
+        if !self.has_room(room) {
             return Some(Refusal::Full);
         }
         let next = self.next;
@@ -41,12 +52,12 @@ impl Stream {
     }
 
     /// Splits a shard at a key: it is closed with the next number, and its two children come last. `room` tells
-    /// whether another shard may be open. `NoShard` where the shard isn't listed, `ShardClosed` where it is
+    /// whether another shard may be open, over all live streams. `NoShard` where the shard isn't listed, `ShardClosed` where it is
     /// closed, `BadSplit` where a part would be empty, `Full` without room, `Spent` where the next number is the
     /// greatest of a `u64` (Kinesis API Reference, SplitShard).
     pub fn split(&mut self, shard: ShardNo, at: u128, room: bool) -> Result<Answer, Memory>
         requires { at < 2 ^ 128 }
-        ensures answered { (log : Journal) (by : ℕ) → Shows self.old log → room ≡ not (nat_le OPEN_SHARDS (open_count log)) → IfOk result (λ a.
+        ensures answered { (log : Journal) (by : ℕ) → Shows self.old log → room ≡ not (nat_le OPEN_SHARDS (open_count log)) → length (filter is_open self.old.tree) ≤ open_count log → IfOk result (λ a.
             (a ≡ answer_of (split log self.old.clock by self.old.no shard at))
             × Shows self.new (with_lines (lines_of (split log self.old.clock by self.old.no shard at)) log)) }
         ensures fields { (self.new.no ≡ self.old.no) × (self.new.name ≡ self.old.name) × (self.new.clock ≡ self.old.clock) }

@@ -1,6 +1,6 @@
-use Rattle.std.proofs.Common.{◌≡◌, ℕ, ◌<◌, map, List, sym, ap, subst, ◌∙◌}
+use Rattle.std.proofs.Common.{◌<◌, map, List, sym, ap, subst, ◌∙◌}
 use Rattle.std.specs.List.{AllByRecursion}
-use Rattle.kds_defs.specs.Records.{place_after, stored}
+use Rattle.kds_defs.specs.Records.{place_after}
 use Rattle.kds_defs.specs.declared.reply.Stored.{Stored}
 use Rattle.kds_defs.specs.Streams.{floor_of}
 use Rattle.kds_stream.proofs.ReadLemmas.{batch_below, numbers_stored}

@@ -16,7 +16,7 @@ invariant_of-self-2 c =
     let passes = subst (λ (u : StreamValue). merge_refusal u.tree c.args.shard c.args.other ≡ None) (sym c.self.view_is) c.in_default.ensures.merges in
     let tree = c.in_ok-_child.ensures.value ∙ ap (λ o. value_by o v.tree (merged_shards c.args.shard c.args.other (record { number = v.next; clock = v.clock }) (v.next + 1) v.tree)) passes in
     let logs : c.push_reserved.new.self.items ≡ v.logs ++ (empty_log ∷ []) = one_more_log _ _ _ _ c.push_reserved.ensures.items c.in_ok-reserve.ensures.items c.new.ensures in
-    stream_merged v c.args.shard c.args.other _ _ _ (ap (λ n. n + 1) c.seq.view_is) free tree logs c.self.invariant
+    stream_merged v c.args.shard c.args.other _ _ _ (ap (λ n. n + 1) c.seq.view_is) free passes tree logs c.self.invariant
 
 pub returns-clause-answered : goal.returns-clause-answered
 returns-clause-answered c log by show =

@@ -1,10 +1,6 @@
-use Rattle.std.proofs.Common.{◌≡◌, ◌≢◌, ℕ, ◌+◌, ◌<◌, ◌≤◌, ◌++◌, List, length, take, drop, sym, ap, subst, ◌∙◌, refl, arith}
-use Rattle.std.specs.Prelude.{Ok}
+use Rattle.std.proofs.Common.{◌≢◌, ◌+◌, length, sym, ap, subst, ◌∙◌, refl, arith}
 use Rattle.std.specs.List.{AllByRecursion}
 use Rattle.std.proofs.lemmas.Option.{slice_get_within}
-use Rattle.kds_defs.specs.declared.reply.Reply.TheVariants as reply
-use Rattle.kds_defs.specs.Histories.{answer_of, lines_of}
-use Rattle.kds_defs.specs.Journal.{with_lines}
 use Rattle.kds_defs.specs.StreamCommands.{last_number, put}
 use Rattle.kds_log.specs.Log.{LogValue}
 use Rattle.kds_stream.proofs.LogLemmas.{appended_back, arrived_later}

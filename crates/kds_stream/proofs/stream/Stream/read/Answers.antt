@@ -1,11 +1,8 @@
-use Rattle.std.proofs.Common.{◌≡◌, ◌<◌, map, true, None, Some, Bor, get_or, length, sym, subst, ap, ◌∙◌}
+use Rattle.std.proofs.Common.{◌≡◌, ◌<◌, map, true, get_or, length, sym, subst, ap, ◌∙◌}
 use Rattle.std.specs.Prelude.{is_some, slice_get, ◌&&◌}
-use Rattle.std.specs.Option.{option_map}
-use Rattle.kds_defs.specs.declared.reply.Shard.{Shard}
 use Rattle.kds_defs.specs.Listings.{ends_at}
 use Rattle.kds_defs.specs.Records.{batch, numbers_of, place_after, stored}
 use Rattle.kds_defs.specs.Streams.{floor_of}
-use Rattle.kds_log.specs.Log.{LogValue}
 use Rattle.kds_stream.proofs.Listed.{made_within, none_of, read_end, read_no_end}
 use Rattle.kds_stream.proofs.ReadLemmas.{batch_is, below_last}
 use Rattle.kds_stream.specs.Showing.{Shows}

@@ -1,4 +1,4 @@
-use Rattle.std.proofs.Common.{◌≡◌, ◌<◌, Bool, Option, Some, None, get_or, length, sym, subst, ap, ◌∙◌, arith}
+use Rattle.std.proofs.Common.{◌≡◌, Some, None, get_or, sym, subst, ap, ◌∙◌, arith}
 use Rattle.std.specs.Prelude.{is_some, slice_get, ◌&&◌}
 use Rattle.std.specs.Option.{option_map}
 use Rattle.kds_defs.specs.Listings.{get_records}
