@@ -9,3 +9,4 @@ pub mod Puts
 pub mod ReadLemmas
 pub mod Resharded
 pub mod Reshards
+pub mod Retention

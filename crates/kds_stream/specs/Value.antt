@@ -77,6 +77,15 @@ later_cut None cut = cut
 later_cut (Some a) None = Some a
 later_cut (Some a) (Some b) = Some (max a b)
 
+-- after a change of the retention to so many hours: it trims by both retentions, and going back to before the last
+-- advance leaves the present clock and cut
+pub record IsKeptAt (wanted : ℕ) (old new : StreamValue) : Type 0 where
+  pub made : new.made ≡ old.made
+  pub hours : new.hours ≡ wanted
+  pub cut : new.cut ≡ later_cut old.cut (cut_at old.clock wanted)
+  pub clock_before : new.clock_before ≡ old.clock
+  pub cut_before : new.cut_before ≡ new.cut
+
 -- the log of a new shard
 abbrev pub empty_log : LogValue
 empty_log = record { kept = []; last = None }

@@ -8,10 +8,12 @@ ghost use Rattle.kds_defs.specs.Lawful.{IsShardCount};
 ghost use Rattle.kds_defs.specs.Shards.{is_open};
 ghost use Rattle.kds_stream.specs.Showing.{IsFresh, Shows};
 
+mod about;
 mod clock;
 mod merges;
 mod puts;
 mod reads;
+mod retention;
 mod splits;
 
 use crate::logs::new_logs;

@@ -20,7 +20,7 @@ pub(super) fn cut_at(clock: Moment, hours: u32) -> Option<Moment>
 }
 
 /// The later of two cuts.
-fn later_cut(a: Option<Moment>, b: Option<Moment>) -> Option<Moment>
+pub(super) fn later_cut(a: Option<Moment>, b: Option<Moment>) -> Option<Moment>
     ensures { result ≡ later_cut a b }
 {
     match (a, b) {

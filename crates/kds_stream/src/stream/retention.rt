@@ -1,0 +1,47 @@
+//! The retention of a stream.
+ghost use Rattle.std.specs.Prelude.{◌≡◌, ℕ, nat_lt, if◌then◌else◌, OnErr, OnOk};
+ghost use Rattle.kds_defs.specs.Histories.{answer_of, lines_of};
+ghost use Rattle.kds_defs.specs.Journal.{Journal, with_lines};
+ghost use Rattle.kds_defs.specs.Lawful.{IsRetention};
+ghost use Rattle.kds_defs.specs.StreamCommands.{keep};
+ghost use Rattle.kds_stream.specs.Showing.{Shows};
+ghost use Rattle.kds_stream.specs.Value.{IsKeptAt};
+
+use crate::stream::Stream;
+use crate::stream::clock::{cut_at, later_cut};
+use kds_defs::{Answer, Refusal, Reply};
+
+/// Whether an increase is to fewer hours than there are, or a decrease to more.
+fn is_wrong_way(hours: u32, present: u32, raise: bool) -> bool
+    ensures { result ≡ (if raise then nat_lt hours present else nat_lt present hours) }
+{
+    if raise {
+        hours < present
+    } else {
+        present < hours
+    }
+}
+
+impl Stream {
+    /// Sets the retention in hours, which at this change trims beside the one before. `BadRetention` exactly where
+    /// an increase is to fewer hours than there are, or a decrease to more (Kinesis API Reference,
+    /// IncreaseStreamRetentionPeriod, DecreaseStreamRetentionPeriod).
+    pub fn keep(&mut self, hours: u32, raise: bool) -> Answer
+        requires { IsRetention hours }
+        ensures answered { (log : Journal) (by : ℕ) → Shows self.old log →
+            (result ≡ answer_of (keep log self.old.clock by self.old.no hours raise))
+            × Shows self.new (with_lines (lines_of (keep log self.old.clock by self.old.no hours raise)) log) }
+        ensures fields { (self.new.no ≡ self.old.no) × (self.new.name ≡ self.old.name) × (self.new.clock ≡ self.old.clock) }
+        ensures refused { OnErr result (self.new ≡ self.old) }
+        ensures changed { OnOk result (IsKeptAt hours self.old self.new) }
+    {
+        if is_wrong_way(hours, self.hours, raise) {
+            return Err(Refusal::BadRetention);
+        }
+        self.hours = hours;
+        self.cut = later_cut(self.cut, cut_at(self.clock, hours));
+        self.clock_before = self.clock;
+        self.cut_before = self.cut;
+        Ok(Reply::Done)
+    }
+}
