@@ -8,6 +8,16 @@ pub record LogValue : Type 0 where
   pub kept : List Logged
   pub last : Option ℕ
 
+-- a log, and for how many records more it has memory
+pub record LogWithRoom : Type 0 where
+  pub kept : List Logged
+  pub last : Option ℕ
+  pub room : ℕ
+
+-- the log alone
+abbrev pub log_of : LogWithRoom → LogValue
+log_of l = record { kept = l.kept; last = l.last }
+
 -- ---- order
 
 -- a has the lower number, and arrived no later

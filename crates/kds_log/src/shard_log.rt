@@ -1,10 +1,10 @@
 //! The log of one shard.
-ghost use Rattle.std.specs.Prelude.{◌≡◌, ◌++◌, ◌∷◌, [], ◌<◌, ◌≤◌, map, Some, None, IfOk, IfSome, OnOk, OnErr};
+ghost use Rattle.std.specs.Prelude.{◌≡◌, ◌+◌, ◌++◌, ◌∷◌, [], ◌<◌, ◌≤◌, map, Some, None, IfOk, IfSome, OnOk, OnErr};
 ghost use Rattle.std.specs.List.{AllByRecursion};
 ghost use Rattle.kds_defs.specs.declared.limits.TheConstants.{BATCH_BYTES};
 ghost use Rattle.kds_defs.specs.Records.{beginning, left_among, logged, numbers_of, stored};
 ghost use Rattle.kds_defs.specs.Streams.{floor_of};
-ghost use Rattle.kds_log.specs.Log.{first_arrival, first_number, since, IsLeast, IsOrderly};
+ghost use Rattle.kds_log.specs.Log.{first_arrival, first_number, log_of, since, IsLeast, IsOrderly};
 
 use crate::record::{copy, drop_below, floor_of, is_left, is_since, payload_bytes};
 use kds_base::{Items, Memory, Moment, Seq};
@@ -14,8 +14,8 @@ use std::alloc::Global;
 use std::marker::Model;
 
 /// The records of a shard that are kept, in the order of their numbers. A record that arrived at or before the
-/// cut counts as trimmed also where it is still kept. Contracts see the kept records and the greatest number
-/// ever appended.
+/// cut counts as trimmed also where it is still kept. Contracts see the kept records, the greatest number ever
+/// appended, and for how many records more there is memory.
 #[derive(Drop)]
 pub struct ShardLog {
     records: Vec<Stored>,
@@ -23,13 +23,13 @@ pub struct ShardLog {
 }
 
 impl Model for ShardLog {
-    ghost use Rattle.std.specs.Prelude.{map};
+    ghost use Rattle.std.specs.Prelude.{map, vec_capacity, vec_len, ◌-◌};
     ghost use Rattle.kds_defs.specs.Records.{logged};
-    ghost use Rattle.kds_log.specs.Log.{LogValue, IsOrderly};
+    ghost use Rattle.kds_log.specs.Log.{LogWithRoom, IsOrderly};
 
-    ghost Value = { LogValue };
+    ghost Value = { LogWithRoom };
 
-    ghost view = { λ l. record { kept = map logged l.records.items; last = l.last } };
+    ghost view = { λ l. record { kept = map logged l.records.items; last = l.last; room = vec_capacity l.records - vec_len l.records } };
 
     ghost invariant = { λ l. IsOrderly (record { kept = map logged l.records.items; last = l.last }) };
 }
@@ -38,7 +38,7 @@ impl ShardLog {
     /// The empty log of a shard. Nothing here depends on the shard's starting number, which is at or below the
     /// numbers to come.
     pub fn new(alloc: Global, _start: Seq) -> ShardLog
-        ensures { result ≡ record { kept = []; last = None } }
+        ensures { log_of result ≡ record { kept = []; last = None } }
     {
         ShardLog {
             records: Vec::new(alloc),
@@ -51,8 +51,8 @@ impl ShardLog {
     pub fn append(&mut self, item: Stored) -> Result<(), Memory>
         requires number { IfSome self.old.last (λ n. n < item.seq) }
         requires arrival { AllByRecursion (λ r. r.arrival ≤ item.arrival) self.old.kept }
-        ensures ok { OnOk result (self.new ≡ record { kept = self.old.kept ++ logged item ∷ []; last = Some item.seq }) }
-        ensures err { OnErr result (self.new ≡ self.old) }
+        ensures ok { OnOk result (log_of self.new ≡ record { kept = self.old.kept ++ logged item ∷ []; last = Some item.seq }) }
+        ensures err { OnErr result (log_of self.new ≡ log_of self.old) }
     {
         let seq = item.seq;
         match self.records.push(item) {
@@ -64,9 +64,31 @@ impl ShardLog {
         }
     }
 
+    /// Takes memory for so many records more. The log is as before, whatever the answer.
+    pub fn reserve(&mut self, more: u64) -> Result<(), Memory>
+        ensures same { log_of self.new ≡ log_of self.old }
+        ensures room { OnOk result (more ≤ self.new.room) }
+        ensures no_less { self.old.room ≤ self.new.room }
+    {
+        self.records.reserve(more as usize)?;
+        Ok(())
+    }
+
+    /// Adds a record as `append` does, in memory that was reserved.
+    pub fn append_reserved(&mut self, item: Stored)
+        requires room { 1 ≤ self.old.room }
+        requires number { IfSome self.old.last (λ n. n < item.seq) }
+        requires arrival { AllByRecursion (λ r. r.arrival ≤ item.arrival) self.old.kept }
+        ensures value { log_of self.new ≡ record { kept = self.old.kept ++ logged item ∷ []; last = Some item.seq } }
+        ensures room { self.new.room + 1 ≡ self.old.room }
+    {
+        self.last = Some(item.seq);
+        self.records.push_reserved(item);
+    }
+
     /// Removes the records that arrived at or before the cut, and no others.
     pub fn trim(&mut self, cut: Moment)
-        ensures { self.new ≡ record self.old { kept = left_among (floor_of (Some cut)) 0 self.old.kept } }
+        ensures { log_of self.new ≡ record { kept = left_among (floor_of (Some cut)) 0 self.old.kept; last = self.old.last } }
     {
         drop_below(&mut self.records, floor_of(Some(cut)));
     }
@@ -81,7 +103,7 @@ impl ShardLog {
         limit: u32,
     ) -> Result<Items<Stored>, Memory>
         ensures value { IfOk result (λ b. b ≡ map stored (beginning limit BATCH_BYTES (left_among (floor_of cut) position self.now.kept))) }
-        ensures orderly { IsOrderly self.now }
+        ensures orderly { IsOrderly (log_of self.now) }
     {
         let floor = floor_of(cut);
         let mut batch = Items::new(alloc);
@@ -105,7 +127,7 @@ impl ShardLog {
     /// When the first untrimmed record at or above the position arrived. `None` exactly where there is none.
     pub fn first_left(&self, cut: Option<Moment>, position: u64) -> Option<Moment>
         ensures value { result ≡ first_arrival (left_among (floor_of cut) position self.now.kept) }
-        ensures orderly { IsOrderly self.now }
+        ensures orderly { IsOrderly (log_of self.now) }
     {
         let floor = floor_of(cut);
         for item in &self.records {
@@ -121,7 +143,7 @@ impl ShardLog {
     pub fn at_time(&self, cut: Option<Moment>, moment: Moment) -> Option<Seq>
         ensures least { IsLeast (numbers_of (since moment (left_among (floor_of cut) 0 self.now.kept))) result }
         ensures value { result ≡ first_number (since moment (left_among (floor_of cut) 0 self.now.kept)) }
-        ensures orderly { IsOrderly self.now }
+        ensures orderly { IsOrderly (log_of self.now) }
     {
         let floor = floor_of(cut);
         for item in &self.records {
@@ -135,7 +157,7 @@ impl ShardLog {
     /// The greatest number ever appended, also where its record is trimmed. `None` exactly where there was none.
     pub fn last(&self) -> Option<Seq>
         ensures value { result ≡ self.now.last }
-        ensures orderly { IsOrderly self.now }
+        ensures orderly { IsOrderly (log_of self.now) }
     {
         self.last
     }

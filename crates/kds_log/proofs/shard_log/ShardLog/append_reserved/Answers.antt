@@ -1,0 +1,16 @@
+use Rattle.std.proofs.Common.{◌<◌, ◌≤◌, sym, subst}
+use Rattle.std.specs.Prelude.{IfSome}
+use Rattle.std.specs.List.{AllByRecursion}
+use Rattle.std.proofs.lemmas.List.{map_push}
+use Rattle.kds_defs.specs.Records.{logged}
+use Rattle.kds_log.specs.Log.{LogWithRoom}
+use Rattle.kds_log.proofs.OrderLemmas.{orderly-append}
+use Rattle.kds_log.proofs.shard_log.ShardLog.append_reserved.Goals as goal
+
+pub invariant_of-self : goal.invariant_of-self
+invariant_of-self c =
+    let e = c.push_reserved.ensures.items in
+    rw (e, map_push logged c.self.inside.records.items c.args.item)
+    (orderly-append _ (logged c.args.item)
+    (subst (λ (v : LogWithRoom). IfSome v.last (λ n. n < c.args.item.seq)) (sym c.self.view_is) c.requires.number)
+    (subst (λ (v : LogWithRoom). AllByRecursion (λ r. r.arrival ≤ c.args.item.arrival) v.kept) (sym c.self.view_is) c.requires.arrival) c.self.invariant)
