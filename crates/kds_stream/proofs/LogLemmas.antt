@@ -5,7 +5,7 @@ use Rattle.std.specs.List.{AllByRecursion, filter}
 use Rattle.std.proofs.lemmas.Bool.Decides.{nat_tests}
 use Rattle.std.proofs.lemmas.List.{append_assoc, take_at}
 use Rattle.kds_defs.specs.Records.{Logged, is_left, left_among}
-use Rattle.kds_log.specs.Log.{AreInOrder, IsBefore, IsOrderly, LogValue, first_arrival}
+use Rattle.kds_log.specs.Log.{AreInOrder, IsBefore, IsOrderly, LogValue, LogWithRoom, first_arrival, log_of}
 use Rattle.kds_stream.specs.Value.{HasArrived, IsBelow, IsUnder, empty_log, settled_log, with_appended}
 
 -- ---- facts of each
@@ -42,10 +42,45 @@ written_back n new old h = take_at new (drop (length new) old) n h
 
 -- ---- one record more in the log at a place
 
-pub appended_at : (ls : List LogValue) (i : ℕ) (d l : LogValue) (r : Logged) → i < length ls → l ≡ record { kept = (get_or ls i d).kept ++ r ∷ []; last = Some r.seq } → slice_set ls i l ≡ with_appended i r ls
+pub appended_at : (ls : List LogWithRoom) (i : ℕ) (d l : LogWithRoom) (r : Logged) → i < length ls → log_of l ≡ record { kept = (get_or ls i d).kept ++ r ∷ []; last = Some r.seq } → map log_of (slice_set ls i l) ≡ with_appended i r (map log_of ls)
 appended_at [] i d l r below is = absurd (omega arith)
-appended_at (x ∷ ls) zero d l r below is = ap (λ y. y ∷ ls) is
-appended_at (x ∷ ls) (suc i) d l r below is = ap (λ ys. x ∷ ys) (appended_at ls i d l r (omega arith) is)
+appended_at (x ∷ ls) zero d l r below is = ap (λ (y : LogValue). y ∷ map log_of ls) is
+appended_at (x ∷ ls) (suc i) d l r below is = ap (λ (ys : List LogValue). log_of x ∷ ys) (appended_at ls i d l r (omega arith) is)
+
+-- the logs where the one at a place is as before
+pub same_at : (ls : List LogWithRoom) (i : ℕ) (d l : LogWithRoom) → i < length ls → log_of l ≡ log_of (get_or ls i d) → map log_of (slice_set ls i l) ≡ map log_of ls
+same_at [] i d l below is = absurd (omega arith)
+same_at (x ∷ ls) zero d l below is = ap (λ (y : LogValue). y ∷ map log_of ls) is
+same_at (x ∷ ls) (suc i) d l below is = ap (λ (ys : List LogValue). log_of x ∷ ys) (same_at ls i d l (omega arith) is)
+
+-- what holds of each log holds of the one at a place
+pub all_logs_at : (P : LogValue → Type 0) (ls : List LogWithRoom) (i : ℕ) (d : LogWithRoom) → i < length ls → AllByRecursion P (map log_of ls) → P (log_of (get_or ls i d))
+all_logs_at P [] i d below h = absurd (omega arith)
+all_logs_at P (x ∷ ls) zero d below h = h.0
+all_logs_at P (x ∷ ls) (suc i) d below h = all_logs_at P ls i d (omega arith) h.1
+
+pub under_some : (next : ℕ) (last : Option ℕ) → IsUnder next last → IfSome last (λ n. n < next)
+under_some next None h = tt
+under_some next (Some n) h = h
+
+-- the log at a place
+pub log_at : (ls : List LogWithRoom) (i : ℕ) (l : LogWithRoom) → l ≡ get_or ls i l → log_of l ≡ get_or (map log_of ls) i (log_of l)
+log_at [] i l is = refl
+log_at (x ∷ ls) zero l is = ap log_of is
+log_at (x ∷ ls) (suc i) l is = log_at ls i l is
+
+pub as_many_logs : (ls : List LogWithRoom) → length (map log_of ls) ≡ length ls
+as_many_logs [] = refl
+as_many_logs (l ∷ ls) = ap suc (as_many_logs ls)
+
+pub logs-append : (ls ms : List LogWithRoom) → map log_of (ls ++ ms) ≡ map log_of ls ++ map log_of ms
+logs-append [] ms = refl
+logs-append (l ∷ ls) ms = ap (λ (ys : List LogValue). log_of l ∷ ys) (logs-append ls ms)
+
+pub logs-set : (ls : List LogWithRoom) (i : ℕ) (l : LogWithRoom) → map log_of (slice_set ls i l) ≡ slice_set (map log_of ls) i (log_of l)
+logs-set [] i l = refl
+logs-set (x ∷ ls) zero l = refl
+logs-set (x ∷ ls) (suc i) l = ap (λ (ys : List LogValue). log_of x ∷ ys) (logs-set ls i l)
 
 pub length-appended : (i : ℕ) (r : Logged) (ls : List LogValue) → length (with_appended i r ls) ≡ length ls
 length-appended i r [] = refl
@@ -53,15 +88,17 @@ length-appended zero r (l ∷ ls) = refl
 length-appended (suc i) r (l ∷ ls) = ap suc (length-appended i r ls)
 
 -- the same where the logs were lent to the call that appends
-pub appended_back : (n sh i : ℕ) (r : Logged) (new items lent : List LogValue) → length new ≡ n → new ≡ with_appended i r lent → lent ≡ items → i ≡ sh → take n (new ++ drop (length new) items) ≡ with_appended sh r items
-appended_back n sh i r new items lent len is same at = written_back n new items len ∙ is ∙ ap (with_appended i r) same ∙ ap (λ j. with_appended j r items) at
+pub appended_back : (n sh i : ℕ) (r : Logged) (new items lent : List LogWithRoom) → length new ≡ n → map log_of new ≡ with_appended i r (map log_of lent) → lent ≡ items → i ≡ sh → map log_of (take n (new ++ drop (length new) items)) ≡ with_appended sh r (map log_of items)
+appended_back n sh i r new items lent len is same at =
+    ap (map log_of) (written_back n new items len) ∙ is ∙ ap (λ (ls : List LogWithRoom). with_appended i r (map log_of ls)) same ∙ ap (λ j. with_appended j r (map log_of items)) at
 
 -- ---- further logs, in memory that was reserved
 
-pub one_more_log : (new reserved before : List LogValue) (l : LogValue) → new ≡ reserved ++ l ∷ [] → reserved ≡ before → l ≡ empty_log → new ≡ before ++ (empty_log ∷ [])
-one_more_log new reserved before l pushed same is = pushed ∙ ap (λ ls. ls ++ l ∷ []) same ∙ ap (λ x. before ++ x ∷ []) is
+pub one_more_log : (new reserved : List LogWithRoom) (before : List LogValue) (l : LogWithRoom) → new ≡ reserved ++ l ∷ [] → map log_of reserved ≡ before → log_of l ≡ empty_log → map log_of new ≡ before ++ (empty_log ∷ [])
+one_more_log new reserved before l pushed same is =
+    ap (map log_of) pushed ∙ logs-append reserved (l ∷ []) ∙ ap (λ (ls : List LogValue). ls ++ log_of l ∷ []) same ∙ ap (λ (x : LogValue). before ++ x ∷ []) is
 
-pub two_more : (new one reserved before : List LogValue) (l m : LogValue) → new ≡ one ++ m ∷ [] → one ≡ reserved ++ l ∷ [] → reserved ≡ before → l ≡ empty_log → m ≡ empty_log → new ≡ before ++ (empty_log ∷ empty_log ∷ [])
+pub two_more : (new one reserved : List LogWithRoom) (before : List LogValue) (l m : LogWithRoom) → new ≡ one ++ m ∷ [] → one ≡ reserved ++ l ∷ [] → map log_of reserved ≡ before → log_of l ≡ empty_log → log_of m ≡ empty_log → map log_of new ≡ before ++ (empty_log ∷ empty_log ∷ [])
 two_more new one reserved before l m second first same is other =
     one_more_log new one (before ++ (empty_log ∷ [])) m second (one_more_log one reserved before l first same is) other
     ∙ append_assoc before (empty_log ∷ []) (empty_log ∷ [])

@@ -3,6 +3,7 @@ ghost use Rattle.std.specs.Prelude.{◌≡◌, ◌<◌, length, map, replicate, 
 ghost use Rattle.std.specs.List.{AllByRecursion};
 ghost use Rattle.kds_defs.specs.Records.{logged};
 ghost use Rattle.kds_defs.specs.Streams.{floor_of};
+ghost use Rattle.kds_log.specs.Log.{log_of};
 ghost use Rattle.kds_stream.specs.Value.{HasArrived, IsBelow, empty_log, settled_log, with_appended};
 
 use kds_base::{Memory, Moment, Seq};
@@ -12,7 +13,7 @@ use std::alloc::Global;
 
 /// The empty logs of the shards of a new stream, whose numbers begin with 1.
 pub fn new_logs(alloc: Global, n: u32) -> Result<Vec<ShardLog>, Memory>
-    ensures { IfOk result (λ logs. logs.items ≡ replicate n empty_log) }
+    ensures { IfOk result (λ logs. map log_of logs.items ≡ replicate n empty_log) }
 {
     let mut logs = Vec::new(alloc);
     for _i in 0..n {
@@ -24,17 +25,17 @@ pub fn new_logs(alloc: Global, n: u32) -> Result<Vec<ShardLog>, Memory>
 /// Adds a record to the log at a place. Its number is above all others, and it arrived no earlier than they did.
 pub fn append_at(logs: &mut [ShardLog], i: usize, item: Stored) -> Result<(), Memory>
     requires within { i < length logs.old }
-    requires number { AllByRecursion (IsBelow item.seq) logs.old }
-    requires arrival { AllByRecursion (HasArrived item.arrival) logs.old }
-    ensures ok { OnOk result (logs.new ≡ with_appended i (logged item) logs.old) }
-    ensures err { OnErr result (logs.new ≡ logs.old) }
+    requires number { AllByRecursion (IsBelow item.seq) (map log_of logs.old) }
+    requires arrival { AllByRecursion (HasArrived item.arrival) (map log_of logs.old) }
+    ensures ok { OnOk result (map log_of logs.new ≡ with_appended i (logged item) (map log_of logs.old)) }
+    ensures err { OnErr result (map log_of logs.new ≡ map log_of logs.old) }
 {
     logs[i].append(item)
 }
 
 /// Drops the trimmed records of a log. It costs a look at the first one where none is trimmed.
 fn settle_log(log: &mut ShardLog, cut: Moment)
-    ensures { log.new ≡ settled_log (floor_of (Some cut)) log.old }
+    ensures { log_of log.new ≡ settled_log (floor_of (Some cut)) (log_of log.old) }
 {
     if let Some(first) = log.first_left(None, 0) {
         if first <= cut {
@@ -45,7 +46,7 @@ fn settle_log(log: &mut ShardLog, cut: Moment)
 
 /// Drops the trimmed records of each log.
 pub fn settle_logs(logs: &mut [ShardLog], cut: Option<Moment>)
-    ensures { logs.new ≡ map (settled_log (floor_of cut)) logs.old }
+    ensures { map log_of logs.new ≡ map (settled_log (floor_of cut)) (map log_of logs.old) }
 {
     let Some(cut) = cut else {
         return;

@@ -5,6 +5,7 @@ ghost use Rattle.kds_defs.specs.Listings.{is_good_after, is_good_at, is_good_sta
 ghost use Rattle.kds_defs.specs.Records.{first_at, left_among, numbers_of, place_after, stored};
 ghost use Rattle.kds_defs.specs.Shards.{ShardState, shown};
 ghost use Rattle.kds_defs.specs.Streams.{floor_of};
+ghost use Rattle.kds_log.specs.Log.{log_of};
 ghost use Rattle.kds_stream.specs.Reading.{batch_among, behind_by, position_from};
 ghost use Rattle.kds_stream.specs.Value.{IsBelow, IsUnder};
 
@@ -96,7 +97,7 @@ pub fn batch_at(
     position: u64,
     limit: u32,
 ) -> Result<(Items<Stored>, u64), Memory>
-    requires { IsBelow (2 ^ 64 - 1) log.now }
+    requires { IsBelow (2 ^ 64 - 1) (log_of log.now) }
     ensures batch { IfOk result (λ r. r.0 ≡ map stored (batch_among (floor_of cut) position limit log.now.kept)) }
     ensures place { IfOk result (λ r. r.1 ≡ place_after position (numbers_of (batch_among (floor_of cut) position limit log.now.kept))) }
 {

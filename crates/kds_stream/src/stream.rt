@@ -43,13 +43,15 @@ pub struct Stream {
 }
 
 impl Model for Stream {
+    ghost use Rattle.std.specs.Prelude.{map};
+    ghost use Rattle.kds_log.specs.Log.{log_of};
     ghost use Rattle.kds_stream.specs.Value.{StreamValue, IsStream};
 
     ghost Value = { StreamValue };
 
-    ghost view = { λ s. record { no = s.no; name = s.name; made = s.made; hours = s.hours; tree = s.tree; logs = s.logs.items; next = s.next; clock = s.clock; cut = s.cut; clock_before = s.clock_before; cut_before = s.cut_before } };
+    ghost view = { λ s. record { no = s.no; name = s.name; made = s.made; hours = s.hours; tree = s.tree; logs = map log_of s.logs.items; next = s.next; clock = s.clock; cut = s.cut; clock_before = s.clock_before; cut_before = s.cut_before } };
 
-    ghost invariant = { λ s. IsStream (record { no = s.no; name = s.name; made = s.made; hours = s.hours; tree = s.tree; logs = s.logs.items; next = s.next; clock = s.clock; cut = s.cut; clock_before = s.clock_before; cut_before = s.cut_before }) };
+    ghost invariant = { λ s. IsStream (record { no = s.no; name = s.name; made = s.made; hours = s.hours; tree = s.tree; logs = map log_of s.logs.items; next = s.next; clock = s.clock; cut = s.cut; clock_before = s.clock_before; cut_before = s.cut_before }) };
 }
 
 impl Stream {

@@ -1,4 +1,4 @@
-use Rattle.std.proofs.Common.{◌≡◌, ◌≢◌, ◌+◌, ◌∷◌, ◌++◌, [], None, sym, subst, ap, ◌∙◌}
+use Rattle.std.proofs.Common.{◌≡◌, ◌≢◌, ◌+◌, ◌∷◌, ◌++◌, [], None, sym, subst, ap, ◌∙◌, map}
 use Rattle.kds_defs.specs.Shards.{merged_shards}
 use Rattle.kds_defs.specs.StreamCommands.{last_number}
 use Rattle.kds_stream.proofs.LogLemmas.{one_more_log}
@@ -7,6 +7,7 @@ use Rattle.kds_stream.specs.Showing.{Shows}
 use Rattle.kds_stream.specs.Value.{StreamValue, empty_log}
 use Rattle.kds_stream.specs.contracts.stream.Stream.{the_view}
 use Rattle.kds_tree.specs.Tree.{merge_refusal, value_by}
+use Rattle.kds_log.specs.Log.{log_of}
 use Rattle.kds_stream.proofs.stream.Stream.merge.Goals as goal
 
 pub invariant_of-self-2 : goal.invariant_of-self-2
@@ -15,7 +16,7 @@ invariant_of-self-2 c =
     let free : v.next ≢ last_number = subst (λ (u : StreamValue). u.next ≢ last_number) (sym c.self.view_is) c.in_default.ensures.free in
     let passes = subst (λ (u : StreamValue). merge_refusal u.tree c.args.shard c.args.other ≡ None) (sym c.self.view_is) c.in_default.ensures.merges in
     let tree = c.in_ok-_child.ensures.value ∙ ap (λ o. value_by o v.tree (merged_shards c.args.shard c.args.other (record { number = v.next; clock = v.clock }) (v.next + 1) v.tree)) passes in
-    let logs : c.push_reserved.new.self.items ≡ v.logs ++ (empty_log ∷ []) = one_more_log _ _ _ _ c.push_reserved.ensures.items c.in_ok-reserve.ensures.items c.new.ensures in
+    let logs : map log_of c.push_reserved.new.self.items ≡ v.logs ++ (empty_log ∷ []) = one_more_log _ _ _ _ c.push_reserved.ensures.items (ap (map log_of) c.in_ok-reserve.ensures.items) c.new.ensures in
     stream_merged v c.args.shard c.args.other _ _ _ (ap (λ n. n + 1) c.seq.view_is) free passes tree logs c.self.invariant
 
 pub returns-clause-answered : goal.returns-clause-answered
@@ -24,7 +25,7 @@ returns-clause-answered c log by show =
     let free : v.next ≢ last_number = subst (λ (u : StreamValue). u.next ≢ last_number) (sym c.self.view_is) c.in_default.ensures.free in
     let passes = subst (λ (u : StreamValue). merge_refusal u.tree c.args.shard c.args.other ≡ None) (sym c.self.view_is) c.in_default.ensures.merges in
     let tree = c.in_ok-_child.ensures.value ∙ ap (λ o. value_by o v.tree (merged_shards c.args.shard c.args.other (record { number = v.next; clock = v.clock }) (v.next + 1) v.tree)) passes in
-    let logs : c.push_reserved.new.self.items ≡ v.logs ++ (empty_log ∷ []) = one_more_log _ _ _ _ c.push_reserved.ensures.items c.in_ok-reserve.ensures.items c.new.ensures in
+    let logs : map log_of c.push_reserved.new.self.items ≡ v.logs ++ (empty_log ∷ []) = one_more_log _ _ _ _ c.push_reserved.ensures.items (ap (map log_of) c.in_ok-reserve.ensures.items) c.new.ensures in
     let show' : Shows v log = subst (λ (u : StreamValue). Shows u log) (sym c.self.view_is) show in
     merge_done c.args.self.now v _ log by c.args.shard c.args.other c.self.view_is (c.in_default.ensures.accepted log by show)
     (shows_merged v log by show' c.self.invariant c.args.shard c.args.other _ _ _ (ap (λ n. n + 1) c.seq.view_is) tree logs)

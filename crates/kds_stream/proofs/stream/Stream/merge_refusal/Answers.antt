@@ -10,6 +10,7 @@ use Rattle.kds_stream.specs.Showing.{Shows, merge_line}
 use Rattle.kds_stream.specs.Value.{StreamValue, is_listed_at}
 use Rattle.kds_stream.specs.contracts.stream.Stream.{the_view}
 use Rattle.kds_stream.proofs.stream.Stream.merge_refusal.Goals as goal
+use Rattle.kds_stream.proofs.LogLemmas.{as_many_logs}
 use Rattle.kds_stream.proofs.stream.Stream.merge_refusal.Goals.{then-not-is_listed-via-then-not-is_listed, then-not-is_listed-via-else-not-is_listed+then-not-is_listed-2}
 
 pub returns-then-not-is_listed-clause-refused : goal.returns-then-not-is_listed-clause-refused
@@ -49,6 +50,6 @@ returns-clause-accepted c log by show =
     let other_listed = subst (λ (u : StreamValue). is_listed_at (floor_of u.cut) (slice_get u.tree c.args.other) ≡ true) (sym c.self.view_is) (sym c.if-not-is_listed-2.ensures) in
     let passes = sym c.in_default.is ∙ c.merge_refusal.ensures in
     let free : v.next ≢ last_number = λ e. c.if-next.false (c.next.view_is ∙ e) in
-    let small : length v.tree < 2 ^ 63 = omega (arith, c.self.invariant.as_many, c.self.inside.logs.ok.0, c.self.inside.logs.ok.1, c.self.inside.logs.small) in
+    let small : length v.tree < 2 ^ 63 = omega (arith, c.self.invariant.as_many, c.self.inside.logs.ok.0, c.self.inside.logs.ok.1, c.self.inside.logs.small, as_many_logs c.self.inside.logs.items) in
     subst (λ (u : StreamValue). merge log u.clock by u.no c.args.shard c.args.other ≡ Accepted (merge_line log u.clock by u.no c.args.shard c.args.other ∷ []) reply.Done) c.self.view_is
     (merge_accepted v log by show' c.args.shard c.args.other listed other_listed passes free small)

@@ -1,9 +1,9 @@
-use Rattle.std.proofs.Common.{◌≢◌, ◌+◌, length, sym, ap, subst, ◌∙◌, refl, arith}
+use Rattle.std.proofs.Common.{◌≢◌, ◌+◌, length, sym, ap, subst, ◌∙◌, refl, arith, map, List}
 use Rattle.std.specs.List.{AllByRecursion}
 use Rattle.std.proofs.lemmas.Option.{slice_get_within}
 use Rattle.kds_defs.specs.StreamCommands.{last_number, put}
-use Rattle.kds_log.specs.Log.{LogValue}
-use Rattle.kds_stream.proofs.LogLemmas.{appended_back, arrived_later}
+use Rattle.kds_log.specs.Log.{LogValue, LogWithRoom, log_of}
+use Rattle.kds_stream.proofs.LogLemmas.{appended_back, arrived_later, as_many_logs}
 use Rattle.kds_stream.proofs.Puts.{led_along, put_done, put_record, put_spent, stream_put}
 use Rattle.kds_stream.specs.Showing.{Shows}
 use Rattle.kds_stream.specs.Value.{HasArrived, StreamValue}
@@ -17,12 +17,12 @@ returns-then-seq-clause-answered c log by shown =
 pub append_at-requires-clause-within : goal.append_at-requires-clause-within
 append_at-requires-clause-within c =
     let inside = slice_get_within c.self.inside.tree c.home-shard.result c.home-shard.ensures.found.state c.home-shard.ensures.found.made in
-    omega (arith, inside, c.shard.view_is, c.self.invariant.as_many, ap (length {A = LogValue}) c.deref_mut.ensures.value)
+    omega (arith, inside, c.shard.view_is, c.self.invariant.as_many, ap (length {A = LogWithRoom}) c.deref_mut.ensures.value, as_many_logs c.self.inside.logs.items)
 
 pub append_at-requires-clause-arrival : goal.append_at-requires-clause-arrival
 append_at-requires-clause-arrival c =
-    subst (AllByRecursion (HasArrived c.self.inside.clock)) (sym c.deref_mut.ensures.value)
-    (arrived_later c.self.inside.clock_before c.self.inside.clock c.self.inside.logs.items c.self.invariant.order c.self.invariant.arrivals)
+    subst (λ (ls : List LogWithRoom). AllByRecursion (HasArrived c.self.inside.clock) (map log_of ls)) (sym c.deref_mut.ensures.value)
+    (arrived_later c.self.inside.clock_before c.self.inside.clock (map log_of c.self.inside.logs.items) c.self.invariant.order c.self.invariant.arrivals)
 
 pub invariant_of-self-2 : goal.invariant_of-self-2
 invariant_of-self-2 c =

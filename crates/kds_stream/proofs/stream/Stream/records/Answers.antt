@@ -9,6 +9,8 @@ use Rattle.kds_stream.proofs.ReadLemmas.{below_last}
 use Rattle.kds_stream.specs.Showing.{Shows}
 use Rattle.kds_stream.specs.Value.{StreamValue, listed_at}
 use Rattle.kds_stream.specs.contracts.stream.Stream.{the_view}
+use Rattle.kds_log.specs.Log.{log_of}
+use Rattle.kds_stream.proofs.LogLemmas.{as_many_logs, log_at}
 use Rattle.kds_stream.proofs.stream.Stream.records.Goals as goal
 
 pub returns-then-iter_expired : goal.returns-then-iter_expired
@@ -29,13 +31,13 @@ pub index-log-requires : goal.index-log-requires
 index-log-requires c =
     let v : StreamValue = the_view c.self.inside in
     let listed = subst (λ (u : StreamValue). Some c.in-Some.shard ≡ option_map shown (listed_at (floor_of u.cut) (slice_get u.tree c.args.iter.now.shard))) (sym c.self.view_is) (sym c.in-Some.is ∙ c.listed.ensures.value) in
-    omega (arith, listed_within v c.args.iter.now.shard c.in-Some.shard c.self.invariant listed, c.no.view_is, c.self.inside.logs.ok.0)
+    omega (arith, listed_within v c.args.iter.now.shard c.in-Some.shard c.self.invariant listed, c.no.view_is, c.self.inside.logs.ok.0, as_many_logs c.self.inside.logs.items)
 
 pub batch_at-requires : goal.batch_at-requires
 batch_at-requires c =
     let v : StreamValue = the_view c.self.inside in
     let listed = subst (λ (u : StreamValue). Some c.in-Some.shard ≡ option_map shown (listed_at (floor_of u.cut) (slice_get u.tree c.args.iter.now.shard))) (sym c.self.view_is) (sym c.in-Some.is ∙ c.listed.ensures.value) in
-    below_last v c.no.inside.0 c.index-log.result.now c.self.invariant (omega (arith, listed_within v c.args.iter.now.shard c.in-Some.shard c.self.invariant listed, c.no.view_is)) c.index-log.ensures
+    below_last v c.no.inside.0 (log_of c.index-log.result.now) c.self.invariant (omega (arith, listed_within v c.args.iter.now.shard c.in-Some.shard c.self.invariant listed, c.no.view_is)) (log_at c.self.inside.logs.items c.no.inside.0 c.index-log.result.now c.index-log.ensures)
 
 pub returns-then-end : goal.returns-then-end
 returns-then-end c log show =
@@ -43,10 +45,10 @@ returns-then-end c log show =
     let show' = subst (λ (u : StreamValue). Shows u log) (sym c.self.view_is) show in
     let listed = subst (λ (u : StreamValue). Some c.in-Some.shard ≡ option_map shown (listed_at (floor_of u.cut) (slice_get u.tree c.args.iter.now.shard))) (sym c.self.view_is) (sym c.in-Some.is ∙ c.listed.ensures.value) in
     let own = subst (λ (u : StreamValue). c.args.iter.now.stream ≡ u.no) (sym c.self.view_is) c.requires.stream in
-    let at = subst (λ n. c.index-log.result.now ≡ get_or v.logs n c.index-log.result.now) c.no.view_is c.index-log.ensures in
+    let at = subst (λ n. log_of c.index-log.result.now ≡ get_or v.logs n (log_of c.index-log.result.now)) c.no.view_is (log_at c.self.inside.logs.items c.no.inside.0 c.index-log.result.now c.index-log.ensures) in
     let end = c.if-end.ensures ∙ ap (λ b. is_some c.in-Some.shard.end && b) (none_of c.first_left-left.result c.is_none.result c.is_none.ensures) in
     answer_along (λ (u : StreamValue). get_records log u.clock c.args.iter.now c.args.limit) v c.args.self.now _ c.self.view_is
-    (records_end v log show' c.args.iter.now c.args.limit c.in_ok-batch.place c.in-Some.shard c.index-log.result.now c.first_left-left.result c.in_ok-batch.batch c.behind-behind.result own c.if-iter_expired.ensures listed
+    (records_end v log show' c.args.iter.now c.args.limit c.in_ok-batch.place c.in-Some.shard (log_of c.index-log.result.now) c.first_left-left.result c.in_ok-batch.batch c.behind-behind.result own c.if-iter_expired.ensures listed
     (listed_within v c.args.iter.now.shard c.in-Some.shard c.self.invariant listed) at c.in_ok-batch.ensures.batch c.in_ok-batch.ensures.place c.first_left-left.ensures.value c.behind-behind.ensures c.in_ok-children.children end c.in_ok-children.ensures)
 
 pub returns : goal.returns
@@ -55,8 +57,8 @@ returns c log show =
     let show' = subst (λ (u : StreamValue). Shows u log) (sym c.self.view_is) show in
     let listed = subst (λ (u : StreamValue). Some c.in-Some.shard ≡ option_map shown (listed_at (floor_of u.cut) (slice_get u.tree c.args.iter.now.shard))) (sym c.self.view_is) (sym c.in-Some.is ∙ c.listed.ensures.value) in
     let own = subst (λ (u : StreamValue). c.args.iter.now.stream ≡ u.no) (sym c.self.view_is) c.requires.stream in
-    let at = subst (λ n. c.index-log.result.now ≡ get_or v.logs n c.index-log.result.now) c.no.view_is c.index-log.ensures in
+    let at = subst (λ n. log_of c.index-log.result.now ≡ get_or v.logs n (log_of c.index-log.result.now)) c.no.view_is (log_at c.self.inside.logs.items c.no.inside.0 c.index-log.result.now c.index-log.ensures) in
     let end = c.if-end.ensures ∙ ap (λ b. is_some c.in-Some.shard.end && b) (none_of c.first_left-left.result c.is_none.result c.is_none.ensures) in
     answer_along (λ (u : StreamValue). get_records log u.clock c.args.iter.now c.args.limit) v c.args.self.now _ c.self.view_is
-    (records_more v log show' c.args.iter.now c.args.limit c.in_ok-batch.place c.in-Some.shard c.index-log.result.now c.first_left-left.result c.in_ok-batch.batch c.behind-behind.result own c.if-iter_expired.ensures listed
+    (records_more v log show' c.args.iter.now c.args.limit c.in_ok-batch.place c.in-Some.shard (log_of c.index-log.result.now) c.first_left-left.result c.in_ok-batch.batch c.behind-behind.result own c.if-iter_expired.ensures listed
     (listed_within v c.args.iter.now.shard c.in-Some.shard c.self.invariant listed) at c.in_ok-batch.ensures.batch c.in_ok-batch.ensures.place c.first_left-left.ensures.value c.behind-behind.ensures c.new.result end c.new.ensures)

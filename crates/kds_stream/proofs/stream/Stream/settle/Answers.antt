@@ -1,6 +1,6 @@
 use Rattle.std.proofs.Common.{◌≡◌, ◌++◌, List, length, map, take, drop, sym, subst, ap, ◌∙◌, arith}
 use Rattle.kds_defs.specs.Streams.{floor_of}
-use Rattle.kds_log.specs.Log.{LogValue}
+use Rattle.kds_log.specs.Log.{LogValue, LogWithRoom, log_of}
 use Rattle.kds_stream.proofs.Clocks.{settled_stream, shows_settled}
 use Rattle.kds_stream.proofs.LogLemmas.{written_back}
 use Rattle.kds_stream.specs.Showing.{Shows}
@@ -12,14 +12,14 @@ pub invariant_of-self : goal.invariant_of-self
 invariant_of-self c =
     let v : StreamValue = the_view c.self.inside in
     let f = settled_log (floor_of v.cut) in
-    let back : take c.self.inside.logs.len (c.settle_logs.new.logs ++ drop (length c.settle_logs.new.logs) c.self.inside.logs.items) ≡ map f v.logs =
-    written_back _ c.settle_logs.new.logs c.self.inside.logs.items (omega arith) ∙ c.settle_logs.ensures ∙ ap (map f) c.deref_mut.ensures.value in
+    let back : map log_of (take c.self.inside.logs.len (c.settle_logs.new.logs ++ drop (length c.settle_logs.new.logs) c.self.inside.logs.items)) ≡ map f v.logs =
+    ap (map log_of) (written_back _ c.settle_logs.new.logs c.self.inside.logs.items (omega arith)) ∙ c.settle_logs.ensures ∙ ap (λ (ls : List LogWithRoom). map f (map log_of ls)) c.deref_mut.ensures.value in
     subst (λ (ls : List LogValue). IsStream (record v { logs = ls; clock_before = v.clock; cut_before = v.cut })) (sym back) (settled_stream v c.self.invariant)
 
 pub returns-clause-shows : goal.returns-clause-shows
 returns-clause-shows c log shown =
     let v : StreamValue = the_view c.self.inside in
     let f = settled_log (floor_of v.cut) in
-    let back : take c.self.inside.logs.len (c.settle_logs.new.logs ++ drop (length c.settle_logs.new.logs) c.self.inside.logs.items) ≡ map f v.logs =
-    written_back _ c.settle_logs.new.logs c.self.inside.logs.items (omega arith) ∙ c.settle_logs.ensures ∙ ap (map f) c.deref_mut.ensures.value in
+    let back : map log_of (take c.self.inside.logs.len (c.settle_logs.new.logs ++ drop (length c.settle_logs.new.logs) c.self.inside.logs.items)) ≡ map f v.logs =
+    ap (map log_of) (written_back _ c.settle_logs.new.logs c.self.inside.logs.items (omega arith)) ∙ c.settle_logs.ensures ∙ ap (λ (ls : List LogWithRoom). map f (map log_of ls)) c.deref_mut.ensures.value in
     subst (λ (ls : List LogValue). Shows (record v { logs = ls; clock_before = v.clock; cut_before = v.cut }) log) (sym back) (shows_settled v log (subst (λ (w : StreamValue). Shows w log) (sym c.self.view_is) shown))

@@ -1,4 +1,4 @@
-use Rattle.std.proofs.Common.{◌≡◌, ◌≢◌, ◌+◌, ◌<◌, ◌∷◌, ◌++◌, [], None, length, sym, subst, ap, ◌∙◌}
+use Rattle.std.proofs.Common.{◌≡◌, ◌≢◌, ◌+◌, ◌<◌, ◌∷◌, ◌++◌, [], None, length, sym, subst, ap, ◌∙◌, map}
 use Rattle.std.specs.List.{filter}
 use Rattle.kds_defs.specs.declared.limits.TheConstants.{OPEN_SHARDS}
 use Rattle.kds_defs.specs.Shards.{is_open, split_shards}
@@ -9,6 +9,7 @@ use Rattle.kds_stream.specs.Showing.{Shows}
 use Rattle.kds_stream.specs.Value.{StreamValue, empty_log}
 use Rattle.kds_stream.specs.contracts.stream.Stream.{the_view}
 use Rattle.kds_tree.specs.Tree.{split_refusal, value_by}
+use Rattle.kds_log.specs.Log.{log_of}
 use Rattle.kds_stream.proofs.stream.Stream.split.Goals as goal
 
 pub invariant_of-self-2 : goal.invariant_of-self-2
@@ -18,8 +19,8 @@ invariant_of-self-2 c =
     let passes = subst (λ (u : StreamValue). split_refusal u.tree c.args.shard c.args.at ≡ None) (sym c.self.view_is) c.in_default.ensures.splits in
     let few : length (filter is_open v.tree) < OPEN_SHARDS = subst (λ (u : StreamValue). length (filter is_open u.tree) < OPEN_SHARDS) (sym c.self.view_is) c.in_default.ensures.few in
     let tree = c.in_ok-_children.ensures.value ∙ ap (λ o. value_by o v.tree (split_shards c.args.shard c.args.at (record { number = v.next; clock = v.clock }) (v.next + 1) v.tree)) passes in
-    let logs : c.push_reserved-2.new.self.items ≡ v.logs ++ (empty_log ∷ empty_log ∷ []) =
-    two_more _ _ _ _ _ _ c.push_reserved-2.ensures.items c.push_reserved.ensures.items c.in_ok-reserve.ensures.items c.new.ensures c.new-2.ensures in
+    let logs : map log_of c.push_reserved-2.new.self.items ≡ v.logs ++ (empty_log ∷ empty_log ∷ []) =
+    two_more _ _ _ _ _ _ c.push_reserved-2.ensures.items c.push_reserved.ensures.items (ap (map log_of) c.in_ok-reserve.ensures.items) c.new.ensures c.new-2.ensures in
     stream_split v c.args.shard c.args.at _ _ _ (ap (λ n. n + 1) c.seq.view_is) free few passes tree logs c.self.invariant
 
 pub returns-clause-answered : goal.returns-clause-answered
@@ -28,8 +29,8 @@ returns-clause-answered c log by show room below =
     let free : v.next ≢ last_number = subst (λ (u : StreamValue). u.next ≢ last_number) (sym c.self.view_is) c.in_default.ensures.free in
     let passes = subst (λ (u : StreamValue). split_refusal u.tree c.args.shard c.args.at ≡ None) (sym c.self.view_is) c.in_default.ensures.splits in
     let tree = c.in_ok-_children.ensures.value ∙ ap (λ o. value_by o v.tree (split_shards c.args.shard c.args.at (record { number = v.next; clock = v.clock }) (v.next + 1) v.tree)) passes in
-    let logs : c.push_reserved-2.new.self.items ≡ v.logs ++ (empty_log ∷ empty_log ∷ []) =
-    two_more _ _ _ _ _ _ c.push_reserved-2.ensures.items c.push_reserved.ensures.items c.in_ok-reserve.ensures.items c.new.ensures c.new-2.ensures in
+    let logs : map log_of c.push_reserved-2.new.self.items ≡ v.logs ++ (empty_log ∷ empty_log ∷ []) =
+    two_more _ _ _ _ _ _ c.push_reserved-2.ensures.items c.push_reserved.ensures.items (ap (map log_of) c.in_ok-reserve.ensures.items) c.new.ensures c.new-2.ensures in
     let show' : Shows v log = subst (λ (u : StreamValue). Shows u log) (sym c.self.view_is) show in
     split_done c.args.self.now v _ log by c.args.shard c.args.at c.self.view_is (c.in_default.ensures.accepted log by show room below)
     (shows_split v log by show' c.self.invariant c.args.shard c.args.at _ _ _ (ap (λ n. n + 1) c.seq.view_is) tree logs)

@@ -10,6 +10,7 @@ use Rattle.kds_stream.proofs.Reshards.{split_accepted, split_full, split_refused
 use Rattle.kds_stream.specs.Showing.{Shows, split_line}
 use Rattle.kds_stream.specs.Value.{StreamValue, is_listed_at}
 use Rattle.kds_stream.specs.contracts.stream.Stream.{the_view}
+use Rattle.kds_stream.proofs.LogLemmas.{as_many_logs}
 use Rattle.kds_stream.proofs.stream.Stream.split_refusal.Goals as goal
 
 pub returns-then-not-is_listed-clause-refused : goal.returns-then-not-is_listed-clause-refused
@@ -48,6 +49,6 @@ returns-clause-accepted c log by show room few =
     let listed = subst (λ (u : StreamValue). is_listed_at (floor_of u.cut) (slice_get u.tree c.args.shard) ≡ true) (sym c.self.view_is) (sym c.if-not-is_listed.ensures) in
     let passes = sym c.in_default.is ∙ c.split_refusal.ensures in
     let free : v.next ≢ last_number = λ e. c.if-next.false (c.next.view_is ∙ e) in
-    let small : length v.tree < 2 ^ 63 = omega (arith, c.self.invariant.as_many, c.self.inside.logs.ok.0, c.self.inside.logs.ok.1, c.self.inside.logs.small) in
+    let small : length v.tree < 2 ^ 63 = omega (arith, c.self.invariant.as_many, c.self.inside.logs.ok.0, c.self.inside.logs.ok.1, c.self.inside.logs.small, as_many_logs c.self.inside.logs.items) in
     subst (λ (u : StreamValue). split log u.clock by u.no c.args.shard c.args.at ≡ Accepted (split_line log u.clock by u.no c.args.shard c.args.at ∷ []) reply.Done) c.self.view_is
     (split_accepted v log by show' c.args.shard c.args.at listed passes (sym c.if-not-has_room.false ∙ c.has_room.ensures.value (open_count log) room few) free small)
