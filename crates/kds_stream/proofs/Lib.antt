@@ -10,3 +10,4 @@ pub mod ReadLemmas
 pub mod Resharded
 pub mod Reshards
 pub mod Retention
+pub mod Routings

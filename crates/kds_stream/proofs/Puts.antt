@@ -108,7 +108,7 @@ module _ (v : StreamValue) (log : Journal) (by : ℕ) (item : NewItem) (shown : 
   elsewhere : (sh : ℕ) → home log v.no item.hash ≢ sh → records (put_line log v.clock by v.no (next_number log v.no) item ∷ log) v.no sh ≡ records log v.no sh
   elsewhere sh differ = records_by true false sh (same_number v.no) (is_other (home log v.no item.hash) sh differ)
 
-  shows_put : (sh : ℕ) → sh ≡ home_among (filter is_open v.tree) item.hash → sh < length v.tree → floor_of v.cut ≤ v.clock
+  pub shows_put : (sh : ℕ) → sh ≡ home_among (filter is_open v.tree) item.hash → sh < length v.tree → floor_of v.cut ≤ v.clock
       → Shows (record v { logs = with_appended sh (put_record v item) v.logs; next = v.next + 1; clock_before = v.clock; cut_before = v.cut }) (put_line log v.clock by v.no (next_number log v.no) item ∷ log)
   shows_put sh at within trims =
       let is : home log v.no item.hash ≡ sh = home_is ∙ sym at in

@@ -1,7 +1,6 @@
 -- A change of the retention: its decision, what the stream shows after it, and that it is a stream still.
-use Rattle.std.proofs.Common.{◌≡◌, ℕ, ◌+◌, ◌*◌, max, ◌<◌, ◌≤◌, Bool, true, false, List, [], ◌∷◌, Option, refl, sym, ap, subst, ◌∙◌, arith}
-use Rattle.std.specs.Prelude.{◌==◌, nat_lt, if◌then◌else◌, Result, Ok, Err}
-use Rattle.std.specs.List.{AllByRecursion}
+use Rattle.std.proofs.Common.{◌≡◌, ℕ, ◌*◌, max, ◌≤◌, Bool, true, false, [], ◌∷◌, Option, refl, sym, ap, ◌∙◌, arith}
+use Rattle.std.specs.Prelude.{◌==◌, nat_lt, if◌then◌else◌, Ok, Err}
 use Rattle.kds_defs.proofs.Decisions.{after_accepted, after_refused, passed_if, refused_if}
 use Rattle.kds_defs.specs.declared.entry.Entry.TheVariants as entry
 use Rattle.kds_defs.specs.declared.limits.TheConstants.{HOUR}
@@ -12,7 +11,6 @@ use Rattle.kds_defs.specs.Journal.{Journal, Line, plain_line, with_lines}
 use Rattle.kds_defs.specs.Lawful.{IsRetention}
 use Rattle.kds_defs.specs.StreamCommands.{keep}
 use Rattle.kds_defs.specs.Streams.{floor_at, floor_of, hours, trim_floor}
-use Rattle.kds_log.specs.Log.{LogValue}
 use Rattle.kds_stream.proofs.Clocks.{kept_higher}
 use Rattle.kds_stream.proofs.Cuts.{changed_floor, cut_floor, later_floor, trims_later}
 use Rattle.kds_stream.proofs.LogLemmas.{arrived_later}

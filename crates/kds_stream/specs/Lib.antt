@@ -1,3 +1,4 @@
 pub mod Reading
 pub mod Value
 pub mod Showing
+pub mod Routes

@@ -4,6 +4,7 @@
 mod laws;
 mod logs;
 mod reading;
+mod routes;
 mod stream;
 
 pub use laws::{fresh, other_lines};

@@ -2,14 +2,15 @@
 ghost use Rattle.std.specs.Prelude.{◌≡◌, ℕ, IfOk, OnErr, OnOk};
 ghost use Rattle.kds_defs.specs.Histories.{answer_of, lines_of};
 ghost use Rattle.kds_defs.specs.Journal.{Journal, with_lines};
-ghost use Rattle.kds_defs.specs.Lawful.{IsItem};
-ghost use Rattle.kds_defs.specs.StreamCommands.{put};
+ghost use Rattle.kds_defs.specs.Lawful.{AreItems, IsItem};
+ghost use Rattle.kds_defs.specs.StreamCommands.{put, put_many};
 ghost use Rattle.kds_stream.specs.Showing.{Shows};
 ghost use Rattle.kds_stream.specs.Value.{IsChangedAt};
 
 use crate::logs::append_at;
+use crate::routes::{append_all, reserve_all, route_all};
 use crate::stream::Stream;
-use kds_base::{Memory, Seq};
+use kds_base::{Items, Memory, Seq};
 use kds_defs::{Answer, NewItem, Place, Refusal, Reply, Stored};
 
 impl Stream {
@@ -42,5 +43,33 @@ impl Stream {
         self.clock_before = self.clock;
         self.cut_before = self.cut;
         Ok(Ok(Reply::Put(Place { shard, seq })))
+    }
+
+    /// PutRecords: each record in order goes as in a put, with numbers that go on by one. All memory is taken before
+    /// the first record is stored. `Spent` exactly where the next number and the count of the records are together
+    /// above the greatest of a `u64` (Kinesis API Reference, PutRecords).
+    pub fn put_many(&mut self, items: Items<NewItem>) -> Result<Answer, Memory>
+        requires { AreItems items }
+        ensures answered { (log : Journal) (by : ℕ) → Shows self.old log → IfOk result (λ a.
+            (a ≡ answer_of (put_many log self.old.clock by self.old.no items))
+            × Shows self.new (with_lines (lines_of (put_many log self.old.clock by self.old.no items)) log)) }
+        ensures fields { (self.new.no ≡ self.old.no) × (self.new.name ≡ self.old.name) × (self.new.clock ≡ self.old.clock) }
+        ensures refused { IfOk result (λ a. OnErr a (self.new ≡ self.old)) }
+        ensures changed { IfOk result (λ a. OnOk a (IsChangedAt self.old self.new)) }
+        ensures kept { OnErr result (self.new ≡ self.old) }
+    {
+        let seq = self.next;
+        let items = items.as_slice();
+        let Some(next) = seq.0.checked_add(items.len() as u64) else {
+            return Ok(Err(Refusal::Spent));
+        };
+        let alloc = *self.logs.allocator();
+        let (routed, places) = route_all(alloc, &self.tree, items, seq.0, self.clock)?;
+        reserve_all(&mut self.logs, places.as_slice())?;
+        append_all(&mut self.logs, routed);
+        self.next = Seq(next);
+        self.clock_before = self.clock;
+        self.cut_before = self.cut;
+        Ok(Ok(Reply::PutMany(places)))
     }
 }

@@ -2,7 +2,7 @@ use Rattle.std.proofs.Common.{◌≢◌, ◌+◌, length, sym, ap, subst, ◌∙
 use Rattle.std.specs.List.{AllByRecursion}
 use Rattle.std.proofs.lemmas.Option.{slice_get_within}
 use Rattle.kds_defs.specs.StreamCommands.{last_number, put}
-use Rattle.kds_log.specs.Log.{LogValue, LogWithRoom, log_of}
+use Rattle.kds_log.specs.Log.{LogWithRoom, log_of}
 use Rattle.kds_stream.proofs.LogLemmas.{appended_back, arrived_later, as_many_logs}
 use Rattle.kds_stream.proofs.Puts.{led_along, put_done, put_record, put_spent, stream_put}
 use Rattle.kds_stream.specs.Showing.{Shows}

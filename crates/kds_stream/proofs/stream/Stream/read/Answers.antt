@@ -10,7 +10,7 @@ use Rattle.kds_stream.specs.Value.{StreamValue, is_listed_at}
 use Rattle.kds_stream.specs.contracts.stream.Stream.{the_view}
 use Rattle.kds_stream.proofs.stream.Stream.read.Goals as goal
 use Rattle.kds_log.specs.Log.{log_of}
-use Rattle.kds_stream.proofs.LogLemmas.{as_many_logs, log_at}
+use Rattle.kds_stream.proofs.LogLemmas.{log_at}
 use Rattle.kds_stream.proofs.stream.Stream.read.Goals.{in-Some, in-None}
 
 pub batch_at-requires : goal.batch_at-requires
