@@ -232,4 +232,18 @@ mod tests {
         assert_eq!(rt; log.last(), Some(Seq(2)));
         Ok(())
     }
+
+    #[test]
+    fn appends_in_reserved_memory(rt: HostRuntime) -> Result<(), Fail> {
+        let mut log = ShardLog::new(rt.alloc(), Seq(1));
+        log.reserve(1)?;
+        log.append_reserved(Stored {
+            seq: Seq(1),
+            arrival: moment(1000),
+            key: Octets::of(rt.alloc(), b"a")?,
+            payload: Octets::new(rt.alloc()),
+        });
+        assert_eq!(rt; log.last(), Some(Seq(1)));
+        Ok(())
+    }
 }
