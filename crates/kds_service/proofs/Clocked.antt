@@ -1,0 +1,58 @@
+-- The streams of a service at a later clock, and back at the earlier one.
+use Rattle.std.proofs.Common.{◌≡◌, ℕ, ◌<◌, List, [], ◌∷◌, map, refl, sym, ap, subst, ◌∙◌}
+use Rattle.kds_defs.specs.Journal.{Journal}
+use Rattle.kds_stream.specs.Showing.{Shows}
+use Rattle.kds_stream.specs.Value.{StreamValue}
+use Rattle.kds_service.specs.Clocks.{advanced, retreated, settled}
+use Rattle.kds_service.specs.Shown.{AreAt, AreShown, IsRising, ServiceValue, ShowsAll, is_among, names_of, numbers_of, service}
+
+-- ---- where the streams stand
+
+pub advanced_at : (clock : ℕ) (vs : List StreamValue) → AreAt clock (map (advanced clock) vs)
+advanced_at clock [] = tt
+advanced_at clock (v ∷ vs) = (refl, advanced_at clock vs)
+
+pub settled_at : (c : ℕ) (vs : List StreamValue) → AreAt c vs → AreAt c (map settled vs)
+settled_at c [] at = tt
+settled_at c (v ∷ vs) at = (at.0, settled_at c vs at.1)
+
+pub back_at : (c clock : ℕ) (vs : List StreamValue) → AreAt c vs → AreAt c (map retreated (map (advanced clock) vs))
+back_at c clock [] at = tt
+back_at c clock (v ∷ vs) at = (at.0, back_at c clock vs at.1)
+
+-- a reading that each keeps is that of all
+pub kept_of : {Y : Type 0} (g : StreamValue → Y) (f : StreamValue → StreamValue) → ((v : StreamValue) → g (f v) ≡ g v) → (vs : List StreamValue) → map g (map f vs) ≡ map g vs
+kept_of g f same [] = refl
+kept_of g f same (v ∷ vs) = ap (λ y. y ∷ map g (map f vs)) (same v) ∙ ap (λ ys. g v ∷ ys) (kept_of g f same vs)
+
+-- ---- what they show
+
+-- streams of the same numbers, at another clock, that show what the others showed
+pub shows_along : (w u : ServiceValue) (log : Journal) → u.made ≡ w.made → numbers_of u.streams ≡ numbers_of w.streams → AreAt u.clock u.streams → AreShown log u.streams → ShowsAll w log → ShowsAll u log
+shows_along w u log made numbers at shown all = record {
+  made = all.made ∙ sym made;
+  at = at;
+  rising = subst (IsRising 0) (sym numbers) all.rising;
+  shown = shown;
+  others = λ s out. all.others s (ap (λ ns. is_among ns s) (sym numbers) ∙ out);
+  unmade = λ s later. all.unmade s (subst (λ n. n < s) made later);
+}
+
+-- a stream shows the same with the clock that it had, whatever it remembers
+back_shows : (clock : ℕ) (v : StreamValue) (log : Journal) → Shows v log → Shows (retreated (advanced clock v)) log
+back_shows clock v log shown = record {
+  live = shown.live;
+  was = shown.was;
+  named = shown.named;
+  made_is = shown.made_is;
+  hours_are = shown.hours_are;
+  shards_are = shown.shards_are;
+  next_is = shown.next_is;
+  floor_is = shown.floor_is;
+  kept = shown.kept;
+  none_beyond = shown.none_beyond;
+}
+
+pub back_shown : (clock : ℕ) (vs : List StreamValue) (log : Journal) → AreShown log vs → AreShown log (map retreated (map (advanced clock) vs))
+back_shown clock [] log shown = tt
+back_shown clock (v ∷ vs) log shown = (back_shows clock v log shown.0, back_shown clock vs log shown.1)

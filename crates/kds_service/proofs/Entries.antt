@@ -1,0 +1,82 @@
+-- The entries of the map: the values and the keys after one is replaced, added or taken out.
+use Rattle.std.proofs.Common.{◌≡◌, ℕ, zero, suc, ◌+◌, Bool, true, false, cond, List, [], ◌∷◌, ◌++◌, map, take, drop, remove, slice_get, slice_set, Option, Some, None, refl, sym, ap, subst, ◌∙◌}
+use Rattle.std.specs.List.{position_from}
+use Rattle.std.specs.Map.{keys_of, values_of}
+use Rattle.std.proofs.lemmas.Option.{none-some}
+use Rattle.indexmap.specs.IndexMap.{insert_entry, set_value_at}
+use Rattle.kds_stream.specs.Value.{StreamValue}
+use Rattle.kds_service.proofs.Lists.{at_push, at_remove, at_set, either_way, map_push, map_same}
+use Rattle.kds_service.specs.Places.{ArePlaced}
+use Rattle.kds_service.specs.Shown.{AreAt, names_of}
+
+module _ {K X : Type 0} where
+  pub values_set : (es : List (K × X)) (i : ℕ) (w : X) → values_of (set_value_at es i w) ≡ slice_set (values_of es) i w
+  values_set [] i w = refl
+  values_set (e ∷ es) zero w = refl
+  values_set (e ∷ es) (suc i) w = ap (λ ys. e.1 ∷ ys) (values_set es i w)
+
+  pub keys_set : (es : List (K × X)) (i : ℕ) (w : X) → keys_of (set_value_at es i w) ≡ keys_of es
+  keys_set [] i w = refl
+  keys_set (e ∷ es) zero w = refl
+  keys_set (e ∷ es) (suc i) w = ap (λ ys. e.0 ∷ ys) (keys_set es i w)
+
+  pub map_take_out : {Y : Type 0} (f : K × X → Y) (es : List (K × X)) (i : ℕ) → map f (remove es i) ≡ remove (map f es) i
+  map_take_out f [] zero = refl
+  map_take_out f [] (suc i) = refl
+  map_take_out f (e ∷ es) zero = refl
+  map_take_out f (e ∷ es) (suc i) = ap (λ ys. f e ∷ ys) (map_take_out f es i)
+
+  -- a new key goes last
+  pub insert_last : (eq : K → K → Bool) (n : ℕ) (es : List (K × X)) (k : K) (v : X) → position_from (eq k) n (keys_of es) ≡ None → insert_entry eq es k v ≡ es ++ ((k, v) ∷ [])
+  insert_last eq n [] k v none = refl
+  insert_last eq n (e ∷ es) k v none =
+      either_way (eq k e.0)
+      (λ is. absurd (none-some n (sym none ∙ ap (λ b. cond b (Some n) (position_from (eq k) (n + 1) (keys_of es))) is)))
+      (λ is.
+      let rest = sym (ap (λ b. cond b (Some n) (position_from (eq k) (n + 1) (keys_of es))) is) ∙ none in
+      ap (λ b. cond b ((e.0, v) ∷ es) (e ∷ insert_entry eq es k v)) is ∙ ap (λ ys. e ∷ ys) (insert_last eq (n + 1) es k v rest))
+
+  pub map_last : {Y : Type 0} (f : K × X → Y) (es : List (K × X)) (e : K × X) → map f (es ++ (e ∷ [])) ≡ map f es ++ (f e ∷ [])
+  map_last f [] e = refl
+  map_last f (d ∷ es) e = ap (λ ys. f d ∷ ys) (map_last f es e)
+
+names_take_out : (vs : List StreamValue) (i : ℕ) → names_of (remove vs i) ≡ remove (names_of vs) i
+names_take_out [] zero = refl
+names_take_out [] (suc i) = refl
+names_take_out (v ∷ vs) zero = refl
+names_take_out (v ∷ vs) (suc i) = ap (λ ys. v.name ∷ ys) (names_take_out vs i)
+
+-- ---- the streams stand where they did
+
+pub placed_set : (c i : ℕ) (es : List (List ℕ × StreamValue)) (x v : StreamValue) → ArePlaced c es → slice_get (values_of es) i ≡ Some x → v.name ≡ x.name → v.clock ≡ c → ArePlaced c (set_value_at es i v)
+placed_set c i es x v placed here name clock = record {
+  named = keys_set es i v ∙ placed.named ∙ sym (map_same (λ u. u.name) i (values_of es) x v here name) ∙ ap names_of (sym (values_set es i v));
+  at = subst (AreAt c) (sym (values_set es i v)) (at_set c i (values_of es) v placed.at clock);
+}
+
+pub placed_push : (c : ℕ) (es fs : List (List ℕ × StreamValue)) (k : List ℕ) (v : StreamValue) → ArePlaced c es → fs ≡ es ++ ((k, v) ∷ []) → k ≡ v.name → v.clock ≡ c → ArePlaced c fs
+placed_push c es fs k v placed pushed name clock = record {
+  named =
+      ap keys_of pushed
+      ∙ map_last (λ e. e.0) es (k, v)
+      ∙ ap (λ ks. ks ++ (k ∷ [])) placed.named
+      ∙ ap (λ n. names_of (values_of es) ++ (n ∷ [])) name
+      ∙ sym (map_push (λ u. u.name) (values_of es) v)
+      ∙ ap names_of (sym (ap values_of pushed ∙ map_last (λ e. e.1) es (k, v)));
+  at = subst (AreAt c) (sym (ap values_of pushed ∙ map_last (λ e. e.1) es (k, v))) (at_push c (values_of es) v placed.at clock);
+}
+
+pub placed_remove : (c i : ℕ) (es fs : List (List ℕ × StreamValue)) → ArePlaced c es → fs ≡ remove es i → ArePlaced c fs
+placed_remove c i es fs placed taken = record {
+  named =
+      ap keys_of taken
+      ∙ map_take_out (λ e. e.0) es i
+      ∙ ap (λ ks. remove ks i) placed.named
+      ∙ sym (names_take_out (values_of es) i)
+      ∙ ap names_of (sym (ap values_of taken ∙ map_take_out (λ e. e.1) es i));
+  at = subst (AreAt c) (sym (ap values_of taken ∙ map_take_out (λ e. e.1) es i)) (at_remove c i (values_of es) placed.at);
+}
+
+-- the same keys over streams of the same names
+pub placed_along : (c : ℕ) (es fs : List (List ℕ × StreamValue)) → keys_of es ≡ names_of (values_of es) → keys_of fs ≡ keys_of es → names_of (values_of fs) ≡ names_of (values_of es) → AreAt c (values_of fs) → ArePlaced c fs
+placed_along c es fs named same names at = record { named = same ∙ named ∙ sym names; at = at }

@@ -1,0 +1,9 @@
+pub mod Clocked
+pub mod Creating
+pub mod Deleting
+pub mod Entries
+pub mod Leading
+pub mod Lives
+pub mod Lists
+pub mod Numbers
+pub mod Readings

@@ -1,0 +1,196 @@
+-- Streams in a list: at a place, after one is replaced, after one is added, and after one is taken out.
+use Rattle.std.proofs.Common.{◌≡◌, ◌≢◌, ℕ, zero, suc, ◌+◌, ◌<◌, ◌≤◌, Bool, true, false, ◌||◌, ◌==◌, List, [], ◌∷◌, ◌++◌, length, map, take, drop, remove, slice_get, slice_set, Option, Some, None, refl, sym, ap, subst, ◌∙◌, arith}
+use Rattle.std.proofs.lemmas.Bool.{eqb-true}
+use Rattle.std.proofs.lemmas.Option.{none-some}
+use Rattle.kds_defs.specs.Journal.{Journal}
+use Rattle.kds_stream.specs.Showing.{Shows}
+use Rattle.kds_stream.specs.Value.{StreamValue}
+use Rattle.kds_service.specs.Shown.{AreAt, AreShown, IsRising, is_among, numbers_of}
+
+-- by cases of a test
+pub either_way : {P : Type 0} (b : Bool) → (b ≡ true → P) → (b ≡ false → P) → P
+either_way true holds fails = holds refl
+either_way false holds fails = fails refl
+
+pub same_some : {X : Type 0} (x y : X) → Some x ≡ Some y → x ≡ y
+same_some x y h = cc
+
+-- ---- at a place
+
+pub at_get : (c i : ℕ) (vs : List StreamValue) (x : StreamValue) → AreAt c vs → slice_get vs i ≡ Some x → x.clock ≡ c
+at_get c i [] x at here = absurd (none-some x here)
+at_get c zero (v ∷ vs) x at here = subst (λ (u : StreamValue). u.clock ≡ c) (same_some v x here) at.0
+at_get c (suc i) (v ∷ vs) x at here = at_get c i vs x at.1 here
+
+pub shown_get : (log : Journal) (i : ℕ) (vs : List StreamValue) (x : StreamValue) → AreShown log vs → slice_get vs i ≡ Some x → Shows x log
+shown_get log i [] x shown here = absurd (none-some x here)
+shown_get log zero (v ∷ vs) x shown here = subst (λ u. Shows u log) (same_some v x here) shown.0
+shown_get log (suc i) (v ∷ vs) x shown here = shown_get log i vs x shown.1 here
+
+-- numbers that rise are above the lowest
+pub above : (low i : ℕ) (vs : List StreamValue) (x : StreamValue) → IsRising low (numbers_of vs) → slice_get vs i ≡ Some x → low < x.no
+above low i [] x rising here = absurd (none-some x here)
+above low zero (v ∷ vs) x rising here = subst (λ (u : StreamValue). low < u.no) (same_some v x here) rising.0
+above low (suc i) (v ∷ vs) x rising here = let rest = above v.no i vs x rising.1 here in omega (arith, rising.0, rest)
+
+pub rising_from : (low high : ℕ) (ns : List ℕ) → low ≤ high → IsRising high ns → IsRising low ns
+rising_from low high [] below rising = tt
+rising_from low high (n ∷ ns) below rising = (omega (arith, rising.0), rising.1)
+
+-- ---- among numbers
+
+-- a number that is one of none of two parts
+pub no_either : (a b : Bool) → (a || b) ≡ false → (a ≡ false) × (b ≡ false)
+no_either true b h = absurd cc
+no_either false b h = (refl, h)
+
+pub neither : (a b : Bool) → a ≡ false → b ≡ false → (a || b) ≡ false
+neither true b x y = absurd cc
+neither false b x y = y
+
+pub unequal : (n s : ℕ) → n ≢ s → (n == s) ≡ false
+unequal n s differ = either_way (n == s) (λ e. absurd (differ (eqb-true n s e))) (λ e. e)
+
+-- a number at or below the lowest isn't among numbers that rise
+pub not_below : (low s : ℕ) (ns : List ℕ) → s ≤ low → IsRising low ns → is_among ns s ≡ false
+not_below low s [] below rising = refl
+not_below low s (n ∷ ns) below rising =
+    neither (n == s) (is_among ns s) (unequal n s (λ e. apart low s n below rising.0 e)) (not_below n s ns (omega (arith, rising.0)) rising.1)
+  where
+    apart : (low s n : ℕ) → s ≤ low → low < n → n ≡ s → ⊥
+    apart low s n a b e = absurd (omega arith)
+
+-- ---- one is replaced
+
+pub at_set : (c i : ℕ) (vs : List StreamValue) (v : StreamValue) → AreAt c vs → v.clock ≡ c → AreAt c (slice_set vs i v)
+at_set c i [] v at clock = tt
+at_set c zero (u ∷ us) v at clock = (clock, at.1)
+at_set c (suc i) (u ∷ us) v at clock = (at.0, at_set c i us v at.1 clock)
+
+-- what is the same of both is the same of the lists
+pub map_same : {Y : Type 0} (f : StreamValue → Y) (i : ℕ) (vs : List StreamValue) (x v : StreamValue) → slice_get vs i ≡ Some x → f v ≡ f x → map f (slice_set vs i v) ≡ map f vs
+map_same f i [] x v here same = refl
+map_same f zero (u ∷ us) x v here same = ap (λ y. y ∷ map f us) (same ∙ ap f (sym (same_some u x here)))
+map_same f (suc i) (u ∷ us) x v here same = ap (λ ys. f u ∷ ys) (map_same f i us x v here same)
+
+-- those above a number show the new journal too, where all of other numbers do
+shown_rest : (log log' : Journal) (c k : ℕ) (vs : List StreamValue) → IsRising k (numbers_of vs) → AreAt c vs → AreShown log vs → ((u : StreamValue) → Shows u log → u.clock ≡ c → u.no ≢ k → Shows u log') → AreShown log' vs
+shown_rest log log' c k [] rising at shown others = tt
+shown_rest log log' c k (u ∷ us) rising at shown others =
+    (others u shown.0 at.0 (λ same. apart u.no k same rising.0), shown_rest log log' c k us (rising_from k u.no (numbers_of us) (omega (arith, rising.0)) rising.1) at.1 shown.1 others)
+  where
+    apart : (m k : ℕ) → m ≡ k → k < m → ⊥
+    apart m k a h = absurd (omega arith)
+
+pub shown_set : (log log' : Journal) (c low i : ℕ) (vs : List StreamValue) (x v : StreamValue) → IsRising low (numbers_of vs) → AreAt c vs → AreShown log vs → slice_get vs i ≡ Some x → Shows v log' → ((u : StreamValue) → Shows u log → u.clock ≡ c → u.no ≢ x.no → Shows u log') → AreShown log' (slice_set vs i v)
+shown_set log log' c low i [] x v rising at shown here new others = tt
+shown_set log log' c low zero (u ∷ us) x v rising at shown here new others =
+    (new, shown_rest log log' c x.no us (subst (λ (w : StreamValue). IsRising w.no (numbers_of us)) (same_some u x here) rising.1) at.1 shown.1 others)
+shown_set log log' c low (suc i) (u ∷ us) x v rising at shown here new others =
+    (others u shown.0 at.0 (λ same. apart u.no x.no same (above u.no i us x rising.1 here)), shown_set log log' c u.no i us x v rising.1 at.1 shown.1 here new others)
+  where
+    apart : (m k : ℕ) → m ≡ k → m < k → ⊥
+    apart m k a h = absurd (omega arith)
+
+-- the same journal, where only one is replaced
+pub shown_step : (log : Journal) (i : ℕ) (vs : List StreamValue) (v : StreamValue) → AreShown log vs → Shows v log → AreShown log (slice_set vs i v)
+shown_step log i [] v shown new = tt
+shown_step log zero (u ∷ us) v shown new = (new, shown.1)
+shown_step log (suc i) (u ∷ us) v shown new = (shown.0, shown_step log i us v shown.1 new)
+
+-- ---- one is added
+
+pub at_push : (c : ℕ) (vs : List StreamValue) (v : StreamValue) → AreAt c vs → v.clock ≡ c → AreAt c (vs ++ (v ∷ []))
+at_push c [] v at clock = (clock, tt)
+at_push c (u ∷ us) v at clock = (at.0, at_push c us v at.1 clock)
+
+pub map_push : {Y : Type 0} (f : StreamValue → Y) (vs : List StreamValue) (v : StreamValue) → map f (vs ++ (v ∷ [])) ≡ map f vs ++ (f v ∷ [])
+map_push f [] v = refl
+map_push f (u ∷ us) v = ap (λ ys. f u ∷ ys) (map_push f us v)
+
+-- they are at most this number
+abbrev pub AreUpTo : ℕ → List StreamValue → Type 0
+AreUpTo n [] = Unit {0}
+AreUpTo n (v ∷ vs) = (v.no ≤ n) × AreUpTo n vs
+
+pub rising_push : (low n m : ℕ) (vs : List StreamValue) → low < m → n < m → AreUpTo n vs → IsRising low (numbers_of vs) → IsRising low (numbers_of vs ++ (m ∷ []))
+rising_push low n m [] first last below rising = (first, tt)
+rising_push low n m (v ∷ vs) first last below rising = (rising.0, rising_push v.no n m vs (omega (arith, below.0)) last below.1 rising.1)
+
+pub among_push : (ns : List ℕ) (m s : ℕ) → is_among (ns ++ (m ∷ [])) s ≡ false → (is_among ns s ≡ false) × ((m == s) ≡ false)
+among_push [] m s out = (refl, (no_either (m == s) false out).0)
+among_push (n ∷ ns) m s out =
+    let parts = no_either (n == s) (is_among (ns ++ (m ∷ [])) s) out in
+    let rest = among_push ns m s parts.1 in
+    (neither (n == s) (is_among ns s) parts.0 rest.0, rest.1)
+
+pub shown_push : (log log' : Journal) (c n : ℕ) (vs : List StreamValue) (v : StreamValue) → AreUpTo n vs → AreAt c vs → AreShown log vs → Shows v log' → ((u : StreamValue) → Shows u log → u.clock ≡ c → u.no ≤ n → Shows u log') → AreShown log' (vs ++ (v ∷ []))
+shown_push log log' c n [] v below at shown new others = (new, tt)
+shown_push log log' c n (u ∷ us) v below at shown new others = (others u shown.0 at.0 below.0, shown_push log log' c n us v below.1 at.1 shown.1 new others)
+
+-- ---- one is taken out
+
+pub at_remove : (c i : ℕ) (vs : List StreamValue) → AreAt c vs → AreAt c (remove vs i)
+at_remove c i [] at = at_none i
+  where
+    at_none : (i : ℕ) → AreAt c (remove [] i)
+    at_none zero = tt
+    at_none (suc i) = tt
+at_remove c zero (v ∷ vs) at = at.1
+at_remove c (suc i) (v ∷ vs) at = (at.0, at_remove c i vs at.1)
+
+pub rising_remove : (low i : ℕ) (vs : List StreamValue) → IsRising low (numbers_of vs) → IsRising low (numbers_of (remove vs i))
+rising_remove low zero [] rising = tt
+rising_remove low (suc i) [] rising = tt
+rising_remove low zero (v ∷ vs) rising = rising_from low v.no (numbers_of vs) (omega (arith, rising.0)) rising.1
+rising_remove low (suc i) (v ∷ vs) rising = (rising.0, rising_remove v.no i vs rising.1)
+
+pub shown_remove : (log log' : Journal) (c low i : ℕ) (vs : List StreamValue) (x : StreamValue) → IsRising low (numbers_of vs) → AreAt c vs → AreShown log vs → slice_get vs i ≡ Some x → ((u : StreamValue) → Shows u log → u.clock ≡ c → u.no ≢ x.no → Shows u log') → AreShown log' (remove vs i)
+shown_remove log log' c low i [] x rising at shown here others = absurd (none-some x here)
+shown_remove log log' c low zero (u ∷ us) x rising at shown here others =
+    shown_rest log log' c x.no us (subst (λ (w : StreamValue). IsRising w.no (numbers_of us)) (same_some u x here) rising.1) at.1 shown.1 others
+shown_remove log log' c low (suc i) (u ∷ us) x rising at shown here others =
+    (others u shown.0 at.0 (λ same. apart u.no x.no same (above u.no i us x rising.1 here)), shown_remove log log' c u.no i us x rising.1 at.1 shown.1 here others)
+  where
+    apart : (m k : ℕ) → m ≡ k → m < k → ⊥
+    apart m k a h = absurd (omega arith)
+
+-- a number that isn't among those that are left is that of the one that was taken out, or wasn't there before
+pub among_remove : (i s : ℕ) (vs : List StreamValue) (x : StreamValue) → slice_get vs i ≡ Some x → is_among (numbers_of (remove vs i)) s ≡ false → (x.no == s) ≡ false → is_among (numbers_of vs) s ≡ false
+among_remove i s [] x here out differ = refl
+among_remove zero s (v ∷ vs) x here out differ =
+    neither (v.no == s) (is_among (numbers_of vs) s) (ap (λ (u : StreamValue). u.no == s) (same_some v x here) ∙ differ) out
+among_remove (suc i) s (v ∷ vs) x here out differ =
+    let parts = no_either (v.no == s) (is_among (numbers_of (remove vs i)) s) out in
+    neither (v.no == s) (is_among (numbers_of vs) s) parts.0 (among_remove i s vs x here parts.1 differ)
+
+-- ---- each is replaced, one after another
+
+-- the one at a place that isn't reached yet is the one that stood there
+pub get_rest : (f : StreamValue → StreamValue) (xs : List StreamValue) (i : ℕ) → slice_get (map f (take i xs) ++ drop i xs) i ≡ slice_get xs i
+get_rest f [] zero = refl
+get_rest f [] (suc i) = refl
+get_rest f (x ∷ xs) zero = refl
+get_rest f (x ∷ xs) (suc i) = get_rest f xs i
+
+-- one more is replaced
+set_next : (f : StreamValue → StreamValue) (xs : List StreamValue) (i : ℕ) (x : StreamValue) → slice_get xs i ≡ Some x → slice_set (map f (take i xs) ++ drop i xs) i (f x) ≡ map f (take (suc i) xs) ++ drop (suc i) xs
+set_next f [] i x here = absurd (none-some x here)
+set_next f (y ∷ ys) zero x here = ap (λ z. f z ∷ ys) (sym (same_some y x here))
+set_next f (y ∷ ys) (suc i) x here = ap (λ zs. f y ∷ zs) (set_next f ys i x here)
+
+pub set_rest : (f : StreamValue → StreamValue) (xs : List StreamValue) (i : ℕ) (x : StreamValue) → slice_get xs i ≡ Some x → slice_set (map f (take i xs) ++ drop i xs) i (f x) ≡ map f (take (i + 1) xs) ++ drop (i + 1) xs
+set_rest f xs i x here =
+    let one : suc i ≡ i + 1 = omega arith in
+    set_next f xs i x here ∙ ap (λ j. map f (take j xs) ++ drop j xs) one
+
+-- those from a place on begin with the one that stands there
+drop_next : {X : Type 0} (xs : List X) (i : ℕ) (x : X) → slice_get xs i ≡ Some x → drop i xs ≡ x ∷ drop (suc i) xs
+drop_next [] i x here = absurd (none-some x here)
+drop_next (y ∷ ys) zero x here = ap (λ z. z ∷ ys) (same_some y x here)
+drop_next (y ∷ ys) (suc i) x here = drop_next ys i x here
+
+pub drop_get : {X : Type 0} (xs : List X) (i : ℕ) (x : X) → slice_get xs i ≡ Some x → drop i xs ≡ x ∷ drop (i + 1) xs
+drop_get xs i x here =
+    let one : suc i ≡ i + 1 = omega arith in
+    drop_next xs i x here ∙ ap (λ j. x ∷ drop j xs) one

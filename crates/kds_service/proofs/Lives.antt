@@ -1,0 +1,183 @@
+-- What the lines of one stream leave of the others, and which lines the commands write.
+use Rattle.std.proofs.Common.{◌≡◌, ◌≢◌, ℕ, zero, suc, ◌+◌, ◌<◌, ◌≤◌, Bool, true, false, ◌==◌, List, [], ◌∷◌, ◌++◌, length, remove, slice_get, slice_set, Option, Some, None, refl, sym, ap, subst, ◌∙◌, arith}
+use Rattle.std.specs.Prelude.{◌||◌, ◌&&◌, not}
+use Rattle.std.proofs.lemmas.Option.{none-some}
+use Rattle.kds_defs.specs.declared.command.NewItem.{NewItem}
+use Rattle.kds_defs.specs.declared.command.Start.{Start}
+use Rattle.kds_defs.specs.declared.entry.Entry.{Entry}
+use Rattle.kds_defs.specs.declared.entry.Entry.TheVariants as entry
+use Rattle.kds_defs.specs.declared.reply.Iter.{Iter}
+use Rattle.kds_defs.specs.declared.reply.Page.{Page}
+use Rattle.kds_defs.specs.declared.reply.Refusal.{Refusal}
+use Rattle.kds_defs.specs.Decision.{Decision, Refused, Accepted, refuse◌if◌else◌, with◌or◌then◌}
+use Rattle.kds_defs.specs.Histories.{lines_of}
+use Rattle.kds_defs.specs.Journal.{Line, Journal, plain_line, with_lines}
+use Rattle.kds_defs.specs.Listings.{get_iterator, get_records, more}
+use Rattle.kds_defs.specs.StreamCommands.{keep, merge, put, put_many, split}
+use Rattle.kds_defs.specs.StreamCommands as command
+use Rattle.kds_defs.specs.Streams.{is_live, is_live_after, made_count, made_count_after}
+use Rattle.kds_stream.specs.Showing.{IsFresh, Shows, stream_of}
+use Rattle.kds_stream.specs.Value.{StreamValue}
+use Rattle.kds_service.proofs.Lists.{AreUpTo, among_push, among_remove, at_push, at_remove, at_set, map_push, map_same, either_way, neither, rising_push, rising_remove, same_some, shown_get, shown_push, shown_remove, shown_set, unequal}
+use Rattle.kds_service.proofs.Readings.{up_to}
+use Rattle.kds_service.specs.Lines.{AreOf, is_within_life}
+use Rattle.kds_service.specs.Shown.{IsRising, ShowsAll, is_among, numbers_of, service}
+
+-- ---- the laws of a stream, as `other_lines` and `fresh` ensure them
+
+abbrev pub LinesOfOthers : Type 0
+LinesOfOthers = (v : StreamValue) (log : Journal) (line : Line) → Shows v log → line.clock ≡ v.clock → stream_of line.what ≢ v.no → Shows v (line ∷ log)
+
+abbrev pub StaysFresh : Type 0
+StaysFresh = (log : Journal) (line : Line) (s : ℕ) → IsFresh log s → stream_of line.what ≢ s → IsFresh (line ∷ log) s
+
+-- ---- the same of several lines
+
+shows_more : (v : StreamValue) (c s : ℕ) (lines : List Line) (log : Journal) → LinesOfOthers → v.clock ≡ c → v.no ≢ s → AreOf s c lines → Shows v log → Shows v (with_lines lines log)
+shows_more v c s [] log law clock differ of shown = shown
+shows_more v c s (line ∷ lines) log law clock differ of shown =
+    shows_more v c s lines (line ∷ log) law clock differ of.3 (law v log line shown (of.1 ∙ sym clock) (λ same. differ (sym same ∙ of.0)))
+
+fresh_more : (s t c : ℕ) (lines : List Line) (log : Journal) → StaysFresh → t ≢ s → AreOf s c lines → IsFresh log t → IsFresh (with_lines lines log) t
+fresh_more s t c [] log law differ of fresh = fresh
+fresh_more s t c (line ∷ lines) log law differ of fresh = fresh_more s t c lines (line ∷ log) law differ of.3 (law log line t fresh (λ same. differ (sym same ∙ of.0)))
+
+made_same : (what : Entry) (n : ℕ) → is_within_life what ≡ true → made_count_after what n ≡ n
+made_same (entry.Made s name count) n h = absurd cc
+made_same _ n h = refl
+
+live_same : (what : Entry) (s : ℕ) (b : Bool) → is_within_life what ≡ true → is_live_after what s b ≡ b
+live_same (entry.Made t name count) s b h = absurd cc
+live_same (entry.Gone t) s b h = absurd cc
+live_same _ s b h = refl
+
+made_more : (s c : ℕ) (lines : List Line) (log : Journal) → AreOf s c lines → made_count (with_lines lines log) ≡ made_count log
+made_more s c [] log of = refl
+made_more s c (line ∷ lines) log of = made_more s c lines (line ∷ log) of.3 ∙ made_same line.what (made_count log) of.2
+
+live_more : (s t c : ℕ) (lines : List Line) (log : Journal) → AreOf s c lines → is_live (with_lines lines log) t ≡ is_live log t
+live_more s t c [] log of = refl
+live_more s t c (line ∷ lines) log of = live_more s t c lines (line ∷ log) of.3 ∙ live_same line.what t (is_live log t) of.2
+
+-- a number above all others is none of theirs
+beyond : (n s t : ℕ) → s ≤ n → n < t → t ≡ s → ⊥
+beyond n s t a b e = absurd (omega arith)
+
+up_at : (n i : ℕ) (vs : List StreamValue) (x : StreamValue) → AreUpTo n vs → slice_get vs i ≡ Some x → x.no ≤ n
+up_at n i [] x up here = absurd (none-some x here)
+up_at n zero (v ∷ vs) x up here = subst (λ (u : StreamValue). u.no ≤ n) (same_some v x here) up.0
+up_at n (suc i) (v ∷ vs) x up here = up_at n i vs x up.1 here
+
+-- a stream goes on to show the journal with its lines, and the service with it
+pub shows_after : (c b n i : ℕ) (vs : List StreamValue) (x v : StreamValue) (log : Journal) (lines : List Line) → LinesOfOthers → StaysFresh → ShowsAll (service c b n vs) log → slice_get vs i ≡ Some x → v.no ≡ x.no → v.clock ≡ c → AreOf x.no c lines → Shows v (with_lines lines log) → ShowsAll (service c b n (slice_set vs i v)) (with_lines lines log)
+shows_after c b n i vs x v log lines law fresh all here numbered clock of shown =
+    let numbers : numbers_of (slice_set vs i v) ≡ numbers_of vs = map_same (λ u. u.no) i vs x v here numbered in
+    record {
+      made = made_more x.no c lines log of ∙ all.made;
+      at = at_set c i vs v all.at clock;
+      rising = subst (IsRising 0) (sym numbers) all.rising;
+      shown = shown_set log (with_lines lines log) c 0 i vs x v all.rising all.at all.shown here shown (λ u is at differ. shows_more u c x.no lines log law at differ of is);
+      others = λ s out. live_more x.no s c lines log of ∙ all.others s (ap (λ ns. is_among ns s) (sym numbers) ∙ out);
+      unmade = λ s later. fresh_more x.no s c lines log fresh (λ same. beyond n x.no s (up_at n i vs x (up_to n vs log all.shown all.unmade) here) later same) of (all.unmade s later);
+    }
+
+-- ---- a new stream
+
+pub shows_added : (c b n by count : ℕ) (name : List ℕ) (vs : List StreamValue) (v : StreamValue) (log : Journal) → LinesOfOthers → StaysFresh → ShowsAll (service c b n vs) log → v.no ≡ n + 1 → v.clock ≡ c
+    → Shows v (plain_line c by (entry.Made (n + 1) name count) ∷ log) → ShowsAll (service c b (n + 1) (vs ++ (v ∷ []))) (plain_line c by (entry.Made (n + 1) name count) ∷ log)
+shows_added c b n by count name vs v log law fresh all numbered clock shown =
+    let line = plain_line c by (entry.Made (n + 1) name count) in
+    let up = up_to n vs log all.shown all.unmade in
+    let numbers : numbers_of (vs ++ (v ∷ [])) ≡ numbers_of vs ++ ((n + 1) ∷ []) = map_push (λ u. u.no) vs v ∙ ap (λ m. numbers_of vs ++ (m ∷ [])) numbered in
+    record {
+      made = ap (λ m. m + 1) all.made;
+      at = at_push c vs v all.at clock;
+      rising = subst (IsRising 0) (sym numbers) (rising_push 0 n (n + 1) vs (omega arith) (omega arith) up all.rising);
+      shown = shown_push log (line ∷ log) c n vs v up all.at all.shown shown (λ u is at below. law u log line is (sym at) (λ same. last n u.no below same));
+      others = λ s out.
+          let parts = among_push (numbers_of vs) (n + 1) s (ap (λ ns. is_among ns s) (sym numbers) ∙ out) in
+          neither ((n + 1) == s) (is_live log s) parts.1 (all.others s parts.0);
+      unmade = λ s later. fresh log line s (all.unmade s (omega arith)) (λ same. apart n s later same);
+    }
+  where
+    last : (n m : ℕ) → m ≤ n → n + 1 ≡ m → ⊥
+    last n m a e = absurd (omega arith)
+
+    apart : (n s : ℕ) → n + 1 < s → n + 1 ≡ s → ⊥
+    apart n s a e = absurd (omega arith)
+
+-- ---- the end of a stream
+
+pub shows_removed : (c b n by i : ℕ) (vs : List StreamValue) (x : StreamValue) (log : Journal) → LinesOfOthers → StaysFresh → ShowsAll (service c b n vs) log → slice_get vs i ≡ Some x → ShowsAll (service c b n (remove vs i)) (plain_line c by (entry.Gone x.no) ∷ log)
+shows_removed c b n by i vs x log law fresh all here =
+    let line = plain_line c by (entry.Gone x.no) in
+    let up = up_to n vs log all.shown all.unmade in
+    record {
+      made = all.made;
+      at = at_remove c i vs all.at;
+      rising = rising_remove 0 i vs all.rising;
+      shown = shown_remove log (line ∷ log) c 0 i vs x all.rising all.at all.shown here (λ u is at differ. law u log line is (sym at) (λ same. differ (sym same)));
+      others = λ s out. either_way (x.no == s) (λ e. ended (x.no == s) (is_live log s) e) (λ e. stays (x.no == s) (is_live log s) (all.others s (among_remove i s vs x here out e)));
+      unmade = λ s later. fresh log line s (all.unmade s later) (λ same. beyond n x.no s (up_at n i vs x up here) later (sym same));
+    }
+  where
+    ended : (a b : Bool) → a ≡ true → (not a && b) ≡ false
+    ended true b e = refl
+    ended false b e = absurd cc
+
+    stays : (a b : Bool) → b ≡ false → (not a && b) ≡ false
+    stays true b e = refl
+    stays false b e = e
+
+-- ---- no stream
+
+pub shows_none : (c b : ℕ) → ((s : ℕ) → IsFresh [] s) → ShowsAll (service c b 0 []) []
+shows_none c b fresh = record { made = refl; at = tt; rising = tt; shown = tt; others = λ s out. refl; unmade = λ s later. fresh s }
+
+-- ---- the lines of the commands
+
+refused_lines : (r : Refusal) (b : Bool) (d : Decision) (s c : ℕ) → AreOf s c (lines_of d) → AreOf s c (lines_of (refuse r if b else d))
+unfolding refuse◌if◌else◌
+refused_lines r true d s c h = tt
+refused_lines r false d s c h = h
+
+pub put_lines : (log : Journal) (c by s : ℕ) (item : NewItem) → AreOf s c (lines_of (put log c by s item))
+put_lines log c by s item = refused_lines _ _ _ _ _ (refl, refl, refl, tt)
+
+lines_of_puts : (log : Journal) (c by s number : ℕ) (items : List NewItem) → AreOf s c (command.put_lines log c by s number items)
+lines_of_puts log c by s number [] = tt
+lines_of_puts log c by s number (item ∷ items) = (refl, refl, refl, lines_of_puts log c by s (number + 1) items)
+
+pub put_many_lines : (log : Journal) (c by s : ℕ) (items : List NewItem) → AreOf s c (lines_of (put_many log c by s items))
+put_many_lines log c by s items = refused_lines _ _ _ _ _ (lines_of_puts log c by s _ items)
+
+pub split_lines : (log : Journal) (c by s sh at : ℕ) → AreOf s c (lines_of (split log c by s sh at))
+split_lines log c by s sh at =
+    refused_lines _ _ _ _ _ (refused_lines _ _ _ _ _ (refused_lines _ _ _ _ _ (refused_lines _ _ _ _ _ (refused_lines _ _ _ _ _ (refl, refl, refl, tt)))))
+
+pub merge_lines : (log : Journal) (c by s sh other : ℕ) → AreOf s c (lines_of (merge log c by s sh other))
+merge_lines log c by s sh other =
+    refused_lines _ _ _ _ _ (refused_lines _ _ _ _ _ (refused_lines _ _ _ _ _ (refused_lines _ _ _ _ _ (refl, refl, refl, tt))))
+
+pub keep_lines : (log : Journal) (c by s wanted : ℕ) (raise : Bool) → AreOf s c (lines_of (keep log c by s wanted raise))
+keep_lines log c by s wanted raise = refused_lines _ _ _ _ _ (refl, refl, refl, tt)
+
+-- ... and those that only read write none
+refused_none : (r : Refusal) (b : Bool) (d : Decision) → lines_of d ≡ [] → lines_of (refuse r if b else d) ≡ []
+unfolding refuse◌if◌else◌
+refused_none r true d h = refl
+refused_none r false d h = h
+
+with_lines_none : {A : Type 0} (o : Option A) (r : Refusal) (d : A → Decision) → ((x : A) → lines_of (d x) ≡ []) → lines_of (with o or r then d) ≡ []
+unfolding with◌or◌then◌
+with_lines_none None r d h = refl
+with_lines_none (Some x) r d h = h x
+
+pub iterator_none : (log : Journal) (c s sh : ℕ) (from : Start) → lines_of (get_iterator log c s sh from) ≡ []
+iterator_none log c s sh from = refused_none _ _ _ (with_lines_none _ _ _ (λ x. refused_none _ _ _ refl))
+
+pub records_none : (log : Journal) (c : ℕ) (iter : Iter) (limit : ℕ) → lines_of (get_records log c iter limit) ≡ []
+records_none log c iter limit = refused_none _ _ _ (refused_none _ _ _ (refused_none _ _ _ refl))
+
+pub more_none : (log : Journal) (c : ℕ) (page : Page) (limit : ℕ) → lines_of (more log c page limit) ≡ []
+more_none log c page limit = refused_none _ _ _ (refused_none _ _ _ refl)

@@ -1,0 +1,198 @@
+-- What the streams of a service say of the journal that they show.
+use Rattle.std.proofs.Common.{◌≡◌, ◌≢◌, ℕ, zero, suc, ◌+◌, ◌-◌, ◌<◌, ◌≤◌, Bool, true, false, ◌==◌, cond, List, [], ◌∷◌, length, slice_get, Option, Some, None, refl, sym, ap, subst, ◌∙◌, arith}
+use Rattle.std.specs.Prelude.{◌||◌, is_some, nat_le, not}
+use Rattle.std.specs.Cmp.Lexicographic.{nat_list_eq_equiv}
+use Rattle.std.specs.List.{find, filter, position_from}
+use Rattle.std.proofs.lemmas.Bool.{eqb-false, eqb-true}
+use Rattle.std.proofs.lemmas.Bool.Decides.{nat_tests}
+use Rattle.std.proofs.lemmas.List.{length-map}
+use Rattle.std.proofs.lemmas.Option.{none-some}
+use Rattle.kds_defs.specs.declared.limits.TheConstants.{OPEN_SHARDS}
+use Rattle.kds_defs.specs.Journal.{Journal}
+use Rattle.kds_defs.specs.Shards.{is_open, open_count, open_in}
+use Rattle.kds_defs.specs.Streams.{is_live, live_streams, made_count, name_of, numbers_from, same_name, stream_named}
+use Rattle.kds_stream.specs.Showing.{IsFresh, Shows}
+use Rattle.kds_stream.specs.Value.{StreamValue}
+use Rattle.kds_service.proofs.Lists.{AreUpTo, either_way, neither, not_below, same_some, unequal}
+use Rattle.kds_service.specs.Places.{open_total, place_of}
+use Rattle.kds_service.specs.Shown.{AreShown, IsRising, ServiceValue, ShowsAll, is_among, names_of, numbers_of}
+
+-- ---- the live streams
+
+-- no live stream has a number above that of the last one that was made
+live_or_dead : (log : Journal) (s : ℕ) → is_live log s ≡ true → is_live log s ≡ false → ⊥
+live_or_dead log s live dead = absurd cc
+
+pub up_to : (n : ℕ) (vs : List StreamValue) (log : Journal) → AreShown log vs → ((s : ℕ) → n < s → IsFresh log s) → AreUpTo n vs
+up_to n [] log shown unmade = tt
+up_to n (v ∷ vs) log shown unmade =
+    (either_way (nat_le v.no n) (λ e. within v.no n e) (λ e. absurd (live_or_dead log v.no shown.0.live (unmade v.no (over v.no n e)).gone)), up_to n vs log shown.1 unmade)
+  where
+    within : (a b : ℕ) → nat_le a b ≡ true → a ≤ b
+    within a b e = grind (arith, nat_tests)
+
+    over : (a b : ℕ) → nat_le a b ≡ false → b < a
+    over a b e = grind (arith, nat_tests)
+
+none_live : (log : Journal) (low count : ℕ) → ((s : ℕ) → low < s → is_live log s ≡ false) → filter (is_live log) (numbers_from (low + 1) count) ≡ []
+none_live log low zero dead = refl
+none_live log low (suc count) dead =
+    ap (λ b. cond b ((low + 1) ∷ filter (is_live log) (numbers_from (low + 1 + 1) count)) (filter (is_live log) (numbers_from (low + 1 + 1) count))) (dead (low + 1) (omega arith))
+    ∙ none_live log (low + 1) count (λ s above. dead s (omega arith))
+
+-- of the numbers above the lowest those of these streams are live, and no others
+live_above : (log : Journal) (low count : ℕ) (vs : List StreamValue) → IsRising low (numbers_of vs) → AreUpTo (low + count) vs → AreShown log vs
+    → ((s : ℕ) → low < s → is_among (numbers_of vs) s ≡ false → is_live log s ≡ false) → filter (is_live log) (numbers_from (low + 1) count) ≡ numbers_of vs
+live_above log low count [] rising below shown others = none_live log low count (λ s above. others s above refl)
+live_above log low zero (v ∷ vs) rising below shown others = absurd (omega (arith, rising.0, below.0))
+live_above log low (suc count) (v ∷ vs) rising below shown others =
+    let rest = filter (is_live log) (numbers_from (low + 1 + 1) count) in
+    either_way (v.no == low + 1)
+    (λ e.
+    let same = is_next v.no low e in
+    let live : is_live log (low + 1) ≡ true = ap (is_live log) (sym same) ∙ shown.0.live in
+    let after = live_above log (low + 1) count vs (subst (λ n. IsRising n (numbers_of vs)) same rising.1) (subst (λ n. AreUpTo n vs) (end low count) below.1) shown.1
+        (λ s above out. others s (omega arith) (neither (v.no == s) (is_among (numbers_of vs) s) (unequal v.no s (λ is. apart v.no s low same above is)) out)) in
+    ap (λ b. cond b ((low + 1) ∷ rest) rest) live ∙ ap (λ ns. (low + 1) ∷ ns) after ∙ ap (λ n. n ∷ numbers_of vs) (sym same))
+    (λ e.
+    let past = later v.no low e rising.0 in
+    let dead : is_live log (low + 1) ≡ false = others (low + 1) (omega arith) (not_below (low + 1) (low + 1) (numbers_of (v ∷ vs)) (omega arith) (past, rising.1)) in
+    let after = live_above log (low + 1) count (v ∷ vs) (past, rising.1) (subst (λ n. AreUpTo n (v ∷ vs)) (end low count) below) shown (λ s above out. others s (omega arith) out) in
+    ap (λ b. cond b ((low + 1) ∷ rest) rest) dead ∙ after)
+  where
+    end : (low count : ℕ) → low + suc count ≡ low + 1 + count
+    end low count = omega arith
+
+    is_next : (n low : ℕ) → (n == low + 1) ≡ true → n ≡ low + 1
+    is_next n low e = eqb-true n (low + 1) e
+
+    later : (n low : ℕ) → (n == low + 1) ≡ false → low < n → low + 1 < n
+    later n low e above = let differ : n ≢ low + 1 = eqb-false n (low + 1) e in omega (arith, above, differ)
+
+    apart : (n s low : ℕ) → n ≡ low + 1 → low + 1 < s → n ≡ s → ⊥
+    apart n s low a b c = absurd (omega arith)
+
+pub from_zero : (n : ℕ) → n ≡ 0 + n
+from_zero n = omega arith
+
+-- the live streams of the journal are those of the service
+pub live_are : (w : ServiceValue) (log : Journal) → ShowsAll w log → live_streams log ≡ numbers_of w.streams
+live_are w log all =
+    ap (λ n. filter (is_live log) (numbers_from 1 n)) all.made
+    ∙ live_above log 0 w.made w.streams all.rising (subst (λ n. AreUpTo n w.streams) (from_zero w.made) (up_to w.made w.streams log all.shown all.unmade)) all.shown (λ s above out. all.others s out)
+
+pub live_count : (w : ServiceValue) (log : Journal) → ShowsAll w log → length (live_streams log) ≡ length w.streams
+live_count w log all = ap length (live_are w log all) ∙ length-map w.streams (λ v. v.no)
+
+-- ---- how many shards are open
+
+opens : (log : Journal) (vs : List StreamValue) → AreShown log vs → open_in log (numbers_of vs) ≡ open_total vs
+opens log [] shown = refl
+opens log (v ∷ vs) shown = omega (arith, ap (λ xs. length (filter is_open xs)) shown.0.shards_are, opens log vs shown.1)
+
+pub open_are : (w : ServiceValue) (log : Journal) → ShowsAll w log → open_count log ≡ open_total w.streams
+open_are w log all = ap (open_in log) (live_are w log all) ∙ opens log w.streams all.shown
+
+-- those of one stream are among them
+pub open_at : (i : ℕ) (vs : List StreamValue) (x : StreamValue) → slice_get vs i ≡ Some x → length (filter is_open x.tree) ≤ open_total vs
+open_at i [] x here = absurd (none-some x here)
+open_at zero (v ∷ vs) x here = omega (arith, ap (λ (u : StreamValue). length (filter is_open u.tree)) (same_some v x here))
+open_at (suc i) (v ∷ vs) x here = let rest = open_at i vs x here in omega (arith, rest)
+
+-- one more shard may be open where fewer than the limit are
+pub room_is : (w : ServiceValue) (log : Journal) (room : Bool) → room ≡ nat_le (open_total w.streams + 1) OPEN_SHARDS → ShowsAll w log → room ≡ not (nat_le OPEN_SHARDS (open_count log))
+room_is w log room is all = is ∙ below (open_total w.streams) ∙ ap (λ n. not (nat_le OPEN_SHARDS n)) (sym (open_are w log all))
+  where
+    below : (n : ℕ) → nat_le (n + 1) OPEN_SHARDS ≡ not (nat_le OPEN_SHARDS n)
+    below n = grind (arith, nat_tests)
+
+-- ---- the stream of a name
+
+-- where the first passes the search is over, and else it goes on
+hit : {X : Type 0} (p : X → Bool) (n : ℕ) (x : X) (xs : List X) → p x ≡ true → position_from p n (x ∷ xs) ≡ Some n
+hit p n x xs e = ap (λ b. cond b (Some n) (position_from p (n + 1) xs)) e
+
+missed : {X : Type 0} (p : X → Bool) (n : ℕ) (x : X) (xs : List X) → p x ≡ false → position_from p n (x ∷ xs) ≡ position_from p (n + 1) xs
+missed p n x xs e = ap (λ b. cond b (Some n) (position_from p (n + 1) xs)) e
+
+-- a search from n on answers n or more
+from_on : {X : Type 0} (p : X → Bool) (n j : ℕ) (xs : List X) → position_from p n xs ≡ Some j → n ≤ j
+from_on p n j [] is = absurd (none-some j is)
+from_on p n j (x ∷ xs) is =
+    either_way (p x) (λ e. let same : n ≡ j = same_some n j (sym (hit p n x xs e) ∙ is) in omega (arith, same)) (λ e. let rest = from_on p (n + 1) j xs (sym (missed p n x xs e) ∙ is) in omega (arith, rest))
+
+-- the first place is found exactly where the first passes
+first_passes : {X : Type 0} (p : X → Bool) (n : ℕ) (x : X) (xs : List X) → position_from p n (x ∷ xs) ≡ Some (n + 0) → p x ≡ true
+first_passes p n x xs is = either_way (p x) (λ e. e) (λ e. absurd (short n (from_on p (n + 1) (n + 0) xs (sym (missed p n x xs e) ∙ is))))
+  where
+    short : (n : ℕ) → n + 1 ≤ n + 0 → ⊥
+    short n h = absurd (omega (arith, h))
+
+later_fails : {X : Type 0} (p : X → Bool) (n i : ℕ) (x : X) (xs : List X) → position_from p n (x ∷ xs) ≡ Some (n + suc i) → (p x ≡ false) × (position_from p (n + 1) xs ≡ Some (n + 1 + i))
+later_fails p n i x xs is =
+    let one : n + suc i ≡ n + 1 + i = omega arith in
+    either_way (p x) (λ e. absurd (past n i (same_some n (n + suc i) (sym (hit p n x xs e) ∙ is)))) (λ e. (e, sym (missed p n x xs e) ∙ is ∙ ap Some one))
+  where
+    past : (n i : ℕ) → n ≡ n + suc i → ⊥
+    past n i h = absurd (omega (arith, h))
+
+none_passes : {X : Type 0} (p : X → Bool) (n : ℕ) (x : X) (xs : List X) → position_from p n (x ∷ xs) ≡ None → (p x ≡ false) × (position_from p (n + 1) xs ≡ None)
+none_passes p n x xs none = either_way (p x) (λ e. absurd (none-some n (sym none ∙ hit p n x xs e))) (λ e. (e, sym (missed p n x xs e) ∙ none))
+
+same_names : (log : Journal) (v : StreamValue) (name : List ℕ) → Shows v log → same_name (name_of log v.no) name ≡ same_name name v.name
+same_names log v name shown = ap (λ n. same_name n name) shown.named ∙ nat_list_eq_equiv.symm v.name name
+
+module _ (log : Journal) (name : List ℕ) where
+  here_or_rest : (v : StreamValue) (vs : List StreamValue) (b : Bool) → Shows v log → same_name name v.name ≡ b
+      → find (λ s. same_name (name_of log s) name) (numbers_of (v ∷ vs)) ≡ cond b (Some v.no) (find (λ s. same_name (name_of log s) name) (numbers_of vs))
+  here_or_rest v vs b shown e = ap (λ b. cond b (Some v.no) (find (λ s. same_name (name_of log s) name) (numbers_of vs))) (same_names log v name shown ∙ e)
+
+  named_from : (n i : ℕ) (vs : List StreamValue) (x : StreamValue) → AreShown log vs → position_from (same_name name) n (names_of vs) ≡ Some (n + i) → slice_get vs i ≡ Some x → find (λ s. same_name (name_of log s) name) (numbers_of vs) ≡ Some x.no
+  named_from n i [] x shown is here = absurd (none-some x here)
+  named_from n zero (v ∷ vs) x shown is here =
+      here_or_rest v vs true shown.0 (first_passes (same_name name) n v.name (names_of vs) is) ∙ ap (λ (u : StreamValue). Some u.no) (same_some v x here)
+  named_from n (suc i) (v ∷ vs) x shown is here =
+      let rest = later_fails (same_name name) n i v.name (names_of vs) is in
+      here_or_rest v vs false shown.0 rest.0 ∙ named_from (n + 1) i vs x shown.1 rest.1 here
+
+  none_named_from : (n : ℕ) (vs : List StreamValue) → AreShown log vs → position_from (same_name name) n (names_of vs) ≡ None → find (λ s. same_name (name_of log s) name) (numbers_of vs) ≡ None
+  none_named_from n [] shown none = refl
+  none_named_from n (v ∷ vs) shown none =
+      let rest = none_passes (same_name name) n v.name (names_of vs) none in
+      here_or_rest v vs false shown.0 rest.0 ∙ none_named_from (n + 1) vs shown.1 rest.1
+
+pub named_at : (w : ServiceValue) (log : Journal) (name : List ℕ) (i : ℕ) (x : StreamValue) → ShowsAll w log → place_of w.streams name ≡ Some i → slice_get w.streams i ≡ Some x → stream_named log name ≡ Some x.no
+named_at w log name i x all is here =
+    ap (find (λ s. same_name (name_of log s) name)) (live_are w log all) ∙ named_from log name 0 i w.streams x all.shown (is ∙ ap Some (from_zero i)) here
+
+pub none_named : (w : ServiceValue) (log : Journal) (name : List ℕ) → ShowsAll w log → place_of w.streams name ≡ None → stream_named log name ≡ None
+none_named w log name all none = ap (find (λ s. same_name (name_of log s) name)) (live_are w log all) ∙ none_named_from log name 0 w.streams all.shown none
+
+-- a place that was found is that of a stream
+at_place : (n i : ℕ) (vs : List StreamValue) (name : List ℕ) → position_from (same_name name) n (names_of vs) ≡ Some (n + i) → (x : StreamValue) × (slice_get vs i ≡ Some x)
+at_place n i [] name is = absurd (none-some (n + i) is)
+at_place n zero (v ∷ vs) name is = (v, refl)
+at_place n (suc i) (v ∷ vs) name is = at_place (n + 1) i vs name (later_fails (same_name name) n i v.name (names_of vs) is).1
+
+pub some_named : (w : ServiceValue) (log : Journal) (name : List ℕ) → ShowsAll w log → is_some (stream_named log name) ≡ is_some (place_of w.streams name)
+some_named w log name all = by (place_of w.streams name) refl
+  where
+    by : (o : Option ℕ) → place_of w.streams name ≡ o → is_some (stream_named log name) ≡ is_some (place_of w.streams name)
+    by None e = ap is_some (none_named w log name all e) ∙ ap is_some (sym e)
+    by (Some i) e =
+        let x = at_place 0 i w.streams name (e ∙ ap Some (from_zero i)) in
+        ap is_some (named_at w log name i x.0 all e x.1) ∙ ap is_some (sym e)
+
+-- ---- the stream of a number
+
+pub number_at : (n i s : ℕ) (vs : List StreamValue) (x : StreamValue) → position_from (λ m. m == s) n (numbers_of vs) ≡ Some (n + i) → slice_get vs i ≡ Some x → s ≡ x.no
+number_at n i s [] x is here = absurd (none-some x here)
+number_at n zero s (v ∷ vs) x is here =
+    sym (eqb-true v.no s (first_passes (λ m. m == s) n v.no (numbers_of vs) is)) ∙ ap (λ (u : StreamValue). u.no) (same_some v x here)
+number_at n (suc i) s (v ∷ vs) x is here = number_at (n + 1) i s vs x (later_fails (λ m. m == s) n i v.no (numbers_of vs) is).1 here
+
+pub not_among : (n s : ℕ) (ns : List ℕ) → position_from (λ m. m == s) n ns ≡ None → is_among ns s ≡ false
+not_among n s [] none = refl
+not_among n s (m ∷ ns) none =
+    let rest = none_passes (λ k. k == s) n m ns none in
+    neither (m == s) (is_among ns s) rest.0 (not_among (n + 1) s ns rest.1)

@@ -1,0 +1,14 @@
+use Rattle.std.proofs.Common.{◌≡◌, ◌++◌, map, take, drop}
+use Rattle.indexmap.specs.IndexMap.{keys, values}
+use Rattle.kds_defs.specs.Journal.{Journal}
+use Rattle.kds_service.specs.Clocks.{settled}
+use Rattle.kds_service.specs.Shown.{AreShown}
+use Rattle.kds_service.proofs.clocks.settle_all.Given as goal
+
+-- the streams so far are settled, and the others are as they were; all show what they showed
+abbrev pub invariant-loop-i : goal.invariant-loop-i
+invariant-loop-i l = record {
+  value : values l.streams ≡ map settled (take l.i (values l.initial.streams)) ++ drop l.i (values l.initial.streams);
+  keys : keys l.streams ≡ keys l.initial.streams;
+  shows : (log : Journal) → AreShown log (values l.initial.streams) → AreShown log (values l.streams);
+}

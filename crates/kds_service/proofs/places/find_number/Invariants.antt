@@ -1,0 +1,10 @@
+use Rattle.std.proofs.Common.{◌≡◌, ◌==◌, drop}
+use Rattle.std.specs.List.{position_from}
+use Rattle.indexmap.specs.IndexMap.{values}
+use Rattle.kds_service.specs.Places.{place_at}
+use Rattle.kds_service.specs.Shown.{numbers_of}
+use Rattle.kds_service.proofs.places.find_number.Given as goal
+
+-- the search among the streams that are left is the search among all
+abbrev pub invariant-loop-i : goal.invariant-loop-i
+invariant-loop-i l = position_from (λ n. n == l.no) l.i (numbers_of (drop l.i (values l.streams))) ≡ place_at (values l.streams) l.no

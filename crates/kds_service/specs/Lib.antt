@@ -1,0 +1,4 @@
+pub mod Clocks
+pub mod Lines
+pub mod Places
+pub mod Shown

@@ -1,0 +1,17 @@
+-- The lines that a command to one stream may write.
+use Rattle.std.specs.Prelude.{ℕ, ◌≡◌, Bool, true, false, List, [], ◌∷◌}
+use Rattle.kds_defs.specs.declared.entry.Entry.{Entry}
+use Rattle.kds_defs.specs.declared.entry.Entry.TheVariants as entry
+use Rattle.kds_defs.specs.Journal.{Line}
+use Rattle.kds_stream.specs.Showing.{stream_of}
+
+-- the entry neither makes a stream nor ends one
+abbrev pub is_within_life : Entry → Bool
+is_within_life (entry.Made s name count) = false
+is_within_life (entry.Gone s) = false
+is_within_life _ = true
+
+-- each of the lines speaks of this stream, which lives before and after it, and is written at this clock
+abbrev pub AreOf : ℕ → ℕ → List Line → Type 0
+AreOf s c [] = Unit {0}
+AreOf s c (line ∷ lines) = (stream_of line.what ≡ s) × (line.clock ≡ c) × (is_within_life line.what ≡ true) × AreOf s c lines

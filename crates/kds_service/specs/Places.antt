@@ -1,0 +1,31 @@
+-- Where a stream stands among those of the service, and how much they are together.
+use Rattle.std.specs.Prelude.{ℕ, ◌≡◌, ◌+◌, ◌==◌, Bool, ◌||◌, nat_le, nat_lt, List, [], ◌∷◌, length, map, Option}
+use Rattle.std.specs.List.{filter, position_from}
+use Rattle.std.specs.Map.{keys_of, values_of}
+use Rattle.kds_defs.specs.declared.limits.TheConstants.{LIVE_STREAMS, OPEN_SHARDS}
+use Rattle.kds_defs.specs.Shards.{is_open}
+use Rattle.kds_defs.specs.Streams.{same_name}
+use Rattle.kds_stream.specs.Value.{StreamValue}
+use Rattle.kds_service.specs.Shown.{AreAt, names_of, numbers_of}
+
+-- the place of the first stream of a name
+abbrev pub place_of : List StreamValue → List ℕ → Option ℕ
+place_of vs name = position_from (same_name name) 0 (names_of vs)
+
+-- the place of the first stream of a number
+abbrev pub place_at : List StreamValue → ℕ → Option ℕ
+place_at vs s = position_from (λ n. n == s) 0 (numbers_of vs)
+
+-- how many shards are open in all of them
+abbrev pub open_total : List StreamValue → ℕ
+open_total [] = 0
+open_total (v ∷ vs) = length (filter is_open v.tree) + open_total vs
+
+-- no stream of so many shards may be added
+abbrev pub is_full : List StreamValue → ℕ → Bool
+is_full vs count = nat_le LIVE_STREAMS (length vs) || nat_lt OPEN_SHARDS (open_total vs + count)
+
+-- each stream stands under its name, and at the clock
+pub record ArePlaced (c : ℕ) (es : List (List ℕ × StreamValue)) : Type 0 where
+  pub named : keys_of es ≡ names_of (values_of es)
+  pub at : AreAt c (values_of es)

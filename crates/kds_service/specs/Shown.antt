@@ -1,0 +1,65 @@
+-- Which journals the streams of a service show.
+use Rattle.std.specs.Prelude.{ℕ, ◌≡◌, ◌==◌, ◌||◌, ◌<◌, Bool, false, List, [], ◌∷◌, map, Result}
+use Rattle.kds_defs.specs.declared.command.Command.{Command}
+use Rattle.kds_defs.specs.declared.reply.Refusal.{Refusal}
+use Rattle.kds_defs.specs.declared.reply.Reply.{Reply}
+use Rattle.kds_defs.specs.Histories.{answer_of, decide, lines_of}
+use Rattle.kds_defs.specs.Journal.{Journal, with_lines}
+use Rattle.kds_defs.specs.Streams.{is_live, made_count}
+use Rattle.kds_stream.specs.Showing.{IsFresh, Shows}
+use Rattle.kds_stream.specs.Value.{StreamValue}
+
+-- what contracts see of a service: its clock, what that was before the last advance, how many streams were made,
+-- and the live streams in the order of their numbers
+pub record ServiceValue : Type 0 where
+  pub clock : ℕ
+  pub clock_before : ℕ
+  pub made : ℕ
+  pub streams : List StreamValue
+
+abbrev pub service : ℕ → ℕ → ℕ → List StreamValue → ServiceValue
+service c b n vs = record { clock = c; clock_before = b; made = n; streams = vs }
+
+abbrev pub names_of : List StreamValue → List (List ℕ)
+names_of vs = map (λ v. v.name) vs
+
+abbrev pub numbers_of : List StreamValue → List ℕ
+numbers_of vs = map (λ v. v.no) vs
+
+-- all stand at the clock
+abbrev pub AreAt : ℕ → List StreamValue → Type 0
+AreAt c [] = Unit {0}
+AreAt c (v ∷ vs) = (v.clock ≡ c) × AreAt c vs
+
+-- each number is above the one before it, and all are above the lowest
+abbrev pub IsRising : ℕ → List ℕ → Type 0
+IsRising low [] = Unit {0}
+IsRising low (n ∷ ns) = (low < n) × IsRising n ns
+
+-- the number is one of these
+abbrev pub is_among : List ℕ → ℕ → Bool
+is_among [] s = false
+is_among (n ∷ ns) s = (n == s) || is_among ns s
+
+-- each shows the journal
+abbrev pub AreShown : Journal → List StreamValue → Type 0
+AreShown log [] = Unit {0}
+AreShown log (v ∷ vs) = Shows v log × AreShown log vs
+
+-- the live streams of the journal are those of the service, and as many were made
+pub record ShowsAll (w : ServiceValue) (log : Journal) : Type 0 where
+  pub made : made_count log ≡ w.made
+  pub at : AreAt w.clock w.streams
+  pub rising : IsRising 0 (numbers_of w.streams)
+  pub shown : AreShown log w.streams
+  pub others : (s : ℕ) → is_among (numbers_of w.streams) s ≡ false → is_live log s ≡ false
+  pub unmade : (s : ℕ) → w.made < s → IsFresh log s
+
+-- the command, at the service's clock, is answered so and leads from one to the other
+abbrev pub Leads : ServiceValue → ServiceValue → Command → Result Reply Refusal → Type 0
+Leads old new what gives = (log : Journal) (by : ℕ) → ShowsAll old log
+    → (gives ≡ answer_of (decide log old.clock by what)) × ShowsAll new (with_lines (lines_of (decide log old.clock by what)) log)
+
+-- the same of the streams alone, of a command that makes none
+abbrev pub LeadsTo : ℕ → List StreamValue → List StreamValue → Command → Result Reply Refusal → Type 0
+LeadsTo c vs ws what gives = (b n : ℕ) → Leads (service c b n vs) (service c b n ws) what gives

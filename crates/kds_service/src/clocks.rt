@@ -1,0 +1,43 @@
+//! The streams at a later clock, and back at the earlier one.
+ghost use Rattle.std.specs.Prelude.{◌≡◌, ◌≤◌, ℕ, map};
+ghost use Rattle.indexmap.specs.IndexMap.{keys, values};
+ghost use Rattle.kds_defs.specs.Journal.{Journal};
+ghost use Rattle.kds_service.specs.Clocks.{advanced, retreated, settled};
+ghost use Rattle.kds_service.specs.Shown.{AreAt, AreShown};
+
+use crate::places::Streams;
+use kds_base::Moment;
+
+/// Raises the clock of every stream from the one that all stand at.
+pub fn advance_all(streams: &mut Streams, before: Moment, clock: Moment)
+    requires at { AreAt before (values streams.old) }
+    requires later { before ≤ clock }
+    ensures value { values streams.new ≡ map (advanced clock) (values streams.old) }
+    ensures keys { keys streams.new ≡ keys streams.old }
+    ensures shows { (log : Journal) → AreShown log (values streams.old) → AreShown log (values streams.new) }
+{
+    for i in 0..streams.len() {
+        streams[i].advance(clock);
+    }
+}
+
+/// Puts the clock of every stream back to what it was before the last advance, if nothing has changed since.
+pub fn retreat_all(streams: &mut Streams)
+    ensures value { values streams.new ≡ map retreated (values streams.old) }
+    ensures keys { keys streams.new ≡ keys streams.old }
+{
+    for i in 0..streams.len() {
+        streams[i].retreat();
+    }
+}
+
+/// Drops the trimmed records of every stream; no answer depends on it.
+pub fn settle_all(streams: &mut Streams)
+    ensures value { values streams.new ≡ map settled (values streams.old) }
+    ensures keys { keys streams.new ≡ keys streams.old }
+    ensures shows { (log : Journal) → AreShown log (values streams.old) → AreShown log (values streams.new) }
+{
+    for i in 0..streams.len() {
+        streams[i].settle();
+    }
+}

@@ -1,0 +1,13 @@
+//! The stream service: its streams by name, and the limits over all of them.
+#![tactic(auto)]
+
+mod changes;
+mod clocks;
+mod life;
+mod naming;
+mod others;
+mod places;
+mod reads;
+mod service;
+
+pub use service::Service;

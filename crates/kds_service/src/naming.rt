@@ -1,0 +1,103 @@
+//! The names of the streams.
+ghost use Rattle.std.specs.Prelude.{◌≡◌, ◌≤◌, IfOk, OnErr, OnOk, filter, insert, length, take};
+ghost use Rattle.indexmap.specs.IndexMap.{values};
+ghost use Rattle.kds_defs.specs.declared.command.Command.TheVariants as command;
+ghost use Rattle.kds_defs.specs.Lawful.{IsLimit};
+ghost use Rattle.kds_defs.specs.Listings.{are_more, is_after_name, name_before, names_in_order, with_name};
+ghost use Rattle.kds_service.specs.Shown.{LeadsTo, names_of};
+
+use crate::places::Streams;
+use kds_base::{Items, Memory, Moment, Name};
+use kds_defs::{Answer, Reply};
+use std::alloc::Global;
+
+/// Whether a name comes before another in the order of bytes.
+fn is_before(a: &Name, b: &Name) -> bool
+    ensures { result ≡ name_before a.now b.now }
+{
+    a.bytes() < b.bytes()
+}
+
+/// The place of the first of the names that the name comes before, or their number.
+fn place_before(names: &[Name], name: &Name) -> usize
+    ensures within { result ≤ length names.now }
+    ensures value { insert names.now result name.now ≡ with_name name.now names.now }
+{
+    for (i, other) in names.iter().enumerate() {
+        if is_before(name, other) {
+            return i;
+        }
+    }
+    names.len()
+}
+
+/// Adds a name to names in order.
+fn add(names: &mut Vec<Name>, name: Name) -> Result<(), Memory>
+    ensures ok { OnOk result (names.new.items ≡ with_name name names.old.items) }
+{
+    let place = place_before(names.as_slice(), &name);
+    names.insert(place, name)?;
+    Ok(())
+}
+
+/// The names of the streams in the order of their bytes.
+fn in_order(alloc: Global, streams: &Streams) -> Result<Vec<Name>, Memory>
+    ensures { IfOk result (λ names. names.items ≡ names_in_order (names_of (values streams.now))) }
+{
+    let mut names = Vec::new(alloc);
+    let mut left = streams.len();
+    while left > 0 {
+        left -= 1;
+        let name = streams[left].name().copy(alloc)?;
+        add(&mut names, name)?;
+    }
+    Ok(names)
+}
+
+/// Whether a name comes after the one at which a listing begins.
+fn is_after(after: &Option<Name>, name: &Name) -> bool
+    ensures { result ≡ is_after_name after.now name.now }
+{
+    match after {
+        None => true,
+        Some(after) => is_before(after, name),
+    }
+}
+
+/// At most `limit` of the names, from after the one at which the listing begins, and whether more follow.
+fn first_after(
+    alloc: Global,
+    names: Vec<Name>,
+    after: &Option<Name>,
+    limit: u32,
+) -> Result<(Items<Name>, bool), Memory>
+    ensures names { IfOk result (λ r. r.0 ≡ take limit (filter (is_after_name after.now) names.items)) }
+    ensures more { IfOk result (λ r. r.1 ≡ are_more limit (filter (is_after_name after.now) names.items)) }
+{
+    let mut first = Items::new(alloc);
+    for name in names {
+        if is_after(after, &name) {
+            if first.as_slice().len() == limit as usize {
+                return Ok((first, true));
+            }
+            first.push(name)?;
+        }
+    }
+    Ok((first, false))
+}
+
+/// ListStreams (Kinesis API Reference, ListStreams).
+pub fn streams(
+    alloc: Global,
+    streams: &Streams,
+    clock: Moment,
+    after: &Option<Name>,
+    limit: u32,
+) -> Result<Answer, Memory>
+    requires { IsLimit limit }
+    ensures { IfOk result (LeadsTo clock (values streams.now) (values streams.now) (command.Streams after.now limit)) }
+{
+    let names = in_order(alloc, streams)?;
+    let (names, more) = first_after(alloc, names, after, limit)?;
+    Ok(Ok(Reply::Streams { names, more }))
+}

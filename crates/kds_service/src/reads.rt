@@ -1,0 +1,91 @@
+//! The commands that only read, over streams that all stand at the clock.
+ghost use Rattle.std.specs.Prelude.{◌≡◌, IfOk};
+ghost use Rattle.indexmap.specs.IndexMap.{values};
+ghost use Rattle.kds_defs.specs.declared.command.Command.TheVariants as command;
+ghost use Rattle.kds_defs.specs.Lawful.{IsLimit};
+ghost use Rattle.kds_service.specs.Places.{ArePlaced};
+ghost use Rattle.kds_service.specs.Shown.{LeadsTo};
+
+use crate::places::{Streams, find_name, find_number};
+use kds_base::{Memory, Moment, Name, ShardNo};
+use kds_defs::{Answer, Iter, Page, Refusal, Start};
+use kds_token::{iter_expired, page_expired};
+use std::alloc::Global;
+
+/// GetShardIterator (Kinesis API Reference, GetShardIterator).
+pub fn iterator(
+    streams: &Streams,
+    clock: Moment,
+    name: &Name,
+    shard: ShardNo,
+    from: Start,
+) -> Answer
+    requires { ArePlaced clock streams.now.entries }
+    ensures { LeadsTo clock (values streams.now) (values streams.now) (command.GetIterator name.now shard from) result }
+{
+    match find_name(streams, name) {
+        None => Err(Refusal::NoStream),
+        Some(i) => streams[i].iterator(shard, from),
+    }
+}
+
+/// GetRecords: an iterator that is too old is refused before its stream is looked for
+/// (Kinesis API Reference, GetRecords).
+pub fn records(
+    alloc: Global,
+    streams: &Streams,
+    clock: Moment,
+    iter: &Iter,
+    limit: u32,
+) -> Result<Answer, Memory>
+    requires placed { ArePlaced clock streams.now.entries }
+    requires limit { IsLimit limit }
+    ensures { IfOk result (LeadsTo clock (values streams.now) (values streams.now) (command.Records iter.now limit)) }
+{
+    if iter_expired(iter, clock) {
+        return Ok(Err(Refusal::Expired));
+    }
+    match find_number(streams, iter.stream) {
+        None => Ok(Err(Refusal::NoStream)),
+        Some(i) => streams[i].records(alloc, iter, limit),
+    }
+}
+
+/// ListShards of a stream by its name (Kinesis API Reference, ListShards).
+pub fn shards(
+    streams: &Streams,
+    clock: Moment,
+    name: &Name,
+    after: Option<ShardNo>,
+    limit: u32,
+) -> Result<Answer, Memory>
+    requires placed { ArePlaced clock streams.now.entries }
+    requires limit { IsLimit limit }
+    ensures { IfOk result (LeadsTo clock (values streams.now) (values streams.now) (command.Shards name.now after limit)) }
+{
+    match find_name(streams, name) {
+        None => Ok(Err(Refusal::NoStream)),
+        Some(i) => streams[i].shards(after, limit),
+    }
+}
+
+/// ListShards by a token: one that is too old is refused before its stream is looked for
+/// (Kinesis API Reference, ListShards).
+pub fn more(
+    streams: &Streams,
+    clock: Moment,
+    page: &Page,
+    limit: u32,
+) -> Result<Answer, Memory>
+    requires placed { ArePlaced clock streams.now.entries }
+    requires limit { IsLimit limit }
+    ensures { IfOk result (LeadsTo clock (values streams.now) (values streams.now) (command.More page.now limit)) }
+{
+    if page_expired(page, clock) {
+        return Ok(Err(Refusal::PageExpired));
+    }
+    match find_number(streams, page.stream) {
+        None => Ok(Err(Refusal::NoStream)),
+        Some(i) => streams[i].shards(Some(page.after), limit),
+    }
+}
