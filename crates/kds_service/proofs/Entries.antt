@@ -1,11 +1,12 @@
 -- The entries of the map: the values and the keys after one is replaced, added or taken out.
 use Rattle.std.proofs.Common.{◌≡◌, ℕ, zero, suc, ◌+◌, Bool, true, false, cond, List, [], ◌∷◌, ◌++◌, map, take, drop, remove, slice_get, slice_set, Option, Some, None, refl, sym, ap, subst, ◌∙◌}
+use Rattle.std.specs.Prelude.{Result, Ok, Err, OnErr}
 use Rattle.std.specs.List.{position_from}
 use Rattle.std.specs.Map.{keys_of, values_of}
 use Rattle.std.proofs.lemmas.Option.{none-some}
 use Rattle.indexmap.specs.IndexMap.{insert_entry, set_value_at}
 use Rattle.kds_stream.specs.Value.{StreamValue}
-use Rattle.kds_service.proofs.Lists.{at_push, at_remove, at_set, either_way, map_push, map_same}
+use Rattle.kds_service.proofs.Lists.{at_push, at_remove, at_set, either_way, map_push, map_same, set_same}
 use Rattle.kds_service.specs.Places.{ArePlaced}
 use Rattle.kds_service.specs.Shown.{AreAt, names_of}
 
@@ -53,6 +54,11 @@ placed_set c i es x v placed here name clock = record {
   named = keys_set es i v ∙ placed.named ∙ sym (map_same (λ u. u.name) i (values_of es) x v here name) ∙ ap names_of (sym (values_set es i v));
   at = subst (AreAt c) (sym (values_set es i v)) (at_set c i (values_of es) v placed.at clock);
 }
+
+-- after an error nothing has changed
+pub kept_set : {A E : Type 0} (r : Result A E) (i : ℕ) (es : List (List ℕ × StreamValue)) (x v : StreamValue) → slice_get (values_of es) i ≡ Some x → OnErr r (v ≡ x) → OnErr r (values_of (set_value_at es i v) ≡ values_of es)
+kept_set (Ok a) i es x v here same = tt
+kept_set (Err e) i es x v here same = values_set es i v ∙ ap (slice_set (values_of es) i) same ∙ set_same i (values_of es) x here
 
 pub placed_push : (c : ℕ) (es fs : List (List ℕ × StreamValue)) (k : List ℕ) (v : StreamValue) → ArePlaced c es → fs ≡ es ++ ((k, v) ∷ []) → k ≡ v.name → v.clock ≡ c → ArePlaced c fs
 placed_push c es fs k v placed pushed name clock = record {

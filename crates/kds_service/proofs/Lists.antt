@@ -27,6 +27,12 @@ shown_get log i [] x shown here = absurd (none-some x here)
 shown_get log zero (v ∷ vs) x shown here = subst (λ u. Shows u log) (same_some v x here) shown.0
 shown_get log (suc i) (v ∷ vs) x shown here = shown_get log i vs x shown.1 here
 
+-- below the length there is one
+pub there_is : (i : ℕ) (vs : List StreamValue) → i < length vs → (x : StreamValue) × (slice_get vs i ≡ Some x)
+there_is i [] below = absurd (omega arith)
+there_is zero (v ∷ vs) below = (v, refl)
+there_is (suc i) (v ∷ vs) below = there_is i vs (omega arith)
+
 -- numbers that rise are above the lowest
 pub above : (low i : ℕ) (vs : List StreamValue) (x : StreamValue) → IsRising low (numbers_of vs) → slice_get vs i ≡ Some x → low < x.no
 above low i [] x rising here = absurd (none-some x here)
@@ -66,6 +72,12 @@ pub at_set : (c i : ℕ) (vs : List StreamValue) (v : StreamValue) → AreAt c v
 at_set c i [] v at clock = tt
 at_set c zero (u ∷ us) v at clock = (clock, at.1)
 at_set c (suc i) (u ∷ us) v at clock = (at.0, at_set c i us v at.1 clock)
+
+-- by itself
+pub set_same : (i : ℕ) (vs : List StreamValue) (x : StreamValue) → slice_get vs i ≡ Some x → slice_set vs i x ≡ vs
+set_same i [] x here = refl
+set_same zero (u ∷ us) x here = ap (λ y. y ∷ us) (sym (same_some u x here))
+set_same (suc i) (u ∷ us) x here = ap (λ ys. u ∷ ys) (set_same i us x here)
 
 -- what is the same of both is the same of the lists
 pub map_same : {Y : Type 0} (f : StreamValue → Y) (i : ℕ) (vs : List StreamValue) (x v : StreamValue) → slice_get vs i ≡ Some x → f v ≡ f x → map f (slice_set vs i v) ≡ map f vs

@@ -99,6 +99,9 @@ open_at i [] x here = absurd (none-some x here)
 open_at zero (v ∷ vs) x here = omega (arith, ap (λ (u : StreamValue). length (filter is_open u.tree)) (same_some v x here))
 open_at (suc i) (v ∷ vs) x here = let rest = open_at i vs x here in omega (arith, rest)
 
+pub open_within : (w : ServiceValue) (log : Journal) (i : ℕ) (x : StreamValue) → ShowsAll w log → slice_get w.streams i ≡ Some x → length (filter is_open x.tree) ≤ open_count log
+open_within w log i x all here = let few = open_at i w.streams x here in omega (arith, few, open_are w log all)
+
 -- one more shard may be open where fewer than the limit are
 pub room_is : (w : ServiceValue) (log : Journal) (room : Bool) → room ≡ nat_le (open_total w.streams + 1) OPEN_SHARDS → ShowsAll w log → room ≡ not (nat_le OPEN_SHARDS (open_count log))
 room_is w log room is all = is ∙ below (open_total w.streams) ∙ ap (λ n. not (nat_le OPEN_SHARDS n)) (sym (open_are w log all))

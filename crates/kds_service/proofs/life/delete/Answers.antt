@@ -1,0 +1,25 @@
+use Rattle.std.proofs.Common.{refl, sym, ap, ◌∙◌}
+use Rattle.std.specs.Map.{values_of}
+use Rattle.kds_defs.specs.declared.command.Command.TheVariants as command
+use Rattle.kds_defs.specs.StreamCommands.{delete}
+use Rattle.indexmap.specs.IndexMap.{values}
+use Rattle.kds_service.proofs.Deleting.{delete_done}
+use Rattle.kds_service.proofs.Entries.{map_take_out, placed_remove}
+use Rattle.kds_service.proofs.Leading.{nameless_leads}
+use Rattle.kds_service.proofs.Lists.{there_is}
+use Rattle.kds_service.proofs.life.delete.Goals as goal
+
+pub returns-in-None-clause-leads : goal.returns-in-None-clause-leads
+returns-in-None-clause-leads c =
+    let a = c.args in
+    nameless_leads a.clock (values a.streams.now) (command.Delete a.name.now) a.name.now (λ log by s. delete log a.clock by s) c.in-None.ensures.value (λ log by. refl)
+
+pub returns-in-Some-clause-leads : goal.returns-in-Some-clause-leads
+returns-in-Some-clause-leads c =
+    let a = c.args in
+    let x = there_is c.in-Some.i (values a.streams.now) c.in-Some.ensures.within in
+    delete_done a.clock c.in-Some.i (values a.streams.now) _ x.0 a.name.now c.others.ensures.removed c.in-Some.ensures.value x.1
+    (ap values_of c.shift_remove_index.ensures.entries ∙ map_take_out (λ e. e.1) a.streams.now.entries c.in-Some.i)
+
+pub returns-in-Some-clause-placed : goal.returns-in-Some-clause-placed
+returns-in-Some-clause-placed c = placed_remove c.args.clock c.in-Some.i c.args.streams.now.entries _ c.requires c.shift_remove_index.ensures.entries
