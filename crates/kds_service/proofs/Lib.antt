@@ -5,5 +5,6 @@ pub mod Entries
 pub mod Leading
 pub mod Lives
 pub mod Lists
+pub mod Names
 pub mod Numbers
 pub mod Readings

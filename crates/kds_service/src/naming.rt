@@ -15,7 +15,7 @@ use std::alloc::Global;
 fn is_before(a: &Name, b: &Name) -> bool
     ensures { result ≡ name_before a.now b.now }
 {
-    a.bytes() < b.bytes()
+    a.bytes().cmp(b.bytes()).is_lt()
 }
 
 /// The place of the first of the names that the name comes before, or their number.
@@ -67,19 +67,20 @@ fn is_after(after: &Option<Name>, name: &Name) -> bool
 /// At most `limit` of the names, from after the one at which the listing begins, and whether more follow.
 fn first_after(
     alloc: Global,
-    names: Vec<Name>,
+    names: &[Name],
     after: &Option<Name>,
     limit: u32,
 ) -> Result<(Items<Name>, bool), Memory>
-    ensures names { IfOk result (λ r. r.0 ≡ take limit (filter (is_after_name after.now) names.items)) }
-    ensures more { IfOk result (λ r. r.1 ≡ are_more limit (filter (is_after_name after.now) names.items)) }
+    ensures names { IfOk result (λ r. r.0 ≡ take limit (filter (is_after_name after.now) names.now)) }
+    ensures more { IfOk result (λ r. r.1 ≡ are_more limit (filter (is_after_name after.now) names.now)) }
 {
     let mut first = Items::new(alloc);
     for name in names {
-        if is_after(after, &name) {
+        if is_after(after, name) {
             if first.as_slice().len() == limit as usize {
                 return Ok((first, true));
             }
+            let name = name.copy(alloc)?;
             first.push(name)?;
         }
     }
@@ -98,6 +99,6 @@ pub fn streams(
     ensures { IfOk result (LeadsTo clock (values streams.now) (values streams.now) (command.Streams after.now limit)) }
 {
     let names = in_order(alloc, streams)?;
-    let (names, more) = first_after(alloc, names, after, limit)?;
+    let (names, more) = first_after(alloc, names.as_slice(), after, limit)?;
     Ok(Ok(Reply::Streams { names, more }))
 }
