@@ -1,12 +1,6 @@
-//! The machine: its streams in a plain list.
+//! The machine over its stream service.
 #![tactic(auto)]
 
-mod clocks;
-mod commands;
-mod others;
-mod places;
-mod reads;
-mod serve;
 #[cfg(test)]
 mod tests;
 mod world;

@@ -85,7 +85,7 @@ named_read c i vs x what name d (Ok gives) at here found is none answered = λ b
     (λ log by all. is log by ∙ stream_at_place (service c b n vs) log name i x (λ s. d log c s) found here all) (λ log. none log x.no)
     (λ log all. answered log (shown_get log i vs x all.shown here) ∙ ap (λ m. answer_of (d log m x.no)) (at_get c i vs x at here))
 
--- the same by other words for the command
-pub leads_as : (c : ℕ) (vs ws us ts : List StreamValue) (what what' : Command) (gives : Result Reply Refusal) → us ≡ vs → ts ≡ ws → what ≡ what' → LeadsTo c us ts what' gives → LeadsTo c vs ws what gives
-leads_as c vs ws us ts what what' gives old new is led =
-    subst (λ x. LeadsTo c vs ws x gives) (sym is) (subst (λ xs. LeadsTo c xs ws what' gives) old (subst (λ xs. LeadsTo c us xs what' gives) new led))
+-- the same of the whole service
+pub serve_leads : {E : Type 0} (r : Result (Result Reply Refusal) E) (c b n : ℕ) (vs ws : List StreamValue) (what what' : Command) → IfOk r (LeadsTo c vs ws what') → what ≡ what' → IfOk r (Leads (service c b n vs) (service c b n ws) what)
+serve_leads (Err e) c b n vs ws what what' led is = tt
+serve_leads (Ok gives) c b n vs ws what what' led is = subst (λ x. Leads (service c b n vs) (service c b n ws) x gives) (sym is) (led b n)
