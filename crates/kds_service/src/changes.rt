@@ -2,7 +2,7 @@
 ghost use Rattle.std.specs.Prelude.{◌≡◌, ◌<◌, ◌^◌, IfOk, OnErr};
 ghost use Rattle.indexmap.specs.IndexMap.{values};
 ghost use Rattle.kds_defs.specs.declared.command.Command.TheVariants as command;
-ghost use Rattle.kds_defs.specs.Lawful.{IsItem};
+ghost use Rattle.kds_defs.specs.Lawful.{IsItem, IsRetention};
 ghost use Rattle.kds_service.specs.Places.{ArePlaced};
 ghost use Rattle.kds_service.specs.Shown.{LeadsTo};
 
@@ -69,5 +69,20 @@ pub fn merge(
     match find_name(streams, name) {
         None => Ok(Err(Refusal::NoStream)),
         Some(i) => streams[i].merge(shard, other),
+    }
+}
+
+/// IncreaseStreamRetentionPeriod, where `raise` holds, or DecreaseStreamRetentionPeriod, to so many hours
+/// (Kinesis API Reference, IncreaseStreamRetentionPeriod and DecreaseStreamRetentionPeriod).
+pub fn keep(streams: &mut Streams, clock: Moment, name: &Name, hours: u32, raise: bool) -> Answer
+    requires placed { ArePlaced clock streams.old.entries }
+    requires hours { IsRetention hours }
+    ensures leads { LeadsTo clock (values streams.old) (values streams.new) (command.Keep name.now hours raise) result }
+    ensures placed { ArePlaced clock streams.new.entries }
+{
+    others();
+    match find_name(streams, name) {
+        None => Err(Refusal::NoStream),
+        Some(i) => streams[i].keep(hours, raise),
     }
 }

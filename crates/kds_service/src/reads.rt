@@ -51,6 +51,41 @@ pub fn records(
     }
 }
 
+/// DescribeStream (Kinesis API Reference, DescribeStream).
+pub fn describe(
+    alloc: Global,
+    streams: &Streams,
+    clock: Moment,
+    name: &Name,
+    after: Option<ShardNo>,
+    limit: u32,
+) -> Result<Answer, Memory>
+    requires placed { ArePlaced clock streams.now.entries }
+    requires limit { IsLimit limit }
+    ensures { IfOk result (LeadsTo clock (values streams.now) (values streams.now) (command.Describe name.now after limit)) }
+{
+    match find_name(streams, name) {
+        None => Ok(Err(Refusal::NoStream)),
+        Some(i) => streams[i].describe(alloc, after, limit),
+    }
+}
+
+/// DescribeStreamSummary (Kinesis API Reference, DescribeStreamSummary).
+pub fn summary(
+    alloc: Global,
+    streams: &Streams,
+    clock: Moment,
+    name: &Name,
+) -> Result<Answer, Memory>
+    requires { ArePlaced clock streams.now.entries }
+    ensures { IfOk result (LeadsTo clock (values streams.now) (values streams.now) (command.Summary name.now)) }
+{
+    match find_name(streams, name) {
+        None => Ok(Err(Refusal::NoStream)),
+        Some(i) => streams[i].summary(alloc),
+    }
+}
+
 /// ListShards of a stream by its name (Kinesis API Reference, ListShards).
 pub fn shards(
     streams: &Streams,
