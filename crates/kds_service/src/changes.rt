@@ -2,13 +2,13 @@
 ghost use Rattle.std.specs.Prelude.{◌≡◌, ◌<◌, ◌^◌, IfOk, OnErr};
 ghost use Rattle.indexmap.specs.IndexMap.{values};
 ghost use Rattle.kds_defs.specs.declared.command.Command.TheVariants as command;
-ghost use Rattle.kds_defs.specs.Lawful.{IsItem, IsRetention};
+ghost use Rattle.kds_defs.specs.Lawful.{AreItems, IsItem, IsRetention};
 ghost use Rattle.kds_service.specs.Places.{ArePlaced};
 ghost use Rattle.kds_service.specs.Shown.{LeadsTo};
 
 use crate::others::others;
 use crate::places::{Streams, find_name, has_room};
-use kds_base::{Memory, Moment, Name, ShardNo};
+use kds_base::{Items, Memory, Moment, Name, ShardNo};
 use kds_defs::{Answer, NewItem, Refusal};
 
 /// PutRecord (Kinesis API Reference, PutRecord).
@@ -28,6 +28,26 @@ pub fn put(
     match find_name(streams, name) {
         None => Ok(Err(Refusal::NoStream)),
         Some(i) => streams[i].put(item),
+    }
+}
+
+/// PutRecords (Kinesis API Reference, PutRecords).
+pub fn put_many(
+    streams: &mut Streams,
+    clock: Moment,
+    name: &Name,
+    items: Items<NewItem>,
+) -> Result<Answer, Memory>
+    requires placed { ArePlaced clock streams.old.entries }
+    requires items { AreItems items }
+    ensures leads { IfOk result (LeadsTo clock (values streams.old) (values streams.new) (command.PutMany name.now items)) }
+    ensures placed { ArePlaced clock streams.new.entries }
+    ensures kept { OnErr result (values streams.new ≡ values streams.old) }
+{
+    others();
+    match find_name(streams, name) {
+        None => Ok(Err(Refusal::NoStream)),
+        Some(i) => streams[i].put_many(items),
     }
 }
 

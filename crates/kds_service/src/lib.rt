@@ -8,6 +8,9 @@ mod naming;
 mod others;
 mod places;
 mod reads;
+mod serve;
 mod service;
+#[cfg(test)]
+mod tests;
 
 pub use service::Service;

@@ -1,14 +1,17 @@
 //! The service.
-ghost use Rattle.std.specs.Prelude.{◌≡◌, ◌≤◌, [], map};
+ghost use Rattle.std.specs.Prelude.{◌≡◌, ◌≤◌, [], map, IfOk, OnErr};
 ghost use Rattle.kds_defs.specs.Journal.{Journal};
+ghost use Rattle.kds_defs.specs.Lawful.{IsLawfulCommand};
 ghost use Rattle.kds_service.specs.Clocks.{CanGoBack, advanced, gone_back, settled};
-ghost use Rattle.kds_service.specs.Shown.{ShowsAll, service};
+ghost use Rattle.kds_service.specs.Shown.{Leads, ShowsAll, service};
 
 use crate::clocks::{advance_all, retreat_all, settle_all};
 use crate::others::others;
 use crate::places::Streams;
+use crate::serve::serve;
 use indexmap::IndexMap;
-use kds_base::Moment;
+use kds_base::{Memory, Moment};
+use kds_defs::{Answer, Command};
 use std::alloc::Global;
 use std::marker::Model;
 
@@ -79,5 +82,23 @@ impl Service {
     {
         settle_all(&mut self.streams);
         self.clock_before = self.clock;
+    }
+
+    /// Serves a command at the service's clock. After `Memory`, which is want of memory, the service is as before
+    /// (Kinesis API Reference, the operations of the commands).
+    pub fn serve(&mut self, what: Command) -> Result<Answer, Memory>
+        requires { IsLawfulCommand what }
+        ensures leads { IfOk result (Leads self.old self.new what) }
+        ensures clock { self.new.clock ≡ self.old.clock }
+        ensures kept { OnErr result (self.new ≡ self.old) }
+    {
+        let alloc = *self.streams.allocator();
+        serve(
+            alloc,
+            &mut self.streams,
+            &mut self.made,
+            self.clock,
+            what,
+        )
     }
 }
