@@ -1,13 +1,16 @@
 -- What an operation and a body ask for: a command, or the first fault.
-use Rattle.std.specs.Prelude.{ℕ, List, [], codes, if◌then◌else◌, Option, Some, None, Result, Ok, Err}
+use Rattle.std.specs.Prelude.{ℕ, List, [], codes, true, false, if◌then◌else◌, Option, Some, None, Result, Ok, Err}
 use Rattle.std.specs.Str.{bytes_eq, is_utf8}
 use Rattle.serde_json.specs.Data.{Data, object}
 use Rattle.serde_json.specs.Read.{read}
 use Rattle.kds_defs.specs.declared.command.Command.{Command}
+use Rattle.kds_json.specs.declared.operation.Operation.{Operation}
+use Rattle.kds_json.specs.declared.operation.Operation.TheVariants as op
 use Rattle.kds_json.specs.declared.problem.Fault.{Fault}
 use Rattle.kds_json.specs.declared.problem.FaultKind.TheVariants.{Unknown, Serialization}
-use Rattle.kds_json.specs.Reading.{◌>>=◌, fault_of}
-use Rattle.kds_json.specs.Operations.{create_stream, put_record, get_shard_iterator, get_records, split_shard, merge_shards, list_shards}
+use Rattle.kds_json.specs.Reading.{◌>>=◌, fault_of, some_or}
+use Rattle.kds_json.specs.Operations.{create_stream, delete_stream, list_streams, describe_stream, describe_summary, keep, put_record, get_shard_iterator, get_records, split_shard, merge_shards, list_shards}
+use Rattle.kds_json.specs.Many.{put_records}
 
 -- what a body reads as, where it is JSON in UTF-8 (RFC 8259)
 unfoldable pub read_body : List ℕ → Option Data
@@ -21,14 +24,45 @@ if_object _ = Err (fault_of Serialization [])
 abbrev pub object_of : List ℕ → Result Data Fault
 object_of body = if_object (read_body body)
 
+-- the operation of a name, if there is one (Kinesis API Reference, Actions)
+abbrev pub operation_named : List ℕ → Option Operation
+operation_named name =
+    if bytes_eq name (codes "CreateStream") then Some op.CreateStream
+    else if bytes_eq name (codes "DeleteStream") then Some op.DeleteStream
+    else if bytes_eq name (codes "ListStreams") then Some op.ListStreams
+    else if bytes_eq name (codes "DescribeStream") then Some op.DescribeStream
+    else if bytes_eq name (codes "DescribeStreamSummary") then Some op.DescribeStreamSummary
+    else if bytes_eq name (codes "ListShards") then Some op.ListShards
+    else if bytes_eq name (codes "GetShardIterator") then Some op.GetShardIterator
+    else if bytes_eq name (codes "GetRecords") then Some op.GetRecords
+    else if bytes_eq name (codes "PutRecord") then Some op.PutRecord
+    else if bytes_eq name (codes "PutRecords") then Some op.PutRecords
+    else if bytes_eq name (codes "SplitShard") then Some op.SplitShard
+    else if bytes_eq name (codes "MergeShards") then Some op.MergeShards
+    else if bytes_eq name (codes "IncreaseStreamRetentionPeriod") then Some op.IncreaseRetention
+    else if bytes_eq name (codes "DecreaseStreamRetentionPeriod") then Some op.DecreaseRetention
+    else None
+
+-- what the members of an operation ask for
+abbrev pub members_of : Operation → Data → Result Command Fault
+members_of op.CreateStream d = create_stream d
+members_of op.DeleteStream d = delete_stream d
+members_of op.ListStreams d = list_streams d
+members_of op.DescribeStream d = describe_stream d
+members_of op.DescribeStreamSummary d = describe_summary d
+members_of op.ListShards d = list_shards d
+members_of op.GetShardIterator d = get_shard_iterator d
+members_of op.GetRecords d = get_records d
+members_of op.PutRecord d = put_record d
+members_of op.PutRecords d = put_records d
+members_of op.SplitShard d = split_shard d
+members_of op.MergeShards d = merge_shards d
+members_of op.IncreaseRetention d = keep true d
+members_of op.DecreaseRetention d = keep false d
+
 -- An operation that isn't known is refused before the body is read.
 unfoldable pub asked : List ℕ → List ℕ → Result Command Fault
-asked operation body =
-    if bytes_eq operation (codes "CreateStream") then object_of body >>= create_stream
-    else if bytes_eq operation (codes "PutRecord") then object_of body >>= put_record
-    else if bytes_eq operation (codes "GetShardIterator") then object_of body >>= get_shard_iterator
-    else if bytes_eq operation (codes "GetRecords") then object_of body >>= get_records
-    else if bytes_eq operation (codes "SplitShard") then object_of body >>= split_shard
-    else if bytes_eq operation (codes "MergeShards") then object_of body >>= merge_shards
-    else if bytes_eq operation (codes "ListShards") then object_of body >>= list_shards
-    else Err (fault_of Unknown [])
+asked operation body = do
+  what ← some_or Unknown [] (operation_named operation)
+  d ← object_of body
+  members_of what d

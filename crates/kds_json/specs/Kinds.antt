@@ -1,6 +1,6 @@
 -- What the value of a member reads as, by the member's kind: nothing where it has another kind, range or form.
-use Rattle.std.specs.Prelude.{ℕ, ◌+◌, List, length, Bool, ◌&&◌, nat_le, if◌then◌else◌, Option, Some, None, option_map, option_and_then, Result, chars}
-use Rattle.std.specs.Str.{is_utf8}
+use Rattle.std.specs.Prelude.{ℕ, ◌+◌, ◌*◌, List, length, codes, Bool, ◌&&◌, nat_le, if◌then◌else◌, Option, Some, None, option_map, option_and_then, Result, chars, ⊤}
+use Rattle.std.specs.Str.{bytes_eq, is_utf8}
 use Rattle.base64.specs.Engines.{standard}
 use Rattle.base64.specs.GeneralPurpose.{decoded_of}
 use Rattle.serde_json.specs.Data.{Data}
@@ -9,13 +9,25 @@ use Rattle.kds_base.specs.Hashes.{key_hash}
 use Rattle.kds_base.specs.Names.{name_of}
 use Rattle.kds_base.specs.NumberText.{number_of}
 use Rattle.kds_defs.specs.declared.limits.TheConstants.{KEY_CHARACTERS, RECORD_BYTES}
+use Rattle.kds_json.specs.declared.numbers.TheConstants.{MOST_SECONDS}
 use Rattle.kds_json.specs.declared.problem.Fault.{Fault}
 use Rattle.kds_json.specs.Ids.{id_of}
-use Rattle.kds_json.specs.Member.{optional_at}
+use Rattle.kds_json.specs.Member.{member_of, optional_at}
 
 -- the name of a stream
 abbrev pub name_in : Data → Option (List ℕ)
 name_in x = option_and_then name_of (as_str x)
+
+-- the same of a member that may be absent
+abbrev pub some_name_in : Data → Option (Option (List ℕ))
+some_name_in x = option_map Some (name_in x)
+
+abbrev pub provisioned : List ℕ → Option ⊤
+provisioned mode = if bytes_eq mode (codes "PROVISIONED") then Some tt else None
+
+-- the mode of a stream: an object whose StreamMode is `PROVISIONED` (Kinesis API Reference, StreamModeDetails)
+abbrev pub mode_in : Data → Option ⊤
+mode_in x = option_and_then provisioned (option_and_then as_str (member_of (codes "StreamMode") x))
 
 abbrev pub within : ℕ → ℕ → ℕ → Option ℕ
 within low high n = if nat_le low n && nat_le n high then Some n else None
@@ -23,6 +35,13 @@ within low high n = if nat_le low n && nat_le n high then Some n else None
 -- a whole number in this range, both ends included
 abbrev pub number_in : ℕ → ℕ → Data → Option ℕ
 number_in low high x = option_and_then (within low high) (option_and_then as_u64 (as_number x))
+
+abbrev pub milliseconds : ℕ → ℕ
+milliseconds seconds = seconds * 1000
+
+-- a moment in whole seconds, as its milliseconds (Kinesis API Reference, GetShardIterator, Timestamp)
+abbrev pub moment_in : Data → Option ℕ
+moment_in x = option_map milliseconds (number_in 0 MOST_SECONDS x)
 
 -- a partition key: 1 to 256 characters in UTF-8 (Kinesis API Reference, PutRecord, PartitionKey)
 abbrev pub is_partition_key : List ℕ → Bool

@@ -1,40 +1,83 @@
 -- What the members of each operation ask for. They are checked in the order in which they stand here; a member
 -- that isn't named is ignored.
-use Rattle.std.specs.Prelude.{ℕ, List, length, codes, if◌then◌else◌, is_some, None, Result, Ok, Err}
+use Rattle.std.specs.Prelude.{ℕ, List, length, codes, Bool, if◌then◌else◌, is_some, None, Result, Ok, Err}
 use Rattle.std.specs.Str.{bytes_eq}
 use Rattle.serde_json.specs.Data.{Data}
 use Rattle.serde_json.specs.Find.{as_str}
 use Rattle.kds_defs.specs.declared.command.Command.{Command}
 use Rattle.kds_defs.specs.declared.command.Command.TheVariants as command
+use Rattle.kds_defs.specs.declared.command.NewItem.{NewItem}
 use Rattle.kds_defs.specs.declared.command.Start.{Start}
 use Rattle.kds_defs.specs.declared.command.Start.TheVariants as start
-use Rattle.kds_defs.specs.declared.limits.TheConstants.{LEAST_SHARDS, MOST_SHARDS, MOST}
+use Rattle.kds_defs.specs.declared.limits.TheConstants.{LEAST_SHARDS, MOST_SHARDS, LEAST_HOURS, MOST_HOURS, MOST}
 use Rattle.kds_token.specs.Tokens.{iter_of, page_of}
-use Rattle.kds_json.specs.declared.defaults.TheConstants.{RECORDS_LIMIT, SHARDS_LIMIT}
+use Rattle.kds_json.specs.declared.defaults.TheConstants.{RECORDS_LIMIT, SHARDS_LIMIT, DESCRIBED_LIMIT, NAMES_LIMIT}
 use Rattle.kds_json.specs.declared.problem.Fault.{Fault}
 use Rattle.kds_json.specs.declared.problem.FaultKind.TheVariants.{Invalid}
 use Rattle.kds_json.specs.Reading.{◌>>=◌, fault_of}
 use Rattle.kds_json.specs.Member.{member_of, absent_at, required_at, optional_at, token_at}
-use Rattle.kds_json.specs.Kinds.{name_in, number_in, key_in, blob_in, id_in, some_id_in, hash_in, hash_at, sequence_in}
+use Rattle.kds_json.specs.Kinds.{name_in, some_name_in, mode_in, number_in, moment_in, key_in, blob_in, id_in, some_id_in, hash_in, hash_at, sequence_in}
+
+-- ---- streams
 
 -- CreateStream (Kinesis API Reference, CreateStream, Request Parameters)
 unfoldable pub create_stream : Data → Result Command Fault
 create_stream d = do
   name ← required_at name_in (codes "StreamName") d
   shards ← required_at (number_in LEAST_SHARDS MOST_SHARDS) (codes "ShardCount") d
-  nothing ← absent_at (codes "StreamModeDetails") d
+  mode ← optional_at tt mode_in (codes "StreamModeDetails") d
   Ok (command.Create name shards)
 
+-- DeleteStream (Kinesis API Reference, DeleteStream, Request Parameters)
+unfoldable pub delete_stream : Data → Result Command Fault
+delete_stream d = do
+  name ← required_at name_in (codes "StreamName") d
+  Ok (command.Delete name)
+
+-- ListStreams (Kinesis API Reference, ListStreams, Request Parameters)
+unfoldable pub list_streams : Data → Result Command Fault
+list_streams d = do
+  after ← optional_at None some_name_in (codes "ExclusiveStartStreamName") d
+  limit ← optional_at NAMES_LIMIT (number_in 1 MOST) (codes "Limit") d
+  Ok (command.Streams after limit)
+
+-- DescribeStream (Kinesis API Reference, DescribeStream, Request Parameters)
+unfoldable pub describe_stream : Data → Result Command Fault
+describe_stream d = do
+  name ← required_at name_in (codes "StreamName") d
+  after ← optional_at None some_id_in (codes "ExclusiveStartShardId") d
+  limit ← optional_at DESCRIBED_LIMIT (number_in 1 MOST) (codes "Limit") d
+  Ok (command.Describe name after limit)
+
+-- DescribeStreamSummary (Kinesis API Reference, DescribeStreamSummary, Request Parameters)
+unfoldable pub describe_summary : Data → Result Command Fault
+describe_summary d = do
+  name ← required_at name_in (codes "StreamName") d
+  Ok (command.Summary name)
+
+-- IncreaseStreamRetentionPeriod and DecreaseStreamRetentionPeriod (Kinesis API Reference, Request Parameters)
+unfoldable pub keep : Bool → Data → Result Command Fault
+keep raise d = do
+  name ← required_at name_in (codes "StreamName") d
+  wanted ← required_at (number_in LEAST_HOURS MOST_HOURS) (codes "RetentionPeriodHours") d
+  Ok (command.Keep name wanted raise)
+
 -- ---- records
+
+-- a record that is to be put, by its own members (Kinesis API Reference, PutRecordsRequestEntry)
+unfoldable pub item_of : Data → Result NewItem Fault
+item_of d = do
+  key ← required_at key_in (codes "PartitionKey") d
+  payload ← required_at (blob_in (length key)) (codes "Data") d
+  hash ← hash_at key (codes "ExplicitHashKey") d
+  Ok (record { key = key; hash = hash; payload = payload })
 
 -- PutRecord (Kinesis API Reference, PutRecord, Request Parameters)
 unfoldable pub put_record : Data → Result Command Fault
 put_record d = do
   name ← required_at name_in (codes "StreamName") d
-  key ← required_at key_in (codes "PartitionKey") d
-  payload ← required_at (blob_in (length key)) (codes "Data") d
-  hash ← hash_at key (codes "ExplicitHashKey") d
-  Ok (command.Put name (record { key = key; hash = hash; payload = payload }))
+  item ← item_of d
+  Ok (command.Put name item)
 
 -- reading begins at a number, or after it
 unfoldable pub start_at : Data → Result Start Fault
@@ -47,6 +90,12 @@ start_after d = do
   number ← required_at sequence_in (codes "StartingSequenceNumber") d
   Ok (start.After number)
 
+-- at the first record of a moment or after it
+unfoldable pub start_time : Data → Result Start Fault
+start_time d = do
+  moment ← required_at moment_in (codes "Timestamp") d
+  Ok (start.Time moment)
+
 -- where reading begins, by a ShardIteratorType (Kinesis API Reference, GetShardIterator, ShardIteratorType)
 unfoldable pub start_of : List ℕ → Data → Result Start Fault
 start_of kind d =
@@ -54,6 +103,7 @@ start_of kind d =
     else if bytes_eq kind (codes "LATEST") then Ok start.Latest
     else if bytes_eq kind (codes "AT_SEQUENCE_NUMBER") then start_at d
     else if bytes_eq kind (codes "AFTER_SEQUENCE_NUMBER") then start_after d
+    else if bytes_eq kind (codes "AT_TIMESTAMP") then start_time d
     else Err (fault_of Invalid (codes "ShardIteratorType"))
 
 -- GetShardIterator (Kinesis API Reference, GetShardIterator, Request Parameters)

@@ -6,12 +6,15 @@ mod defaults;
 #[cfg(test)]
 mod fault_tests;
 mod ids;
+mod many;
 mod member;
 mod numbers;
+mod operation;
 mod problem;
 mod records;
 mod request;
 mod shards;
+mod streams;
 #[cfg(test)]
 mod tests;
 mod texts;

@@ -1,14 +1,14 @@
-//! Members that are numbers, hash keys, sequence numbers and the ids of shards.
+//! Members that are numbers, moments, hash keys, sequence numbers and the ids of shards.
 ghost use Rattle.std.specs.Prelude.{◌≡◌, None, IfOk};
 ghost use Rattle.serde_json.specs.View.{view};
 ghost use Rattle.kds_json.specs.Reading.{Gives};
 ghost use Rattle.kds_json.specs.Member.{required_at, optional_at};
-ghost use Rattle.kds_json.specs.Kinds.{number_in, hash_in, hash_at, sequence_in, id_in, some_id_in};
+ghost use Rattle.kds_json.specs.Kinds.{number_in, moment_in, hash_in, hash_at, sequence_in, id_in, some_id_in};
 
 use crate::ids::read_shard_id;
 use crate::member::{member, required_member, stop_at, value_at};
 use crate::problem::{FaultKind, Stop};
-use kds_base::{Memory, Octets, Seq, ShardNo, hash_of, read_u64, read_u128};
+use kds_base::{Memory, Moment, Octets, Seq, ShardNo, hash_of, read_u64, read_u128};
 use serde_json::Value;
 use std::alloc::Global;
 
@@ -57,6 +57,27 @@ pub fn optional_limit(
         ),
         None => Ok(default),
     }
+}
+
+/// The greatest moment that a request may name, in seconds.
+pub const MOST_SECONDS: u64 = 4_611_686_018_427_387;
+
+fn moment_value(value: &Value) -> Option<Moment>
+    ensures { result ≡ moment_in (view value.now) }
+{
+    match value.as_u64() {
+        Some(seconds) if seconds <= MOST_SECONDS => Moment::new(seconds * 1000),
+        _ => None,
+    }
+}
+
+/// A moment in whole seconds (Kinesis API Reference, GetShardIterator, Timestamp).
+#[tactic(auto, unfolding(crate::specs::Member::required_at))]
+pub fn moment_member(alloc: Global, object: &Value, name: &str) -> Result<Moment, Stop>
+    ensures { Gives (λ x. x) result (required_at moment_in name.now (view object.now)) }
+{
+    let value = required_member(alloc, object, name)?;
+    value_at(alloc, FaultKind::Invalid, name, moment_value(value))
 }
 
 fn hash_value(value: &Value) -> Option<u128>

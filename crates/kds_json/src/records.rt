@@ -2,11 +2,11 @@
 ghost use Rattle.std.specs.Prelude.{◌≡◌};
 ghost use Rattle.serde_json.specs.View.{view};
 ghost use Rattle.kds_json.specs.Reading.{Gives};
-ghost use Rattle.kds_json.specs.Operations.{put_record as put_record_of, start_at as start_at_of, start_after as start_after_of, start_of, get_shard_iterator as get_shard_iterator_of, get_records as get_records_of};
+ghost use Rattle.kds_json.specs.Operations.{item_of, put_record as put_record_of, start_at as start_at_of, start_after as start_after_of, start_time as start_time_of, start_of, get_shard_iterator as get_shard_iterator_of, get_records as get_records_of};
 
 use crate::defaults::RECORDS_LIMIT;
 use crate::member::stop_at;
-use crate::numbers::{id_member, optional_limit, record_hash, sequence_member};
+use crate::numbers::{id_member, moment_member, optional_limit, record_hash, sequence_member};
 use crate::problem::{FaultKind, Stop};
 use crate::texts::{blob_member, key_member, name_member, text_member};
 use crate::tokens::iterator_member;
@@ -15,20 +15,27 @@ use kds_defs::{Command, NewItem, Start};
 use serde_json::Value;
 use std::alloc::Global;
 
-/// PutRecord. The hash is the ExplicitHashKey, or else that of the partition key. SequenceNumberForOrdering is
-/// ignored, since sequence numbers rise strictly anyway (Kinesis API Reference, PutRecord).
+/// A record that is to be put, by its own members. The hash is the ExplicitHashKey, or else that of the partition
+/// key (Kinesis API Reference, PutRecordsRequestEntry).
+#[tactic(auto, unfolding(crate::specs::Operations::item_of))]
+pub fn item(alloc: Global, object: &Value) -> Result<NewItem, Stop>
+    ensures { Gives (λ x. x) result (item_of (view object.now)) }
+{
+    let key = key_member(alloc, object, "PartitionKey")?;
+    let payload = blob_member(alloc, object, "Data", key.as_slice().len())?;
+    let hash = record_hash(alloc, object, "ExplicitHashKey", &key)?;
+    Ok(NewItem { key, hash, payload })
+}
+
+/// PutRecord. SequenceNumberForOrdering is ignored, since sequence numbers rise strictly anyway
+/// (Kinesis API Reference, PutRecord).
 #[tactic(auto, unfolding(crate::specs::Operations::put_record))]
 pub fn put_record(alloc: Global, object: &Value) -> Result<Command, Stop>
     ensures { Gives (λ c. c) result (put_record_of (view object.now)) }
 {
     let name = name_member(alloc, object, "StreamName")?;
-    let key = key_member(alloc, object, "PartitionKey")?;
-    let payload = blob_member(alloc, object, "Data", key.as_slice().len())?;
-    let hash = record_hash(alloc, object, "ExplicitHashKey", &key)?;
-    Ok(Command::Put {
-        name,
-        item: NewItem { key, hash, payload },
-    })
+    let item = item(alloc, object)?;
+    Ok(Command::Put { name, item })
 }
 
 /// Reading begins at a number.
@@ -49,6 +56,15 @@ fn start_after(alloc: Global, object: &Value) -> Result<Start, Stop>
     Ok(Start::After(number))
 }
 
+/// Reading begins at the first record of a moment or after it.
+#[tactic(auto, unfolding(crate::specs::Operations::start_time))]
+fn start_time(alloc: Global, object: &Value) -> Result<Start, Stop>
+    ensures { Gives (λ s. s) result (start_time_of (view object.now)) }
+{
+    let moment = moment_member(alloc, object, "Timestamp")?;
+    Ok(Start::Time(moment))
+}
+
 /// Where reading begins, by a ShardIteratorType.
 #[tactic(auto, unfolding(crate::specs::Operations::start_of))]
 fn start(alloc: Global, kind: &str, object: &Value) -> Result<Start, Stop>
@@ -62,6 +78,8 @@ fn start(alloc: Global, kind: &str, object: &Value) -> Result<Start, Stop>
         start_at(alloc, object)
     } else if kind == "AFTER_SEQUENCE_NUMBER" {
         start_after(alloc, object)
+    } else if kind == "AT_TIMESTAMP" {
+        start_time(alloc, object)
     } else {
         Err(stop_at(alloc, FaultKind::Invalid, "ShardIteratorType"))
     }

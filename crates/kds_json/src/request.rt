@@ -4,12 +4,17 @@ ghost use Rattle.kds_defs.specs.declared.command.Command.{Command};
 ghost use Rattle.serde_json.specs.View.{view};
 ghost use Rattle.kds_defs.specs.Lawful.{IsLawfulCommand};
 ghost use Rattle.kds_json.specs.Reading.{Gives};
-ghost use Rattle.kds_json.specs.Asked.{object_of, read_body, asked};
+ghost use Rattle.kds_json.specs.Asked.{object_of, read_body, members_of, asked};
 
+use crate::many::put_records;
 use crate::member::stop_at;
+use crate::operation::{Operation, operation_named};
 use crate::problem::{Fault, FaultKind, Stop};
 use crate::records::{get_records, get_shard_iterator, put_record};
-use crate::shards::{create_stream, list_shards, merge_shards, split_shard};
+use crate::shards::{list_shards, merge_shards, split_shard};
+use crate::streams::{
+    create_stream, delete_stream, describe_stream, describe_summary, keep, list_streams,
+};
 use kds_base::Memory;
 use kds_defs::Command;
 use serde_json::Value;
@@ -42,27 +47,39 @@ fn object(alloc: Global, body: &[u8]) -> Result<Value, Stop>
     }
 }
 
+/// The command that the members of an operation ask for.
+fn members(alloc: Global, operation: Operation, object: &Value) -> Result<Command, Stop>
+    ensures { Gives (λ c. c) result (members_of operation (view object.now)) }
+{
+    match operation {
+        Operation::CreateStream => create_stream(alloc, object),
+        Operation::DeleteStream => delete_stream(alloc, object),
+        Operation::ListStreams => list_streams(alloc, object),
+        Operation::DescribeStream => describe_stream(alloc, object),
+        Operation::DescribeStreamSummary => describe_summary(alloc, object),
+        Operation::ListShards => list_shards(alloc, object),
+        Operation::GetShardIterator => get_shard_iterator(alloc, object),
+        Operation::GetRecords => get_records(alloc, object),
+        Operation::PutRecord => put_record(alloc, object),
+        Operation::PutRecords => put_records(alloc, object),
+        Operation::SplitShard => split_shard(alloc, object),
+        Operation::MergeShards => merge_shards(alloc, object),
+        Operation::IncreaseRetention => keep(alloc, object, true),
+        Operation::DecreaseRetention => keep(alloc, object, false),
+    }
+}
+
 /// An operation that isn't known is refused before its body is read.
 #[tactic(auto, unfolding(crate::specs::Asked::asked))]
 fn command(alloc: Global, operation: &[u8], body: &[u8]) -> Result<Command, Stop>
     ensures { Gives (λ c. c) result (asked operation.now body.now) }
 {
-    if operation == b"CreateStream".as_slice() {
-        create_stream(alloc, &object(alloc, body)?)
-    } else if operation == b"PutRecord".as_slice() {
-        put_record(alloc, &object(alloc, body)?)
-    } else if operation == b"GetShardIterator".as_slice() {
-        get_shard_iterator(alloc, &object(alloc, body)?)
-    } else if operation == b"GetRecords".as_slice() {
-        get_records(alloc, &object(alloc, body)?)
-    } else if operation == b"SplitShard".as_slice() {
-        split_shard(alloc, &object(alloc, body)?)
-    } else if operation == b"MergeShards".as_slice() {
-        merge_shards(alloc, &object(alloc, body)?)
-    } else if operation == b"ListShards".as_slice() {
-        list_shards(alloc, &object(alloc, body)?)
-    } else {
-        Err(stop_at(alloc, FaultKind::Unknown, ""))
+    match operation_named(operation) {
+        Some(operation) => {
+            let object = object(alloc, body)?;
+            members(alloc, operation, &object)
+        }
+        None => Err(stop_at(alloc, FaultKind::Unknown, "")),
     }
 }
 

@@ -1,31 +1,19 @@
-//! The operations on streams and their shards, with their members in the order in which they are checked.
+//! The operations on the shards of a stream, with their members in the order in which they are checked.
 ghost use Rattle.std.specs.Prelude.{◌≡◌};
 ghost use Rattle.serde_json.specs.View.{view};
 ghost use Rattle.kds_json.specs.Reading.{Gives};
-ghost use Rattle.kds_json.specs.Operations.{create_stream as create_stream_of, split_shard as split_shard_of, merge_shards as merge_shards_of, list_from_start as list_from_start_of, list_from_token as list_from_token_of, list_shards as list_shards_of};
+ghost use Rattle.kds_json.specs.Operations.{split_shard as split_shard_of, merge_shards as merge_shards_of, list_from_start as list_from_start_of, list_from_token as list_from_token_of, list_shards as list_shards_of};
 
 use crate::defaults::SHARDS_LIMIT;
 use crate::member::{absent_member, has_member};
-use crate::numbers::{hash_member, id_member, number_member, optional_id, optional_limit};
+use crate::numbers::{hash_member, id_member, optional_id, optional_limit};
 use crate::problem::Stop;
 use crate::texts::name_member;
 use crate::tokens::page_member;
 use kds_defs::Command;
-use kds_defs::limits::{LEAST_SHARDS, MOST, MOST_SHARDS};
+use kds_defs::limits::MOST;
 use serde_json::Value;
 use std::alloc::Global;
-
-/// CreateStream. Only provisioned streams are made, so there is no StreamModeDetails
-/// (Kinesis API Reference, CreateStream).
-#[tactic(auto, unfolding(crate::specs::Operations::create_stream))]
-pub fn create_stream(alloc: Global, object: &Value) -> Result<Command, Stop>
-    ensures { Gives (λ c. c) result (create_stream_of (view object.now)) }
-{
-    let name = name_member(alloc, object, "StreamName")?;
-    let shards = number_member(alloc, object, "ShardCount", LEAST_SHARDS, MOST_SHARDS)?;
-    absent_member(alloc, object, "StreamModeDetails")?;
-    Ok(Command::Create { name, shards })
-}
 
 /// SplitShard (Kinesis API Reference, SplitShard).
 #[tactic(auto, unfolding(crate::specs::Operations::split_shard))]

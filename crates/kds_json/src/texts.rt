@@ -1,13 +1,13 @@
-//! Members that are names, partition keys and payloads.
-ghost use Rattle.std.specs.Prelude.{◌≡◌, ◌+◌, length, chars, nat_le, IfOk};
+//! Members that are names, modes, partition keys and payloads.
+ghost use Rattle.std.specs.Prelude.{◌≡◌, ◌+◌, length, chars, nat_le, None, IfOk};
 ghost use Rattle.serde_json.specs.Find.{as_str};
 ghost use Rattle.serde_json.specs.View.{view};
 ghost use Rattle.kds_defs.specs.declared.limits.TheConstants.{RECORD_BYTES as most_bytes};
 ghost use Rattle.kds_json.specs.Reading.{Gives};
-ghost use Rattle.kds_json.specs.Member.{required_at};
-ghost use Rattle.kds_json.specs.Kinds.{name_in, is_partition_key as is_key, key_in, blob_in};
+ghost use Rattle.kds_json.specs.Member.{required_at, optional_at};
+ghost use Rattle.kds_json.specs.Kinds.{name_in, some_name_in, mode_in, is_partition_key as is_key, key_in, blob_in};
 
-use crate::member::{required_member, stop_at, value_at};
+use crate::member::{member, required_member, stop_at, value_at};
 use crate::problem::{FaultKind, Stop};
 use kds_base::{Memory, Name, Octets};
 use kds_defs::limits::{KEY_CHARACTERS, RECORD_BYTES};
@@ -43,6 +43,42 @@ pub fn name_member(alloc: Global, object: &Value, name: &str) -> Result<Name, St
 {
     let value = required_member(alloc, object, name)?;
     value_at(alloc, FaultKind::Invalid, name, name_value(alloc, value)?)
+}
+
+/// The name of a stream, if there is one.
+#[tactic(auto, unfolding(crate::specs::Member::optional_at))]
+pub fn optional_name(alloc: Global, object: &Value, name: &str) -> Result<Option<Name>, Stop>
+    ensures { Gives (λ x. x) result (optional_at None some_name_in name.now (view object.now)) }
+{
+    let Some(value) = member(object, name) else {
+        return Ok(None);
+    };
+    match name_value(alloc, value)? {
+        Some(stream) => Ok(Some(stream)),
+        None => Err(stop_at(alloc, FaultKind::Invalid, name)),
+    }
+}
+
+fn mode_value(value: &Value) -> Option<()>
+    ensures { result ≡ mode_in (view value.now) }
+{
+    let mode = member(value, "StreamMode")?;
+    match mode.as_str() {
+        Some("PROVISIONED") => Some(()),
+        _ => None,
+    }
+}
+
+/// The mode of a stream, if there is one. Only provisioned streams are made
+/// (Kinesis API Reference, StreamModeDetails).
+#[tactic(auto, unfolding(crate::specs::Member::optional_at))]
+pub fn mode_member(alloc: Global, object: &Value, name: &str) -> Result<(), Stop>
+    ensures { Gives (λ u. u) result (optional_at tt mode_in name.now (view object.now)) }
+{
+    match member(object, name) {
+        Some(value) => value_at(alloc, FaultKind::Invalid, name, mode_value(value)),
+        None => Ok(()),
+    }
 }
 
 fn character_count(text: &str) -> usize

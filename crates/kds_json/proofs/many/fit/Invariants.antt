@@ -1,0 +1,9 @@
+use Rattle.std.proofs.Common.{◌≡◌, ◌+◌, take}
+use Rattle.std.specs.List.{sum_by}
+use Rattle.kds_defs.specs.Lawful.{item_bytes}
+use Rattle.kds_defs.specs.declared.limits.TheConstants.{MANY_BYTES}
+use Rattle.kds_json.proofs.many.fit.Given as goal
+
+-- the room that is left
+abbrev pub invariant-loop-item : goal.invariant-loop-item
+invariant-loop-item l = l.room + sum_by item_bytes (take l.item-index l.items) ≡ MANY_BYTES

@@ -1,0 +1,81 @@
+//! The operations on streams, with their members in the order in which they are checked.
+ghost use Rattle.std.specs.Prelude.{◌≡◌};
+ghost use Rattle.serde_json.specs.View.{view};
+ghost use Rattle.kds_json.specs.Reading.{Gives};
+ghost use Rattle.kds_json.specs.Operations.{create_stream as create_stream_of, delete_stream as delete_stream_of, list_streams as list_streams_of, describe_stream as describe_stream_of, describe_summary as describe_summary_of, keep as keep_of};
+
+use crate::defaults::{DESCRIBED_LIMIT, NAMES_LIMIT};
+use crate::numbers::{number_member, optional_id, optional_limit};
+use crate::problem::Stop;
+use crate::texts::{mode_member, name_member, optional_name};
+use kds_defs::Command;
+use kds_defs::limits::{LEAST_HOURS, LEAST_SHARDS, MOST, MOST_HOURS, MOST_SHARDS};
+use serde_json::Value;
+use std::alloc::Global;
+
+/// CreateStream (Kinesis API Reference, CreateStream).
+#[tactic(auto, unfolding(crate::specs::Operations::create_stream))]
+pub fn create_stream(alloc: Global, object: &Value) -> Result<Command, Stop>
+    ensures { Gives (λ c. c) result (create_stream_of (view object.now)) }
+{
+    let name = name_member(alloc, object, "StreamName")?;
+    let shards = number_member(alloc, object, "ShardCount", LEAST_SHARDS, MOST_SHARDS)?;
+    mode_member(alloc, object, "StreamModeDetails")?;
+    Ok(Command::Create { name, shards })
+}
+
+/// DeleteStream (Kinesis API Reference, DeleteStream).
+#[tactic(auto, unfolding(crate::specs::Operations::delete_stream))]
+pub fn delete_stream(alloc: Global, object: &Value) -> Result<Command, Stop>
+    ensures { Gives (λ c. c) result (delete_stream_of (view object.now)) }
+{
+    let name = name_member(alloc, object, "StreamName")?;
+    Ok(Command::Delete { name })
+}
+
+/// ListStreams (Kinesis API Reference, ListStreams).
+#[tactic(auto, unfolding(crate::specs::Operations::list_streams))]
+pub fn list_streams(alloc: Global, object: &Value) -> Result<Command, Stop>
+    ensures { Gives (λ c. c) result (list_streams_of (view object.now)) }
+{
+    let after = optional_name(alloc, object, "ExclusiveStartStreamName")?;
+    let limit = optional_limit(alloc, object, "Limit", MOST, NAMES_LIMIT)?;
+    Ok(Command::Streams { after, limit })
+}
+
+/// DescribeStream (Kinesis API Reference, DescribeStream).
+#[tactic(auto, unfolding(crate::specs::Operations::describe_stream))]
+pub fn describe_stream(alloc: Global, object: &Value) -> Result<Command, Stop>
+    ensures { Gives (λ c. c) result (describe_stream_of (view object.now)) }
+{
+    let name = name_member(alloc, object, "StreamName")?;
+    let after = optional_id(alloc, object, "ExclusiveStartShardId")?;
+    let limit = optional_limit(alloc, object, "Limit", MOST, DESCRIBED_LIMIT)?;
+    Ok(Command::Describe { name, after, limit })
+}
+
+/// DescribeStreamSummary (Kinesis API Reference, DescribeStreamSummary).
+#[tactic(auto, unfolding(crate::specs::Operations::describe_summary))]
+pub fn describe_summary(alloc: Global, object: &Value) -> Result<Command, Stop>
+    ensures { Gives (λ c. c) result (describe_summary_of (view object.now)) }
+{
+    let name = name_member(alloc, object, "StreamName")?;
+    Ok(Command::Summary { name })
+}
+
+/// IncreaseStreamRetentionPeriod, where `raise` holds, or DecreaseStreamRetentionPeriod
+/// (Kinesis API Reference, IncreaseStreamRetentionPeriod and DecreaseStreamRetentionPeriod).
+#[tactic(auto, unfolding(crate::specs::Operations::keep))]
+pub fn keep(alloc: Global, object: &Value, raise: bool) -> Result<Command, Stop>
+    ensures { Gives (λ c. c) result (keep_of raise (view object.now)) }
+{
+    let name = name_member(alloc, object, "StreamName")?;
+    let hours = number_member(
+        alloc,
+        object,
+        "RetentionPeriodHours",
+        LEAST_HOURS,
+        MOST_HOURS,
+    )?;
+    Ok(Command::Keep { name, hours, raise })
+}
