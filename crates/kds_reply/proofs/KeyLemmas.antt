@@ -1,5 +1,5 @@
 -- The keys of the lines of every journal are text, and so are those of the records that answers tell.
-use Rattle.std.proofs.Common.{◌≡◌, ℕ, zero, suc, ◌-◌, List, [], ◌∷◌, ◌++◌, map, Bool, true, false, nat_le, ◌==◌, ◌&&◌, if◌then◌else◌, Option, Some, None}
+use Rattle.std.proofs.Common.{◌≡◌, ℕ, zero, suc, ◌+◌, ◌-◌, List, [], ◌∷◌, ◌++◌, map, Bool, true, false, nat_le, ◌==◌, ◌&&◌, if◌then◌else◌, Option, Some, None}
 use Rattle.std.specs.List.{AllByRecursion, filter}
 use Rattle.std.specs.Str.{IsUtf8}
 use Rattle.std.proofs.lemmas.Str.{IsUtf8-nil, utf8_lossy-IsUtf8}
@@ -19,10 +19,10 @@ use Rattle.kds_defs.specs.declared.reply.Stored.{Stored}
 use Rattle.kds_defs.specs.Decision.{Decision, refuse◌if◌else◌, with◌or◌then◌}
 use Rattle.kds_defs.specs.Histories.{with_stream, decide, lines_of, answer_of, clock, journal, answer}
 use Rattle.kds_defs.specs.Journal.{Line, Journal, with_lines}
-use Rattle.kds_defs.specs.Lawful.{IsItem, IsLawfulCommand, IsHistory}
+use Rattle.kds_defs.specs.Lawful.{IsItem, AreItems, IsLawfulCommand, IsHistory}
 use Rattle.kds_defs.specs.Listings.{more, get_iterator, get_records, records_reply, ends_at}
-use Rattle.kds_defs.specs.Records.{Logged, stored, records_after, records, is_left, left_among, left_from, beginning, batch, numbers_of, place_after}
-use Rattle.kds_defs.specs.StreamCommands.{create, put, split, merge}
+use Rattle.kds_defs.specs.Records.{Logged, next_number, stored, records_after, records, is_left, left_among, left_from, beginning, batch, numbers_of, place_after}
+use Rattle.kds_defs.specs.StreamCommands.{create, put, put_lines, put_many, split, merge, keep}
 use Rattle.kds_defs.specs.Streams.{is_live, stream_named, trim_floor}
 use Rattle.kds_reply.specs.Keys.{records_in, records_of, IsPrintedWhole, ArePrintedWhole}
 
@@ -53,6 +53,8 @@ HasTextKeys log = AllByRecursion HasTextKey log
 
 record_text : (line : Line) (e : Entry) (s sh : ℕ) (before : List Logged) → HasTextKey line → AllByRecursion IsKeptText before → AllByRecursion IsKeptText (records_after line e s sh before)
 record_text line (entry.Made stream name count) s sh before h k = k
+record_text line (entry.Gone stream) s sh before h k = k
+record_text line (entry.Kept stream hours) s sh before h k = k
 record_text line (entry.Put stream shard seq hash bytes) s sh before h k =
     all-if IsKeptText ((stream == s) && (shard == sh)) _ before (all-append IsKeptText before _ k (h, tt)) k
 record_text line (entry.Split stream shard at seq low high) s sh before h k = k
@@ -99,6 +101,16 @@ create_text log c by name count = refused_text _ _ _ (refused_text _ _ _ (refuse
 put_text : (log : Journal) (c by s : ℕ) (item : NewItem) → IsItem item → IsText (put log c by s item)
 put_text log c by s item is = refused_text _ _ _ ((is.key.text, tt), tt)
 
+puts_text : (log : Journal) (c by s number : ℕ) (items : List NewItem) → AllByRecursion IsItem items → HasTextKeys (put_lines log c by s number items)
+puts_text log c by s number [] h = tt
+puts_text log c by s number (item ∷ items) h = (h.0.key.text, puts_text log c by s (number + 1) items h.1)
+
+many_text : (log : Journal) (c by s : ℕ) (items : List NewItem) → AreItems items → IsText (put_many log c by s items)
+many_text log c by s items are = refused_text _ _ _ (puts_text log c by s (next_number log s) items are.each, tt)
+
+keep_text : (log : Journal) (c by s wanted : ℕ) (raise : Bool) → IsText (keep log c by s wanted raise)
+keep_text log c by s wanted raise = refused_text _ _ _ ((IsUtf8-nil, tt), tt)
+
 split_text : (log : Journal) (c by s sh at : ℕ) → IsText (split log c by s sh at)
 split_text log c by s sh at =
     refused_text _ _ _ (refused_text _ _ _ (refused_text _ _ _ (refused_text _ _ _ (refused_text _ _ _ ((IsUtf8-nil, tt), tt)))))
@@ -128,6 +140,12 @@ more_text log c page limit = refused_text _ _ _ (refused_text _ _ _ (tt, tt))
 
 decide_text : (log : Journal) (c by : ℕ) (what : Command) → HasTextKeys log → IsLawfulCommand what → IsText (decide log c by what)
 decide_text log c by (command.Create name count) h is = create_text log c by name count
+decide_text log c by (command.Delete name) h is = with_text (stream_named log name) _ _ (λ s. ((IsUtf8-nil, tt), tt))
+decide_text log c by (command.Streams after limit) h is = (tt, tt)
+decide_text log c by (command.Describe name after limit) h is = with_text (stream_named log name) _ _ (λ s. (tt, tt))
+decide_text log c by (command.Summary name) h is = with_text (stream_named log name) _ _ (λ s. (tt, tt))
+decide_text log c by (command.PutMany name items) h is = with_text (stream_named log name) _ _ (λ s. many_text log c by s items is.1)
+decide_text log c by (command.Keep name wanted raise) h is = with_text (stream_named log name) _ _ (λ s. keep_text log c by s wanted raise)
 decide_text log c by (command.Shards name after limit) h is = with_text (stream_named log name) _ _ (λ s. (tt, tt))
 decide_text log c by (command.More page limit) h is = more_text log c page limit
 decide_text log c by (command.GetIterator name sh from) h is = with_text (stream_named log name) _ _ (λ s. iterator_text log c s sh from)

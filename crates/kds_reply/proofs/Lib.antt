@@ -1,3 +1,4 @@
 pub mod KeyLemmas
+pub mod NameTexts
 pub mod Plain
 pub mod TokenTexts

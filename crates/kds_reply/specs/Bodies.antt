@@ -1,6 +1,6 @@
 -- The values of which bodies are made. The members of an object stand in the order of their bytes.
-use Rattle.std.specs.Prelude.{ℕ, List, map, codes, decimal, Option, Some, None}
-use Rattle.serde_json.specs.Data.{Data, string, array, object, Members, no_members, member, put}
+use Rattle.std.specs.Prelude.{ℕ, ◌/◌, List, map, codes, decimal, Option, Some, None}
+use Rattle.serde_json.specs.Data.{unsigned, Data, number, string, array, object, Members, no_members, member, put}
 use Rattle.serde_json.specs.View.{items_of}
 use Rattle.kds_defs.specs.declared.reply.Iter.{Iter}
 use Rattle.kds_defs.specs.declared.reply.Page.{Page}
@@ -33,6 +33,17 @@ put_if name (Some d) ms = put name d ms
 -- where a record was put (Kinesis API Reference, PutRecord, Response Elements)
 unfoldable pub place_data : Place → Data
 place_data p = object (member (codes "SequenceNumber") (number_data p.seq) (member (codes "ShardId") (id_data p.shard) no_members))
+
+-- where each record was put; none fails (Kinesis API Reference, PutRecords, Response Elements)
+unfoldable pub places_data : List Place → Data
+places_data ps =
+    object
+    (member (codes "FailedRecordCount") (number (unsigned 0))
+    (member (codes "Records") (list_data place_data ps) no_members))
+
+-- a moment, in whole seconds rounded down (Kinesis API Reference, Record, ApproximateArrivalTimestamp)
+abbrev pub seconds_data : ℕ → Data
+seconds_data ms = number (unsigned (ms / 1000))
 
 -- the token of an iterator
 abbrev pub iterator_string : Iter → Data

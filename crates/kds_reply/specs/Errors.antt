@@ -3,7 +3,7 @@ use Rattle.std.specs.Prelude.{ℕ, List, ◌++◌, codes}
 use Rattle.serde_json.specs.Data.{Data, string, object, member, no_members}
 use Rattle.serde_json.specs.Written.{compact_text}
 use Rattle.kds_defs.specs.declared.reply.Refusal.{Refusal}
-use Rattle.kds_defs.specs.declared.reply.Refusal.TheVariants.{NoStream, StreamThere, NoShard, ShardClosed, NotAdjacent, BadSplit, BadNumber, Expired, PageExpired, Full, Spent}
+use Rattle.kds_defs.specs.declared.reply.Refusal.TheVariants.{NoStream, StreamThere, NoShard, ShardClosed, NotAdjacent, BadSplit, BadNumber, BadRetention, Expired, PageExpired, Full, Spent}
 use Rattle.kds_json.specs.declared.problem.Fault.{Fault}
 use Rattle.kds_json.specs.declared.problem.FaultKind.{FaultKind}
 use Rattle.kds_json.specs.declared.problem.FaultKind.TheVariants.{Unknown, Serialization, Missing, Invalid, Token}
@@ -21,6 +21,7 @@ refusal_name ShardClosed = codes "InvalidArgumentException"
 refusal_name NotAdjacent = codes "InvalidArgumentException"
 refusal_name BadSplit = codes "InvalidArgumentException"
 refusal_name BadNumber = codes "InvalidArgumentException"
+refusal_name BadRetention = codes "InvalidArgumentException"
 refusal_name Expired = codes "ExpiredIteratorException"
 refusal_name PageExpired = codes "ExpiredNextTokenException"
 refusal_name Full = codes "LimitExceededException"
@@ -34,6 +35,7 @@ refusal_message ShardClosed = codes "shard is closed"
 refusal_message NotAdjacent = codes "shards are not adjacent"
 refusal_message BadSplit = codes "split key out of range"
 refusal_message BadNumber = codes "sequence number out of range"
+refusal_message BadRetention = codes "retention period does not fit"
 refusal_message Expired = codes "iterator expired"
 refusal_message PageExpired = codes "next token expired"
 refusal_message Full = codes "limit reached"

@@ -1,5 +1,5 @@
 -- Records as they are read.
-use Rattle.std.specs.Prelude.{ℕ, ◌/◌, List, codes, Option, Some, None}
+use Rattle.std.specs.Prelude.{ℕ, List, codes, Option, Some, None}
 use Rattle.std.specs.Str.Lossy.{utf8_lossy}
 use Rattle.base64.specs.Engines.{standard}
 use Rattle.base64.specs.GeneralPurpose.{encode_of}
@@ -7,12 +7,8 @@ use Rattle.serde_json.specs.Data.{unsigned, Data, null, number, string, object, 
 use Rattle.kds_defs.specs.declared.reply.Iter.{Iter}
 use Rattle.kds_defs.specs.declared.reply.Shard.{Shard}
 use Rattle.kds_defs.specs.declared.reply.Stored.{Stored}
-use Rattle.kds_reply.specs.Bodies.{number_data, list_data, iterator_string}
+use Rattle.kds_reply.specs.Bodies.{number_data, list_data, seconds_data, iterator_string}
 use Rattle.kds_reply.specs.Shards.{child_data}
-
--- a moment, in whole seconds rounded down (Kinesis API Reference, Record, ApproximateArrivalTimestamp)
-abbrev pub seconds_data : ℕ → Data
-seconds_data ms = number (unsigned (ms / 1000))
 
 -- bytes in standard base64 with padding (RFC 4648, section 4)
 abbrev pub blob_data : List ℕ → Data

@@ -4,10 +4,11 @@ ghost use Rattle.serde_json.specs.Written.{compact_text, has_float};
 ghost use Rattle.kds_reply.specs.Replies.{reply_data, reply_text, reply_of};
 
 use crate::errors::BAD_REQUEST;
-use crate::places::place_value;
+use crate::places::{place_value, places_value};
 use crate::records::records_value;
 use crate::refusals::refusal_body;
 use crate::shards::shards_value;
+use crate::streams::{described_value, streams_value, summary_value};
 use crate::tokens::iterator_value;
 use kds_base::{Memory, Octets};
 use kds_defs::{Answer, Reply};
@@ -31,6 +32,21 @@ fn reply_value(alloc: Global, reply: &Reply) -> Result<Option<Value>, Memory>
 {
     match reply {
         Reply::Done => Ok(None),
+        Reply::Streams { names, more } => {
+            Ok(Some(streams_value(alloc, names.as_slice(), *more)?))
+        }
+        Reply::Described {
+            about,
+            shards,
+            more,
+        } => {
+            let shards = shards.as_slice();
+            Ok(Some(described_value(alloc, about, shards, *more)?))
+        }
+        Reply::Summary { about, open_shards } => {
+            Ok(Some(summary_value(alloc, about, *open_shards)?))
+        }
+        Reply::PutMany(places) => Ok(Some(places_value(alloc, places.as_slice())?)),
         Reply::Put(place) => Ok(Some(place_value(alloc, place)?)),
         Reply::Iterator(iter) => Ok(Some(iterator_value(alloc, iter)?)),
         Reply::Records {

@@ -9,7 +9,9 @@ mod laws;
 mod places;
 mod records;
 mod refusals;
+mod seconds;
 mod shards;
+mod streams;
 #[cfg(test)]
 mod tests;
 mod tokens;

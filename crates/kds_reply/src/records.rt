@@ -3,6 +3,7 @@ ghost use Rattle.std.specs.Prelude.{◌≡◌, map, IfOk};
 ghost use Rattle.serde_json.specs.View.{view};
 ghost use Rattle.kds_reply.specs.Records.{record_data, records_data};
 
+use crate::seconds::seconds;
 use crate::shards::child_values;
 use crate::tokens::iterator_token;
 use base64::engine::general_purpose::STANDARD;
@@ -11,16 +12,13 @@ use kds_defs::{Iter, Shard, Stored};
 use serde_json::{Map, Value, json, push, put};
 use std::alloc::Global;
 
-/// The milliseconds of a second.
-const SECOND: u64 = 1000;
-
 /// A record. Its partition key is text (Kinesis API Reference, Record).
 #[tactic(auto, unfolding(crate::specs::Records::record_data))]
 fn record_value(alloc: Global, stored: &Stored) -> Result<Value, Memory>
     ensures { IfOk result (λ v. view v ≡ record_data stored.now) }
 {
     let mut members = Map::new(alloc);
-    let arrival = Value::from(stored.arrival.ms() / SECOND);
+    let arrival = Value::from(seconds(stored.arrival));
     put(&mut members, alloc, "ApproximateArrivalTimestamp", arrival)?;
     let payload = STANDARD.encode(alloc, stored.payload.as_slice())?;
     put(&mut members, alloc, "Data", Value::from(payload))?;

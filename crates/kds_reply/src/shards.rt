@@ -135,7 +135,8 @@ pub fn child_values(alloc: Global, shards: &[Shard]) -> Result<Vec<Value>, Memor
     Ok(values)
 }
 
-fn shard_values(alloc: Global, shards: &[Shard]) -> Result<Vec<Value>, Memory>
+/// Shards in their order.
+pub fn shard_values(alloc: Global, shards: &[Shard]) -> Result<Vec<Value>, Memory>
     ensures { IfOk result (λ vs. map view vs.items ≡ map shard_data shards.now) }
 {
     let mut values = Vec::new(alloc);

@@ -1,0 +1,69 @@
+-- Streams as they are shown, and the list of their names.
+use Rattle.std.specs.Prelude.{ℕ, List, [], ◌++◌, codes, Bool}
+use Rattle.serde_json.specs.Data.{unsigned, Data, boolean, number, string, array, object, no_items, item, Members, no_members, member}
+use Rattle.kds_defs.specs.declared.reply.About.{About}
+use Rattle.kds_defs.specs.declared.reply.Shard.{Shard}
+use Rattle.kds_reply.specs.Bodies.{list_data, seconds_data}
+use Rattle.kds_reply.specs.Shards.{shard_data}
+
+-- names, and whether more follow (Kinesis API Reference, ListStreams, Response Elements)
+unfoldable pub streams_data : List (List ℕ) → Bool → Data
+streams_data names more =
+    object
+    (member (codes "HasMoreStreams") (boolean more)
+    (member (codes "StreamNames") (list_data string names) no_members))
+
+-- no metrics of shards are kept (Kinesis API Reference, EnhancedMetrics)
+abbrev pub monitoring_data : Data
+monitoring_data = array (item (object (member (codes "ShardLevelMetrics") (array no_items) no_members)) no_items)
+
+-- the name by which other services know a stream (Kinesis API Reference, StreamDescription, StreamARN)
+abbrev pub arn_data : List ℕ → Data
+arn_data name = string (codes "arn:aws:kinesis:local:000000000000:stream/" ++ name)
+
+-- a live stream's status (Kinesis API Reference, StreamDescription, StreamStatus)
+abbrev pub status_data : Data
+status_data = string (codes "ACTIVE")
+
+-- what both descriptions of a stream tell
+abbrev pub about_members : About → Members
+about_members about =
+    member (codes "EnhancedMonitoring") monitoring_data
+    (member (codes "RetentionPeriodHours") (number (unsigned about.hours))
+    (member (codes "StreamARN") (arn_data about.name)
+    (member (codes "StreamCreationTimestamp") (seconds_data about.made)
+    (member (codes "StreamName") (string about.name)
+    (member (codes "StreamStatus") status_data no_members)))))
+
+-- a stream and its shards, and whether more of them follow (Kinesis API Reference, StreamDescription)
+unfoldable pub description_data : About → List Shard → Bool → Data
+description_data about shards more =
+    object
+    (member (codes "EnhancedMonitoring") monitoring_data
+    (member (codes "HasMoreShards") (boolean more)
+    (member (codes "RetentionPeriodHours") (number (unsigned about.hours))
+    (member (codes "Shards") (list_data shard_data shards)
+    (member (codes "StreamARN") (arn_data about.name)
+    (member (codes "StreamCreationTimestamp") (seconds_data about.made)
+    (member (codes "StreamName") (string about.name)
+    (member (codes "StreamStatus") status_data no_members))))))))
+
+-- a stream, and how many of its shards are open (Kinesis API Reference, StreamDescriptionSummary)
+unfoldable pub digest_data : About → ℕ → Data
+digest_data about open_shards =
+    object
+    (member (codes "EnhancedMonitoring") monitoring_data
+    (member (codes "OpenShardCount") (number (unsigned open_shards))
+    (member (codes "RetentionPeriodHours") (number (unsigned about.hours))
+    (member (codes "StreamARN") (arn_data about.name)
+    (member (codes "StreamCreationTimestamp") (seconds_data about.made)
+    (member (codes "StreamName") (string about.name)
+    (member (codes "StreamStatus") status_data no_members)))))))
+
+-- (Kinesis API Reference, DescribeStream, Response Elements)
+unfoldable pub described_data : About → List Shard → Bool → Data
+described_data about shards more = object (member (codes "StreamDescription") (description_data about shards more) no_members)
+
+-- (Kinesis API Reference, DescribeStreamSummary, Response Elements)
+unfoldable pub summary_data : About → ℕ → Data
+summary_data about open_shards = object (member (codes "StreamDescriptionSummary") (digest_data about open_shards) no_members)

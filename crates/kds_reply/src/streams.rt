@@ -1,0 +1,132 @@
+//! Streams as they are shown, and the list of their names.
+ghost use Rattle.std.specs.Prelude.{◌≡◌, ◌++◌, codes, map, IfOk, string_bytes};
+ghost use Rattle.serde_json.specs.Data.{string};
+ghost use Rattle.serde_json.specs.View.{view, members_view};
+ghost use Rattle.kds_reply.specs.Streams.{streams_data, monitoring_data, about_members, description_data, digest_data, described_data, summary_data};
+
+use crate::seconds::seconds;
+use crate::shards::shard_values;
+use kds_base::{Memory, Name};
+use kds_defs::{About, Shard};
+use serde_json::{Map, Value, json, push, put};
+use std::alloc::Global;
+
+/// A stream's name as text. It is ASCII, so that no byte is replaced.
+fn name_text(alloc: Global, name: &Name) -> Result<String, Memory>
+    ensures { IfOk result (λ s. string_bytes s ≡ name.now) }
+{
+    Ok(String::from_utf8_lossy(alloc, name.bytes())?)
+}
+
+fn name_values(alloc: Global, names: &[Name]) -> Result<Vec<Value>, Memory>
+    ensures { IfOk result (λ vs. map view vs.items ≡ map string names.now) }
+{
+    let mut values = Vec::new(alloc);
+    for name in names {
+        let text = name_text(alloc, name)?;
+        push(&mut values, Value::from(text))?;
+    }
+    Ok(values)
+}
+
+/// The names of streams, and whether more follow (Kinesis API Reference, ListStreams, Response Elements).
+#[tactic(auto, unfolding(crate::specs::Streams::streams_data))]
+pub fn streams_value(alloc: Global, names: &[Name], more: bool) -> Result<Value, Memory>
+    ensures { IfOk result (λ v. view v ≡ streams_data names.now more) }
+{
+    let names = name_values(alloc, names)?;
+    Ok(json!(in alloc; {"HasMoreStreams": more, "StreamNames": names})?)
+}
+
+/// No metrics of shards are kept (Kinesis API Reference, EnhancedMetrics).
+fn monitoring_value(alloc: Global) -> Result<Value, Memory>
+    ensures { IfOk result (λ v. view v ≡ monitoring_data) }
+{
+    Ok(json!(in alloc; [{"ShardLevelMetrics": []}])?)
+}
+
+/// The name by which other services know a stream (Kinesis API Reference, StreamDescription, StreamARN).
+fn arn_text(alloc: Global, name: &str) -> Result<String, Memory>
+    ensures { IfOk result (λ s. string_bytes s ≡ codes "arn:aws:kinesis:local:000000000000:stream/" ++ name.now) }
+{
+    Ok(format!(in alloc; "arn:aws:kinesis:local:000000000000:stream/{name}")?)
+}
+
+/// What both descriptions of a stream tell (Kinesis API Reference, StreamDescription and StreamDescriptionSummary).
+fn members_of(alloc: Global, about: &About) -> Result<Map<String, Value>, Memory>
+    ensures { IfOk result (λ m. members_view m.entries ≡ about_members about.now) }
+{
+    let name = name_text(alloc, &about.name)?;
+    let arn = arn_text(alloc, name.as_str())?;
+    let monitoring = monitoring_value(alloc)?;
+    let status = String::from_str(alloc, "ACTIVE")?;
+    let made = Value::from(seconds(about.made));
+    let mut members = Map::new(alloc);
+    put(&mut members, alloc, "EnhancedMonitoring", monitoring)?;
+    put(
+        &mut members,
+        alloc,
+        "RetentionPeriodHours",
+        Value::from(about.hours),
+    )?;
+    put(&mut members, alloc, "StreamARN", Value::from(arn))?;
+    put(&mut members, alloc, "StreamCreationTimestamp", made)?;
+    put(&mut members, alloc, "StreamName", Value::from(name))?;
+    put(&mut members, alloc, "StreamStatus", Value::from(status))?;
+    Ok(members)
+}
+
+/// A stream and its shards, and whether more of them follow (Kinesis API Reference, StreamDescription).
+#[tactic(auto, unfolding(crate::specs::Streams::description_data))]
+fn description_value(
+    alloc: Global,
+    about: &About,
+    shards: &[Shard],
+    more: bool,
+) -> Result<Value, Memory>
+    ensures { IfOk result (λ v. view v ≡ description_data about.now shards.now more) }
+{
+    let shards = shard_values(alloc, shards)?;
+    let mut members = members_of(alloc, about)?;
+    put(&mut members, alloc, "HasMoreShards", Value::from(more))?;
+    put(&mut members, alloc, "Shards", Value::Array(shards))?;
+    Ok(Value::Object(members))
+}
+
+/// A stream, and how many of its shards are open (Kinesis API Reference, StreamDescriptionSummary).
+#[tactic(auto, unfolding(crate::specs::Streams::digest_data))]
+fn digest_value(alloc: Global, about: &About, open_shards: u32) -> Result<Value, Memory>
+    ensures { IfOk result (λ v. view v ≡ digest_data about.now open_shards) }
+{
+    let mut members = members_of(alloc, about)?;
+    put(
+        &mut members,
+        alloc,
+        "OpenShardCount",
+        Value::from(open_shards),
+    )?;
+    Ok(Value::Object(members))
+}
+
+/// What DescribeStream tells (Kinesis API Reference, DescribeStream, Response Elements).
+#[tactic(auto, unfolding(crate::specs::Streams::described_data))]
+pub fn described_value(
+    alloc: Global,
+    about: &About,
+    shards: &[Shard],
+    more: bool,
+) -> Result<Value, Memory>
+    ensures { IfOk result (λ v. view v ≡ described_data about.now shards.now more) }
+{
+    let description = description_value(alloc, about, shards, more)?;
+    Ok(json!(in alloc; {"StreamDescription": description})?)
+}
+
+/// What DescribeStreamSummary tells (Kinesis API Reference, DescribeStreamSummary, Response Elements).
+#[tactic(auto, unfolding(crate::specs::Streams::summary_data))]
+pub fn summary_value(alloc: Global, about: &About, open_shards: u32) -> Result<Value, Memory>
+    ensures { IfOk result (λ v. view v ≡ summary_data about.now open_shards) }
+{
+    let digest = digest_value(alloc, about, open_shards)?;
+    Ok(json!(in alloc; {"StreamDescriptionSummary": digest})?)
+}
