@@ -68,17 +68,23 @@ const POSITIONS: (&str, &str) = (
 "#,
 );
 
-/// Retention.
+/// Retention: a longer one brings nothing back, and a decrease to more hours is refused.
 const RETENTION: (&str, &str) = (
     r#"1000 api CreateStream {"StreamName":"s","ShardCount":1}
 1000 api PutRecord {"StreamName":"s","Data":"aGk=","PartitionKey":"a"}
 86400999 api GetRecords {"ShardIterator":"S0kxOjE6MDowOjg2NDAwOTk5"}
 86401000 api GetRecords {"ShardIterator":"S0kxOjE6MDowOjg2NDAwOTk5"}
+86401000 api IncreaseStreamRetentionPeriod {"StreamName":"s","RetentionPeriodHours":48}
+86401000 api GetRecords {"ShardIterator":"S0kxOjE6MDowOjg2NDAwOTk5"}
+86401000 api DecreaseStreamRetentionPeriod {"StreamName":"s","RetentionPeriodHours":72}
 "#,
     r#"200
 200 {"SequenceNumber":"1","ShardId":"shardId-000000000000"}
 200 {"MillisBehindLatest":0,"NextShardIterator":"S0kxOjE6MDoyOjg2NDAwOTk5","Records":[{"ApproximateArrivalTimestamp":1,"Data":"aGk=","PartitionKey":"a","SequenceNumber":"1"}]}
 200 {"MillisBehindLatest":0,"NextShardIterator":"S0kxOjE6MDowOjg2NDAxMDAw","Records":[]}
+200
+200 {"MillisBehindLatest":0,"NextShardIterator":"S0kxOjE6MDowOjg2NDAxMDAw","Records":[]}
+400 {"__type":"InvalidArgumentException","message":"retention period does not fit"}
 "#,
 );
 
@@ -164,6 +170,94 @@ const OPEN_SHARDS: (&str, &str) = (
 "#,
 );
 
+/// A deleted stream's token finds no stream, and its number isn't used again.
+const DELETED: (&str, &str) = (
+    r#"1000 api CreateStream {"StreamName":"s","ShardCount":1}
+1000 api PutRecord {"StreamName":"s","Data":"aGk=","PartitionKey":"a"}
+2000 api DeleteStream {"StreamName":"s"}
+2000 api DeleteStream {"StreamName":"s"}
+2000 api CreateStream {"StreamName":"s","ShardCount":1}
+3000 api GetRecords {"ShardIterator":"S0kxOjE6MDowOjIwMDA="}
+3000 api GetShardIterator {"StreamName":"s","ShardId":"shardId-000000000000","ShardIteratorType":"TRIM_HORIZON"}
+"#,
+    r#"200
+200 {"SequenceNumber":"1","ShardId":"shardId-000000000000"}
+200
+400 {"__type":"ResourceNotFoundException","message":"stream not found"}
+200
+400 {"__type":"ResourceNotFoundException","message":"stream not found"}
+200 {"ShardIterator":"S0kxOjI6MDowOjMwMDA="}
+"#,
+);
+
+/// Positions by time.
+const TIMES: (&str, &str) = (
+    r#"1000 api CreateStream {"StreamName":"s","ShardCount":1}
+1000 api PutRecord {"StreamName":"s","Data":"aGk=","PartitionKey":"a"}
+1001 api PutRecord {"StreamName":"s","Data":"","PartitionKey":"abc"}
+2000 api GetShardIterator {"StreamName":"s","ShardId":"shardId-000000000000","ShardIteratorType":"AT_TIMESTAMP","Timestamp":1}
+2000 api GetShardIterator {"StreamName":"s","ShardId":"shardId-000000000000","ShardIteratorType":"AT_TIMESTAMP","Timestamp":2}
+2000 api GetShardIterator {"StreamName":"s","ShardId":"shardId-000000000000","ShardIteratorType":"AT_TIMESTAMP","Timestamp":1.5}
+"#,
+    r#"200
+200 {"SequenceNumber":"1","ShardId":"shardId-000000000000"}
+200 {"SequenceNumber":"2","ShardId":"shardId-000000000000"}
+200 {"ShardIterator":"S0kxOjE6MDoxOjIwMDA="}
+200 {"ShardIterator":"S0kxOjE6MDozOjIwMDA="}
+400 {"__type":"ValidationException","message":"Timestamp is not valid"}
+"#,
+);
+
+/// Records that are put together.
+const TOGETHER: (&str, &str) = (
+    r#"1000 api CreateStream {"StreamName":"s","ShardCount":1}
+1000 api PutRecord {"StreamName":"s","Data":"aGk=","PartitionKey":"a"}
+1000 api PutRecords {"StreamName":"s","Records":[{"PartitionKey":"a","Data":""},{"PartitionKey":"abc","Data":"aGk="}]}
+"#,
+    r#"200
+200 {"SequenceNumber":"1","ShardId":"shardId-000000000000"}
+200 {"FailedRecordCount":0,"Records":[{"SequenceNumber":"2","ShardId":"shardId-000000000000"},{"SequenceNumber":"3","ShardId":"shardId-000000000000"}]}
+"#,
+);
+
+/// A listing in pages.
+const PAGES: (&str, &str) = (
+    r#"1000 api CreateStream {"StreamName":"s","ShardCount":2}
+2000 api ListShards {"StreamName":"s","MaxResults":1}
+2000 api ListShards {"NextToken":"S1QxOjE6MDoyMDAw"}
+"#,
+    r#"200
+200 {"NextToken":"S1QxOjE6MDoyMDAw","Shards":[{"HashKeyRange":{"EndingHashKey":"170141183460469231731687303715884105727","StartingHashKey":"0"},"SequenceNumberRange":{"StartingSequenceNumber":"1"},"ShardId":"shardId-000000000000"}]}
+200 {"Shards":[{"HashKeyRange":{"EndingHashKey":"340282366920938463463374607431768211455","StartingHashKey":"170141183460469231731687303715884105728"},"SequenceNumberRange":{"StartingSequenceNumber":"1"},"ShardId":"shardId-000000000001"}]}
+"#,
+);
+
+/// A stream's summary.
+const SUMMARY: (&str, &str) = (
+    r#"1000 api CreateStream {"StreamName":"s","ShardCount":1}
+1000 api PutRecord {"StreamName":"s","Data":"aGk=","PartitionKey":"a"}
+2000 api DescribeStreamSummary {"StreamName":"s"}
+"#,
+    r#"200
+200 {"SequenceNumber":"1","ShardId":"shardId-000000000000"}
+200 {"StreamDescriptionSummary":{"EnhancedMonitoring":[{"ShardLevelMetrics":[]}],"OpenShardCount":1,"RetentionPeriodHours":24,"StreamARN":"arn:aws:kinesis:local:000000000000:stream/s","StreamCreationTimestamp":1,"StreamName":"s","StreamStatus":"ACTIVE"}}
+"#,
+);
+
+/// Names by pages.
+const NAMES: (&str, &str) = (
+    r#"1000 api CreateStream {"StreamName":"b","ShardCount":1}
+1000 api CreateStream {"StreamName":"a","ShardCount":1}
+1000 api ListStreams {"Limit":1}
+1000 api ListStreams {"ExclusiveStartStreamName":"a","Limit":1}
+"#,
+    r#"200
+200
+200 {"HasMoreStreams":true,"StreamNames":["a"]}
+200 {"HasMoreStreams":false,"StreamNames":["b"]}
+"#,
+);
+
 #[test]
 fn worked_rows(rt: HostRuntime) -> Result<(), Fail> {
     let rows = [
@@ -177,6 +271,12 @@ fn worked_rows(rt: HostRuntime) -> Result<(), Fail> {
         SPLIT,
         MERGE,
         OPEN_SHARDS,
+        DELETED,
+        TIMES,
+        TOGETHER,
+        PAGES,
+        SUMMARY,
+        NAMES,
     ];
     for (text, out) in rows {
         let left = run_on(&rt, &["replay"], text.as_bytes(), 4096, &[], &[])?;
