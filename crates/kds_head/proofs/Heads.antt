@@ -1,6 +1,6 @@
 -- How many headers a head of so many bytes can have; at most one finding; what is decided stays; the limits.
 use Rattle.std.proofs.Common.{◌≡◌, ◌≢◌, ℕ, ◌+◌, ◌*◌, ◌<◌, ◌≤◌, ◌⊎◌, List, [], ◌∷◌, ◌++◌, map, length, take, sym, ap, ◌∙◌, subst, arith, zero, suc, get_or, refl, inl, inr, codes, Bool, true, false, Result, Ok, Err}
-use Rattle.std.specs.Prelude.{◌==◌, if◌then◌else◌, nat_lt, All, IsTrue, IfOk}
+use Rattle.std.specs.Prelude.{◌==◌, min, if◌then◌else◌, nat_lt, All, IsTrue, IfOk}
 use Rattle.std.specs.Str.{IsUtf8, is_utf8, chars}
 use Rattle.std.proofs.lemmas.Str.{IsUtf8-from_is_utf8}
 use Rattle.std.proofs.lemmas.Bool.Decides.{nat_tests}
@@ -180,7 +180,7 @@ stays_found bytes more found f n = by_front (front_grows 16384 bytes more)
 
 -- a refusal of the table, or a head of so many bytes whose body is no longer than it may be
 IsLimited : ℕ → Found → Type 0
-IsLimited bytes Need = Unit {0}
+IsLimited bytes Need = ⊥
 IsLimited bytes (Refused status) = is_refusal status ≡ true
 IsLimited bytes (Whole head) = (head.length ≡ bytes) × (head.body ≤ BODY_BYTES)
 
@@ -200,9 +200,12 @@ limited_judged bytes method target minor headers =
     limited_step bytes 405 _ _ refl (λ _.
     limited_step bytes 404 _ _ refl (λ _. (refl, at_most _ _ small))))))))
 
-known_open : (b : Bool) (bytes : List ℕ) → IsWithinLimits bytes (if b then Refused 431 else Need)
-known_open true bytes = refl
-known_open false bytes = tt
+known_open : (b : Bool) (bytes : List ℕ) → (length (take HEAD_BYTES bytes) == HEAD_BYTES) ≡ b → IsWithinLimits bytes (if b then Refused 431 else Need)
+known_open true bytes e = refl
+known_open false bytes e = few (length (take HEAD_BYTES bytes)) (length bytes) (length-take HEAD_BYTES bytes) e
+  where
+    few : (n all : ℕ) → n ≡ min HEAD_BYTES all → (n == HEAD_BYTES) ≡ false → all < HEAD_BYTES
+    few n all m e = grind (arith, nat_tests)
 
 print_some : (h : RequestHead) → 0 < length (print_request h)
 unfolding print_request
@@ -210,7 +213,7 @@ print_some h = simp length-append (omega arith)
 
 bounded : (bytes : List ℕ) (size : ℕ) (found : Found) → 0 < size → size ≤ length (take HEAD_BYTES bytes) → IsLimited size found → IsWithinLimits bytes found
 unfolding IsLimited
-bounded bytes size Need some fits h = tt
+bounded bytes size Need some fits h = absurd h
 bounded bytes size (Refused status) some fits h = h
 bounded bytes size (Whole head) some fits h = record {
   some = omega (arith, h.0);
@@ -228,7 +231,7 @@ limits_in bytes found (inl a) =
     bounded bytes (length (print_request a.0)) found (print_some a.0) size
     (subst (λ (f : Found). IsLimited (length (print_request a.0)) f) (sym a.2) (limited_judged _ a.0.method a.0.target a.0.minor (map name_and_value a.0.fields)))
 limits_in bytes found (inr (inl b)) = subst (λ (f : Found). IsWithinLimits bytes f) (sym b.1) refl
-limits_in bytes found (inr (inr c)) = subst (λ (f : Found). IsWithinLimits bytes f) (sym c.1) (known_open (length (take HEAD_BYTES bytes) == HEAD_BYTES) bytes)
+limits_in bytes found (inr (inr c)) = subst (λ (f : Found). IsWithinLimits bytes f) (sym c.1) (known_open (length (take HEAD_BYTES bytes) == HEAD_BYTES) bytes refl)
 
 pub limits : {E : Type 0} (bytes : List ℕ) (r : Result Found E) → IfOk r (IsFound bytes) → IfOk r (IsWithinLimits bytes)
 limits bytes (Ok found) h = limits_in bytes found h

@@ -42,8 +42,8 @@ pub record IsBounded (bytes : List ℕ) (whole : Head) : Type 0 where
   pub head : whole.length ≤ HEAD_BYTES
   pub body : whole.body ≤ BODY_BYTES
 
--- a refusal has a status of the table, and a head is bounded
+-- bytes that need more are fewer than a head may have, a refusal has a status of the table, and a head is bounded
 abbrev pub IsWithinLimits : List ℕ → Found → Type 0
-IsWithinLimits bytes Need = Unit {0}
+IsWithinLimits bytes Need = length bytes < HEAD_BYTES
 IsWithinLimits bytes (Refused status) = is_refusal status ≡ true
 IsWithinLimits bytes (Whole head) = IsBounded bytes head

@@ -13,7 +13,8 @@ pub fn decided_stays()
     ensures { (bytes more : List ℕ) (found : Found) → IsFound bytes found → found ≢ Found.Need → IsFound (bytes ++ more) found }
 {}
 
-/// A refusal has a status of the table, and a whole head keeps within the limits.
+/// Bytes that need more are fewer than a head may have, a refusal has a status of the table, and a whole head keeps
+/// within the limits.
 pub fn found_within_limits()
     ensures { (bytes : List ℕ) (found : Found) → IsFound bytes found → IsWithinLimits bytes found }
 {}
