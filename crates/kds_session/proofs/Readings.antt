@@ -6,11 +6,11 @@ use Rattle.std.proofs.lemmas.List.{append_assoc, append-nil, length-append, take
 use Rattle.kds_head.specs.declared.found.Head.{Head}
 use Rattle.kds_head.specs.declared.found.Found.{Found}
 use Rattle.kds_head.specs.declared.found.Found.TheVariants.{Need, Refused, Whole}
+use Rattle.kds_head.specs.declared.limits.TheConstants.{HEAD_BYTES, BODY_BYTES}
 use Rattle.kds_head.specs.Find.{IsFound, IsWithinLimits}
 use Rattle.kds_session.specs.declared.limits.TheConstants.{REQUESTS}
 use Rattle.kds_session.specs.Messages.{Message, message_at, Begins, size, rest_of, Ending, boundary, inside, closed, refused, IsWhole, IsShort, IsUnfinished, Ends, Falls, closes}
-use Rattle.kds_session.specs.Text.{end_text}
-use Rattle.kds_session.specs.Standing.{GoesOn}
+use Rattle.kds_session.specs.Standing.{GoesOn, going, end_in}
 
 -- what is decided of a head stays so
 abbrev pub HeadStays : Type 0
@@ -212,9 +212,9 @@ at_end fed done left unread e g f =
     (subst (λ (z : List Message). Falls 0 (fed ++ []) z e) (append-nil done) (g.onward [] [] e (subst (λ (z : List ℕ). Ends z e) (sym (append-nil unread)) f)))
 
 -- the bytes end here
-pub goes_ending : (fed : List ℕ) (done : List Message) (left : ℕ) (unread : List ℕ) → GoesOn fed done left unread → IsUnfinished unread → (ending : Ending) × (end_text ending ≡ []) × Falls 0 fed done ending
-goes_ending fed done left [] g u = (boundary, refl, at_end fed done left [] boundary g refl)
-goes_ending fed done left (x ∷ xs) g u = (inside, refl, at_end fed done left (x ∷ xs) inside g (omega arith, u))
+pub goes_ending : (fed : List ℕ) (done : List Message) (left : ℕ) (unread : List ℕ) → GoesOn fed done left unread → IsUnfinished unread → Falls 0 fed done (end_in going unread)
+goes_ending fed done left [] g u = at_end fed done left [] boundary g refl
+goes_ending fed done left (x ∷ xs) g u = at_end fed done left (x ∷ xs) inside g (omega arith, u)
 
 -- ---- the test of a body
 
@@ -229,3 +229,14 @@ whole_by bytes head f e = record { found = f; whole = le_true _ _ e }
 
 pub short_by : (bytes : List ℕ) (head : Head) → IsFound bytes (Whole head) → nat_le (size head) (length bytes) ≡ false → IsShort bytes head
 short_by bytes head f e = record { found = f; short = le_false _ _ e }
+
+-- ---- the bytes of an unfinished message
+
+few_bytes : (n size length body : ℕ) → n < size → size ≡ length + body → length ≤ HEAD_BYTES → body ≤ BODY_BYTES → n < HEAD_BYTES + BODY_BYTES
+few_bytes n size length body h e a b = omega (arith, h, e, a, b)
+
+pub unfinished_short : ((bytes : List ℕ) (found : Found) → IsFound bytes found → IsWithinLimits bytes found) → (bytes : List ℕ) → IsUnfinished bytes → length bytes < HEAD_BYTES + BODY_BYTES
+unfinished_short limits bytes (inl need) = let few = limits bytes Need need in omega (arith, few)
+unfinished_short limits bytes (inr short) =
+    let within = limits bytes (Whole short.0) short.1.found in
+    few_bytes (length bytes) (size short.0) short.0.length short.0.body short.1.short refl within.head within.body

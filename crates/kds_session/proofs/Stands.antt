@@ -1,6 +1,7 @@
 -- What a session stands for, one step later.
-use Rattle.std.proofs.Common.{◌≡◌, ◌≢◌, ℕ, ◌+◌, ◌-◌, ◌<◌, List, [], ◌∷◌, ◌++◌, length, take, drop, sym, ap, ◌∙◌, subst, arith, refl, Bool, true, false, Ok, Err, Result, Option, Some, None, drop-drop}
+use Rattle.std.proofs.Common.{◌≡◌, ◌≢◌, ℕ, ◌+◌, ◌-◌, ◌<◌, List, [], ◌∷◌, ◌++◌, length, take, drop, sym, ap, ◌∙◌, subst, arith, refl, Bool, true, false, Ok, Err, Result, Option, Some, None, drop-drop, inl, inr}
 use Rattle.std.specs.Prelude.{◌||◌, nat_le}
+use Rattle.std.proofs.lemmas.Bool.Decides.{nat_tests}
 use Rattle.std.proofs.lemmas.List.{append_assoc, append-nil, length-append}
 use Rattle.kds_defs.specs.declared.command.Command.{Command}
 use Rattle.kds_defs.specs.declared.reply.Refusal.{Refusal}
@@ -9,7 +10,8 @@ use Rattle.kds_json.specs.declared.problem.Fault.{Fault}
 use Rattle.kds_reply.specs.Replies.{reply_of, fault_reply}
 use Rattle.kds_head.specs.declared.found.Head.{Head}
 use Rattle.kds_head.specs.declared.found.Found.TheVariants.{Refused as RefusedHead}
-use Rattle.kds_head.specs.Find.{IsFound}
+use Rattle.kds_head.specs.declared.found.Found.{Found}
+use Rattle.kds_head.specs.Find.{IsFound, IsWithinLimits}
 use Rattle.kds_head.specs.Response.{response_text}
 use Rattle.kds_session.specs.declared.limits.TheConstants.{REQUESTS}
 use Rattle.kds_session.specs.declared.reading.Reading.{Reading}
@@ -20,10 +22,10 @@ use Rattle.kds_session.specs.declared.state.Waiting.TheVariants.{Nothing, Answer
 use Rattle.kds_session.specs.Messages.{Message, message_at, Ending, closed, refused, closes, rest_of, IsWhole, Falls}
 use Rattle.kds_session.specs.Text.{Answers, asked_by, command_of, commands, answered, responses}
 use Rattle.kds_session.specs.States.{SessionState, waiting_for, is_last, standing_after}
-use Rattle.kds_session.specs.Standing.{Stage, going, over, stage_of, stage_text, Leads, GoesOn, IsAwaited, Awaits, StandsFor, IsQuiet}
-use Rattle.kds_session.specs.Next.{IsNext}
+use Rattle.kds_session.specs.Standing.{Stage, going, over, stage_of, stage_text, Leads, GoesOn, IsAwaited, Awaits, StandsFor, IsQuiet, still, to_come}
+use Rattle.kds_session.specs.Next.{IsNext, IsNearer, IsFewer, IsShort, IsReadOut}
 use Rattle.kds_session.specs.Steps.{IsFree, read_state, with_reading}
-use Rattle.kds_session.proofs.Readings.{HeadLaws, HeadStays, begins_at, last_is, goes_fed, goes_past, goes_last, goes_refused}
+use Rattle.kds_session.proofs.Readings.{HeadLaws, HeadStays, begins_at, last_is, goes_fed, goes_past, goes_last, goes_refused, unfinished_short}
 use Rattle.kds_session.proofs.Responses.{commands-push, responses-push, adds}
 
 -- ---- a session that is live, and of which no command waits
@@ -349,3 +351,85 @@ pub told_state : (s : SessionState) (out text : List ℕ) (close : Bool) (d : St
 told_state s out text close d r eo et ec ed =
     ap (λ (z : List ℕ). let y : SessionState = record s { output = z; waiting = Nothing; standing = d } in y) (eo ∙ ap (λ z. s.output ++ z) (et ∙ ap (λ b. answered r b) ec))
     ∙ ap (λ (z : Standing). let y : SessionState = record s { output = s.output ++ answered r (is_last s.waiting); waiting = Nothing; standing = z } in y) (ed ∙ ap (λ b. standing_after b s.standing) ec)
+
+-- ---- less is to come
+
+-- a session that goes on has its requests and its end before it
+all_to_come : (s : SessionState) → IsFree s → to_come s ≡ s.left + 1
+all_to_come s free = ap (λ (z : Stage). still z s.left) (stage_live s.standing s.waiting free.live free.free)
+
+pub refused_not_live : (status : ℕ) → Refused status ≡ Live → ⊥
+refused_not_live status e = cc
+
+-- the connection has ended
+pub less_ended : (s new : SessionState) → IsFree s → to_come new ≡ 0 → to_come new < to_come s
+less_ended s new free e = let all = all_to_come s free in omega (arith, all, e)
+
+-- a message was read
+pub less_read : (s new : SessionState) → IsFree s → IsFree new → new.left < s.left → to_come new < to_come s
+less_read s new free after h = let all = all_to_come s free in let then = all_to_come new after in omega (arith, all, then, h)
+
+some_left_by : (h close : Bool) (left : ℕ) → close ≡ (h || nat_le left 1) → close ≡ false → 1 < left
+some_left_by true close left e f = absurd (cc (sym e ∙ f))
+some_left_by false close left e f = let g : nat_le left 1 ≡ false = sym e ∙ f in grind (arith, nat_tests)
+
+-- a command was read
+pub less_asked : (s : SessionState) (head : Head) (close : Bool) (unread : List ℕ) → IsFree s → close ≡ (head.close || nat_le s.left 1)
+    → (new : SessionState) → new ≡ record s { unread = unread; left = s.left - 1; waiting = waiting_for close } → to_come new < to_come s
+less_asked s head close unread free c new e =
+    subst (λ (n : SessionState). to_come n < to_come s) (sym e)
+    (subst (λ (d : Standing). still (stage_of d (waiting_for close)) (s.left - 1) < to_come s) (sym free.live)
+    (subst (λ (n : ℕ). still (stage_of Live (waiting_for close)) (s.left - 1) < n) (sym (all_to_come s free)) (by_close close (some_left_by head.close close s.left c))))
+  where
+    by_close : (b : Bool) → (b ≡ false → 1 < s.left) → still (stage_of Live (waiting_for b)) (s.left - 1) < s.left + 1
+    by_close true some = omega arith
+    by_close false some = let h = some refl in omega (arith, h)
+
+pub nearer_then : (a b c : SessionState) → IsNearer a b → IsNearer b c → IsNearer a c
+nearer_then a b c (inl h) (inl k) = inl (omega (arith, h, k))
+nearer_then a b c (inl h) (inr k) = inl (omega (arith, h, k.1))
+nearer_then a b c (inr h) (inl k) = inl (omega (arith, h.1, k))
+nearer_then a b c (inr h) (inr k) = inr (k.0 ∙ h.0, k.1 ∙ h.1)
+
+pub nearer_less : (a b c : SessionState) → IsNearer a b → to_come c < to_come b → to_come c < to_come a
+nearer_less a b c (inl h) k = omega (arith, h, k)
+nearer_less a b c (inr h) k = omega (arith, h.1, k)
+
+-- the answer to a command is told
+pub told_still : (left : ℕ) (d new : Standing) (w : Waiting) (close : Bool) → close ≡ is_last w → w ≢ Nothing → new ≡ standing_after close d → still (stage_of new Nothing) left ≡ still (stage_of d w) left
+told_still left d new w close c waits e =
+    ap (λ (z : Standing). still (stage_of z Nothing) left) (e ∙ ap (λ b. standing_after b d) c) ∙ by_waiting w d waits
+  where
+    by_waiting : (w : Waiting) (d : Standing) → w ≢ Nothing → still (stage_of (standing_after (is_last w) d) Nothing) left ≡ still (stage_of d w) left
+    by_waiting Nothing d n = absurd (n refl)
+    by_waiting Answer Live n = refl
+    by_waiting Answer Closed n = refl
+    by_waiting Answer (Refused status) n = refl
+    by_waiting LastAnswer Live n = refl
+    by_waiting LastAnswer Closed n = refl
+    by_waiting LastAnswer (Refused status) n = refl
+
+-- ---- what the reading comes to, of the session
+
+abbrev pub Limits : Type 0
+Limits = (bytes : List ℕ) (found : Found) → IsFound bytes found → IsWithinLimits bytes found
+
+pub read_out : Limits → (o : Option Command) (s v new : SessionState) (bytes : List ℕ) (r : Reading) → v ≡ s → bytes ≡ v.unread → (o ≡ None → IsQuiet (read_state bytes r)) → new ≡ with_reading s r → IsReadOut o new
+read_out limits (Some what) s v new bytes r ev eb q e = tt
+read_out limits None s v new bytes r ev eb q e =
+    let bytes_is : bytes ≡ s.unread = eb ∙ ap (λ (x : SessionState). x.unread) ev in
+    let quiet = subst (λ (b : List ℕ). IsQuiet (read_state b r)) bytes_is (q refl) in
+    subst (λ (n : SessionState). IsQuiet n × IsShort n) (sym e) ((quiet.0, quiet.1), λ live. unfinished_short limits _ (quiet.0 live))
+
+fewer_same : (o : Option Command) (a b s n : SessionState) → to_come a ≡ to_come s → to_come b ≡ to_come n → a.unread ≡ s.unread → b.unread ≡ n.unread → IsFewer o a b → IsFewer o s n
+fewer_same (Some what) a b s n ea eb ua ub h = omega (arith, ea, eb, h)
+fewer_same None a b s n ea eb ua ub (inl h) = inl (omega (arith, ea, eb, h))
+fewer_same None a b s n ea eb ua ub (inr h) = inr (sym ub ∙ h.0 ∙ ua, sym eb ∙ h.1 ∙ ea)
+
+pub fewer_by : (o : Option Command) (s v new : SessionState) (bytes : List ℕ) (start r : Reading) → v ≡ s → bytes ≡ v.unread → start ≡ record { read = 0; left = v.left; answers = []; standing = Live; waiting = Nothing } → IsFree s
+    → IsFewer o (read_state bytes start) (read_state bytes r) → new ≡ with_reading s r → IsFewer o s new
+fewer_by o s v new bytes start r ev eb es free h e =
+    let bytes_is : bytes ≡ s.unread = eb ∙ ap (λ (x : SessionState). x.unread) ev in
+    let all : to_come (read_state bytes start) ≡ to_come s = ap (λ (x : Reading). to_come (read_state bytes x)) es ∙ ap (λ (x : SessionState). x.left + 1) ev ∙ sym (all_to_come s free) in
+    let unread : drop start.read bytes ≡ s.unread = ap (λ (x : Reading). drop x.read bytes) es ∙ bytes_is in
+    fewer_same o (read_state bytes start) (read_state bytes r) s new all (sym (ap to_come e)) unread (ap (λ b. drop r.read b) bytes_is ∙ sym (ap (λ (x : SessionState). x.unread) e)) h

@@ -11,7 +11,7 @@ use Rattle.kds_session.specs.declared.state.Waiting.TheVariants.{Nothing, Answer
 use Rattle.kds_session.specs.Messages.{Message, Ending, closed, refused, Falls, IsUnfinished}
 use Rattle.kds_session.specs.Text.{Answers, commands, responses, end_text, IsHttp}
 use Rattle.kds_session.specs.States.{SessionState}
-use Rattle.kds_session.specs.Standing.{Stage, going, over, stage_of, stage_text, Leads, Awaits, StandsFor, IsQuiet}
+use Rattle.kds_session.specs.Standing.{Stage, going, over, stage_of, stage_text, Leads, Awaits, StandsFor, IsQuiet, end_in, end_of}
 use Rattle.kds_session.specs.Next.{IsNext}
 use Rattle.kds_session.proofs.Readings.{goes_ending}
 use Rattle.kds_session.proofs.Responses.{responses-front, responses-enough, commands-append}
@@ -23,25 +23,47 @@ OneReading = (before : ℕ) (bytes : List ℕ) (ms ns : List Message) (ending ot
 -- ---- all that was fed, where the session is quiet
 
 -- how the bytes that were fed end
-ending_of : (stage : Stage) (fed : List ℕ) (done : List Message) (left : ℕ) (unread : List ℕ) → Leads stage fed done left unread → (stage ≡ going → IsUnfinished unread) → (ending : Ending) × (stage_text stage ≡ end_text ending) × Falls 0 fed done ending
-ending_of going fed done left unread g u = let e = goes_ending fed done left unread g (u refl) in (e.0, sym e.1, e.2)
-ending_of (over ending) fed done left unread g u = (ending, refl, subst (λ (z : List ℕ). Falls 0 z done ending) (append-nil fed) (g []))
+ending_of : (stage : Stage) (fed : List ℕ) (done : List Message) (left : ℕ) (unread : List ℕ) → Leads stage fed done left unread → (stage ≡ going → IsUnfinished unread)
+    → (stage_text stage ≡ end_text (end_in stage unread)) × Falls 0 fed done (end_in stage unread)
+ending_of going fed done left [] g u = (refl, goes_ending fed done left [] g (u refl))
+ending_of going fed done left (x ∷ xs) g u = (refl, goes_ending fed done left (x ∷ xs) g (u refl))
+ending_of (over ending) fed done left unread g u = (refl, subst (λ (z : List ℕ). Falls 0 z done ending) (append-nil fed) (g []))
 
 live_by : (d : Standing) (w : Waiting) → stage_of d w ≡ going → d ≡ Live
 live_by Live w e = refl
 live_by Closed w e = absurd (cc e)
 live_by (Refused status) w e = absurd (cc e)
 
-pub quiet_text : (s : SessionState) (fed : List ℕ) (given : List Command) (told : Answers) (sent : List ℕ) → StandsFor s fed given told sent → IsQuiet s → IsHttp fed given told (sent ++ s.output)
+pub quiet_text : (s : SessionState) (fed : List ℕ) (given : List Command) (told : Answers) (sent : List ℕ) → StandsFor s fed given told sent → IsQuiet s
+    → (http : IsHttp fed given told (sent ++ s.output)) × (http.ending ≡ end_of s)
 quiet_text s fed given told sent st quiet =
-    let e = ending_of (stage_of s.standing s.waiting) fed st.done s.left s.unread st.leads (λ g. quiet.0 (live_by s.standing s.waiting g)) in record {
-      messages = st.done;
-      ending = e.0;
-      falls = e.2;
-      commands_are = sym st.given_is;
-      one_each = subst (λ (w : Waiting). Awaits w st.done told) quiet.1 st.awaited ∙ ap length (sym st.given_is);
-      text_is = st.written ∙ ap (λ z. responses 0 st.done told ++ z) e.1;
-    }
+    let e = ending_of (stage_of s.standing s.waiting) fed st.done s.left s.unread st.leads (λ g. quiet.0 (live_by s.standing s.waiting g)) in (
+      record {
+        messages = st.done;
+        ending = end_of s;
+        falls = e.1;
+        commands_are = sym st.given_is;
+        one_each = subst (λ (w : Waiting). Awaits w st.done told) quiet.1 st.awaited ∙ ap length (sym st.given_is);
+        text_is = st.written ∙ ap (λ z. responses 0 st.done told ++ z) e.0;
+      },
+      refl,
+    )
+
+-- ---- bytes that follow the end
+
+over_more : (stage : Stage) (fed : List ℕ) (done : List Message) (left : ℕ) (unread more : List ℕ) → (stage ≡ going → ⊥) → Leads stage fed done left unread → Leads stage (fed ++ more) done left unread
+over_more going fed done left unread more ends g = absurd (ends refl)
+over_more (over ending) fed done left unread more ends g = λ rest. subst (λ (z : List ℕ). Falls 0 z done ending) (sym (append_assoc fed more rest)) (g (more ++ rest))
+
+pub nothing_more : (s : SessionState) (fed : List ℕ) (given : List Command) (told : Answers) (sent : List ℕ) → StandsFor s fed given told sent → s.standing ≢ Live → (more : List ℕ) → StandsFor s (fed ++ more) given told sent
+nothing_more s fed given told sent st ended more = record {
+  done = st.done;
+  given_is = st.given_is;
+  awaited = st.awaited;
+  live = st.live;
+  leads = over_more (stage_of s.standing s.waiting) fed st.done s.left s.unread more (λ g. ended (live_by s.standing s.waiting g)) st.leads;
+  written = st.written;
+}
 
 -- ---- all that is fed, at any moment
 
@@ -106,7 +128,8 @@ get_seam (x ∷ xs) y ys = get_seam xs y ys
 pub next_is : OneReading → (o : Option Command) (new : SessionState) (fed : List ℕ) (given : List Command) (told : Answers) (sent : List ℕ) → IsNext o new fed given told sent
     → (ms : List Message) (ending : Ending) → Falls 0 fed ms ending → o ≡ slice_get (commands ms) (length given)
 next_is one None new fed given told sent n ms ending f =
-    let h = quiet_text new fed given told sent n.0 n.1 in
+    let q = quiet_text new fed given told sent n.0 n.1 in
+    let h = q.0 in
     let same = one 0 fed ms h.messages ending h.ending f h.falls in
     sym (ap (λ z. slice_get z (length given)) (ap commands same.0 ∙ h.commands_are) ∙ slice_get_past given (length given) (omega arith))
 next_is one (Some what) new fed given told sent n ms ending f =

@@ -6,7 +6,7 @@ use Rattle.kds_session.specs.declared.state.Standing.{Standing}
 use Rattle.kds_session.specs.declared.state.Standing.TheVariants.{Live, Closed, Refused}
 use Rattle.kds_session.specs.declared.state.Waiting.{Waiting}
 use Rattle.kds_session.specs.declared.state.Waiting.TheVariants.{Nothing, Answer, LastAnswer}
-use Rattle.kds_session.specs.Messages.{Message, IsUnfinished, Ending, closed, refused, Falls, closes}
+use Rattle.kds_session.specs.Messages.{Message, IsUnfinished, Ending, boundary, inside, closed, refused, Falls, closes}
 use Rattle.kds_session.specs.Text.{Answers, asked_by, commands, responses, end_text}
 use Rattle.kds_session.specs.States.{SessionState}
 
@@ -80,3 +80,21 @@ HasNoneLeft (over ending) unread = Unit {0}
 -- the session is at the boundary of two messages, or past the last one
 abbrev pub IsAtBoundary : SessionState → Type 0
 IsAtBoundary s = HasNoneLeft (stage_of s.standing s.waiting) s.unread
+
+-- How all bytes that were fed end, where the session is quiet: at a boundary or inside a message, or as the
+-- connection ended before.
+abbrev pub end_in : Stage → List ℕ → Ending
+end_in going [] = boundary
+end_in going (b ∷ bs) = inside
+end_in (over ending) unread = ending
+
+abbrev pub end_of : SessionState → Ending
+end_of s = end_in (stage_of s.standing s.waiting) s.unread
+
+-- what is still to come on a connection: its requests and its end, or nothing once it has ended
+abbrev pub still : Stage → ℕ → ℕ
+still going left = left + 1
+still (over ending) left = 0
+
+abbrev pub to_come : SessionState → ℕ
+to_come s = still (stage_of s.standing s.waiting) s.left

@@ -16,7 +16,8 @@ use Rattle.kds_session.specs.declared.state.Waiting.TheVariants.{Nothing}
 use Rattle.kds_session.specs.Messages.{IsUnfinished, IsWhole}
 use Rattle.kds_session.specs.Text.{Answers}
 use Rattle.kds_session.specs.States.{SessionState}
-use Rattle.kds_session.specs.Standing.{StandsFor, IsQuiet}
+use Rattle.kds_session.specs.Standing.{StandsFor, IsQuiet, to_come}
+use Rattle.kds_session.specs.Next.{IsNearer}
 
 -- ---- what stands at the front of the unread bytes
 
@@ -55,6 +56,6 @@ IsAfter (step.Command what) new fed given told sent = StandsFor new fed (given +
 -- Something is known without the bytes that were fed: after an answered fault the session is free and fewer requests
 -- may still come, and a command is lawful and waits.
 abbrev pub IsPlainly : Step → (old new : SessionState) → Type 0
-IsPlainly step.Stop old new = new.waiting ≡ Nothing
+IsPlainly step.Stop old new = IsQuiet new × IsNearer old new
 IsPlainly step.Answered old new = IsFree new × (new.left < old.left)
-IsPlainly (step.Command what) old new = (new.waiting ≢ Nothing) × IsLawfulCommand what
+IsPlainly (step.Command what) old new = (new.waiting ≢ Nothing) × IsLawfulCommand what × (to_come new < to_come old)

@@ -1,11 +1,12 @@
 //! Laws of what sessions stand for.
-ghost use Rattle.std.specs.Prelude.{◌≡◌, ◌++◌, List, ℕ};
+ghost use Rattle.std.specs.Prelude.{◌≡◌, ◌≢◌, ◌++◌, List, ℕ};
 ghost use Rattle.kds_defs.specs.declared.command.Command.{Command};
 ghost use Rattle.kds_session.specs.Messages.{Message, Ending, Falls};
 ghost use Rattle.kds_session.specs.Text.{Answers, commands, responses, end_text, IsHttp};
 ghost use Rattle.kds_session.specs.States.{SessionState};
-ghost use Rattle.kds_session.specs.Standing.{StandsFor, IsQuiet};
+ghost use Rattle.kds_session.specs.Standing.{StandsFor, IsQuiet, end_of};
 
+use crate::state::Standing;
 use kds_head::{decided_stays, found_within_limits, no_bytes_need_more, one_finding};
 
 /// Bytes fall into messages in one way at most.
@@ -20,10 +21,17 @@ pub fn one_reading()
 }
 
 /// Where `next` gave no command, the commands that were given and what was written are those of all bytes that were
-/// fed, with the answers that were told. So it doesn't matter in which pieces the bytes came.
+/// fed, with the answers that were told, and these bytes end as the session shows. So it doesn't matter in which
+/// pieces the bytes came.
 pub fn whole_text()
     ensures { (s : SessionState) (fed : List ℕ) (given : List Command) (told : Answers) (sent : List ℕ)
-        → StandsFor s fed given told sent → IsQuiet s → IsHttp fed given told (sent ++ s.output) }
+        → StandsFor s fed given told sent → IsQuiet s → (http : IsHttp fed given told (sent ++ s.output)) × (http.ending ≡ end_of s) }
+{}
+
+/// Once the session isn't live, it doesn't matter which bytes follow.
+pub fn nothing_follows()
+    ensures { (s : SessionState) (fed : List ℕ) (given : List Command) (told : Answers) (sent : List ℕ)
+        → StandsFor s fed given told sent → s.standing ≢ Standing.Live → (more : List ℕ) → StandsFor s (fed ++ more) given told sent }
 {}
 
 /// At every moment, whatever bytes and answers follow, the commands that were given are the first of those of all

@@ -11,6 +11,6 @@ mod request;
 mod session;
 mod state;
 
-pub use laws::{first_part, one_reading, whole_text};
+pub use laws::{first_part, nothing_follows, one_reading, whole_text};
 pub use session::Session;
 pub use state::Standing;

@@ -1,12 +1,12 @@
 //! How a session reads on to the next command.
-ghost use Rattle.std.specs.Prelude.{◌≡◌, ◌<◌, ◌≤◌, ◌^◌, ◌++◌, ◌||◌, [], ℕ, List, drop, length, take, nat_le, true, false, IfOk, IfSome, IsUtf8, OnOk};
+ghost use Rattle.std.specs.Prelude.{◌≡◌, ◌<◌, ◌≤◌, ◌^◌, ◌++◌, ◌||◌, [], ℕ, List, drop, length, take, nat_le, true, false, None, IfOk, IfSome, IsUtf8, OnOk};
 ghost use Rattle.kds_defs.specs.declared.command.Command.{Command};
 ghost use Rattle.kds_defs.specs.Lawful.{IsLawfulCommand};
 ghost use Rattle.kds_head.specs.Response.{is_refusal, response_text};
 ghost use Rattle.kds_reply.specs.Replies.{fault_reply};
 ghost use Rattle.kds_session.specs.Messages.{IsWhole};
 ghost use Rattle.kds_session.specs.Text.{Answers, answered};
-ghost use Rattle.kds_session.specs.Standing.{StandsFor};
+ghost use Rattle.kds_session.specs.Standing.{StandsFor, IsQuiet};
 
 use crate::front::{Front, front_of};
 use crate::request::request;
@@ -74,7 +74,7 @@ fn put_fault(alloc: Global, problem: &Fault, close: bool, to: &mut Octets) -> Re
 
 impl Reading {
     ghost use Rattle.std.specs.Prelude.{◌+◌, ◌-◌};
-    ghost use Rattle.kds_session.specs.Next.{IsNext, IsWaiting};
+    ghost use Rattle.kds_session.specs.Next.{IsNext, IsWaiting, IsFewer};
     ghost use Rattle.kds_session.specs.Steps.{read_state, IsFree, IsAfter, IsPlainly};
 
     /// Nothing was read, on a live connection on which so many requests may still come.
@@ -184,6 +184,8 @@ impl Reading {
         ensures given { IfOk result (λ o. (fed : List ℕ) (given : List Command) (told : Answers) (sent : List ℕ)
             → StandsFor (read_state bytes.now self.old) fed given told sent → IsNext o (read_state bytes.now self.new) fed given told sent) }
         ensures waits { IfOk result (IsWaiting self.new.waiting) }
+        ensures out { IfOk result (λ o. o ≡ None → IsQuiet (read_state bytes.now self.new)) }
+        ensures fewer { IfOk result (λ o. IsFewer o (read_state bytes.now self.old) (read_state bytes.now self.new)) }
         ensures lawful { IfOk result (λ o. IfSome o IsLawfulCommand) }
         ensures room { OnOk result (self.new.read ≤ length bytes.now) }
     {

@@ -13,7 +13,7 @@ use crate::reading::Reading;
 use crate::state::{Standing, Waiting, is_last, standing_after};
 use kds_base::{Memory, Octets};
 use kds_defs::{Answer, Command};
-use kds_head::response;
+use kds_head::{found_within_limits, response};
 use kds_reply::reply;
 use std::alloc::Global;
 use std::marker::Model;
@@ -49,8 +49,8 @@ fn response_to(alloc: Global, answer: &Answer, close: bool) -> Result<Octets, Me
 }
 
 impl Session {
-    ghost use Rattle.kds_session.specs.Standing.{StandsFor, IsQuiet, IsAtBoundary};
-    ghost use Rattle.kds_session.specs.Next.{IsNext, IsWaiting};
+    ghost use Rattle.kds_session.specs.Standing.{StandsFor, IsAtBoundary, to_come};
+    ghost use Rattle.kds_session.specs.Next.{IsNext, IsWaiting, IsFewer, IsReadOut};
     ghost use Rattle.kds_session.specs.Steps.{with_reading};
 
     /// A live connection of which nothing was read.
@@ -159,10 +159,17 @@ impl Session {
             → StandsFor self.old fed given told sent → (ms : List Message) (ending : Ending) → Falls 0 fed ms ending
             → o ≡ slice_get (commands ms) (length given)) }
         ensures waits { IfOk result (IsWaiting self.new.waiting) }
+
+        // Where no command is given, no whole message is left, and what is left of one is bounded.
+        ensures out { IfOk result (λ o. IsReadOut o self.new) }
+
+        // Less is to come on the connection, or nothing was read.
+        ensures fewer { IfOk result (λ o. IsFewer o self.old self.new) }
         ensures lawful { IfOk result (λ o. IfSome o IsLawfulCommand) }
         ensures err { OnErr result (self.new ≡ self.old) }
     {
         one_reading();
+        found_within_limits();
         if !self.is_live() {
             return Ok(None);
         }
@@ -179,6 +186,7 @@ impl Session {
         ensures stands { OnOk result ((fed : List ℕ) (given : List Command) (told : Answers) (sent : List ℕ)
             → StandsFor self.old fed given told sent → StandsFor self.new fed given (told ++ answer.now ∷ []) sent) }
         ensures free { OnOk result (self.new.waiting ≡ Waiting.Nothing) }
+        ensures as_much { OnOk result (to_come self.new ≡ to_come self.old) }
         ensures err { OnErr result (self.new ≡ self.old) }
     {
         let close = is_last(self.waiting);

@@ -1,11 +1,13 @@
-use Rattle.std.proofs.Common.{◌∙◌, subst, List, ℕ}
+use Rattle.std.proofs.Common.{◌∙◌, subst, sym, ap, inl, inr, refl, List, ℕ}
 use Rattle.kds_head.specs.Find.{IsFound}
 use Rattle.kds_head.specs.declared.found.Found.TheVariants.{Refused}
 use Rattle.kds_session.specs.declared.front.Front.{Front}
 use Rattle.kds_session.specs.Messages.{IsUnfinished}
 use Rattle.kds_session.specs.Steps.{IsFront, read_state}
 use Rattle.kds_session.proofs.Readings.{HeadLaws}
-use Rattle.kds_session.proofs.Stands.{refused_now, refused_state}
+use Rattle.kds_session.specs.States.{SessionState}
+use Rattle.kds_session.specs.Standing.{to_come}
+use Rattle.kds_session.proofs.Stands.{refused_now, refused_state, refused_not_live, less_ended}
 use Rattle.kds_session.proofs.reading.Reading.step.Goals as goal
 
 pub returns-in-Unfinished-clause-after : goal.returns-in-Unfinished-clause-after
@@ -20,3 +22,16 @@ returns-in_ok-refuse-in-Refused-clause-after c = λ fed given told sent st.
     let found = subst (λ (b : List ℕ). IsFound b (Refused c.in-Refused.status)) c.after.ensures front in
     refused_now c.decided_stays.ensures (read_state c.args.bytes.now c.args.self.now) c.in-Refused.status fed given told sent st c.requires.free found _
     (refused_state c.args.bytes.now c.args.self.now c.refuse.new.self c.in-Refused.status c.in_ok-refuse-in-Refused.ensures)
+
+pub returns-in-Unfinished-clause-plain : goal.returns-in-Unfinished-clause-plain
+returns-in-Unfinished-clause-plain c =
+    let front = subst (λ (f : Front). IsFront c.after.result.now f) c.in-Unfinished.is c.in_ok-front_of.ensures.front in
+    let unfinished = subst (λ (b : List ℕ). IsUnfinished b) c.after.ensures front in
+    ((λ live. unfinished, c.requires.free.free), inr (refl, refl))
+
+pub returns-in_ok-refuse-in-Refused-clause-plain : goal.returns-in_ok-refuse-in-Refused-clause-plain
+returns-in_ok-refuse-in-Refused-clause-plain c =
+    let new = refused_state c.args.bytes.now c.args.self.now c.refuse.new.self c.in-Refused.status c.in_ok-refuse-in-Refused.ensures in (
+      (λ live. absurd (refused_not_live c.in-Refused.status (sym (ap (λ (s : SessionState). s.standing) new) ∙ live)), ap (λ (s : SessionState). s.waiting) new ∙ c.requires.free.free),
+      inl (less_ended (read_state c.args.bytes.now c.args.self.now) (read_state c.args.bytes.now c.refuse.new.self) c.requires.free (ap to_come new)),
+    )

@@ -1,6 +1,6 @@
 use Rattle.std.proofs.Common.{◌∙◌, sym, None}
 use Rattle.kds_session.specs.Steps.{IsFree}
-use Rattle.kds_session.proofs.Stands.{next_by}
+use Rattle.kds_session.proofs.Stands.{next_by, read_out, fewer_by}
 use Rattle.kds_session.proofs.Texts.{next_is}
 use Rattle.kds_session.proofs.session.Session.next.Goals as goal
 
@@ -19,3 +19,12 @@ returns-clause-exact c = λ fed given told sent st.
     let free : IsFree c.args.self.now = record { live = c.is_live.ensures.0 c.if-not-is_live.false; free = c.requires } in
     next_is c.one_reading.ensures c.in_ok-what.what c.commit.new.self fed given told sent
     (next_by c.args.self.now _ c.as_slice.result.now c.new-reading.result c.to_command.new.self c.in_ok-what.what c.self.view_is c.as_slice.ensures c.new-reading.ensures free c.in_ok-what.ensures.given c.commit.new.self c.in_ok-commit.ensures.ok fed given told sent st)
+
+pub returns-clause-out : goal.returns-clause-out
+returns-clause-out c =
+    read_out c.found_within_limits.ensures c.in_ok-what.what c.args.self.now _ c.commit.new.self c.as_slice.result.now c.to_command.new.self c.self.view_is c.as_slice.ensures c.in_ok-what.ensures.out c.in_ok-commit.ensures.ok
+
+pub returns-clause-fewer : goal.returns-clause-fewer
+returns-clause-fewer c =
+    let free : IsFree c.args.self.now = record { live = c.is_live.ensures.0 c.if-not-is_live.false; free = c.requires } in
+    fewer_by c.in_ok-what.what c.args.self.now _ c.commit.new.self c.as_slice.result.now c.new-reading.result c.to_command.new.self c.self.view_is c.as_slice.ensures c.new-reading.ensures free c.in_ok-what.ensures.fewer c.in_ok-commit.ensures.ok
