@@ -1,0 +1,124 @@
+//! The bytes between a connection's ends and its session.
+ghost use Rattle.std.specs.Prelude.{◌≡◌, ◌≢◌, ◌≤◌, ◌<◌, ◌⊎◌, [], ◌++◌, List, ℕ, length, true, false, None, Some, IfOk, IfErr, IfSome, OnOk, IsErrOf};
+ghost use Rattle.std.specs.declared.option.Option.{Option};
+ghost use Rattle.std.specs.Io.KnownBytes.{Appends, IsAtEnd, Keeps};
+ghost use Rattle.kds_defs.specs.declared.command.Command.{Command};
+ghost use Rattle.kds_ends.specs.Causes.{Rose, AppendsFront};
+ghost use Rattle.kds_session.specs.Text.{Answers};
+ghost use Rattle.kds_session.specs.States.{SessionState};
+ghost use Rattle.kds_session.specs.Standing.{StandsFor, IsQuiet, to_come, end_of};
+ghost use Rattle.kds_session.specs.declared.state.Standing.TheVariants.{Live};
+ghost use Rattle.kds_session.specs.declared.state.Waiting.TheVariants.{Nothing};
+ghost use Rattle.kds_server.specs.Texts.{Tells, IsAnswerStatus, status_at};
+ghost use Rattle.kds_server.specs.Steps.{Reads, IsReadStop};
+
+use kds_ends::{Sink, Source, Status, write_all};
+use kds_session::{Session, Standing, first_part, nothing_follows, whole_text};
+
+/// The bytes of one read.
+const PIECE_BYTES: usize = 16384;
+
+/// Writes what the session has to send.
+fn flush<K: Sink>(session: &mut Session, out: &mut K) -> Result<(), Status>
+    ensures written { OnOk result (Appends (K.held out.old) (K.held out.new) session.old.output) }
+    ensures stands { OnOk result ((fed : List ℕ) (given : List Command) (told : Answers) (sent : List ℕ)
+        → StandsFor session.old fed given told sent → StandsFor session.new fed given told (sent ++ session.old.output)) }
+    ensures same { OnOk result (session.new ≡ record session.old { output = [] }) }
+    ensures err { IfErr result (λ s. (s ≡ Status.Write) × AppendsFront (K.held out.old) (K.held out.new) session.old.output) }
+    ensures later { K.faults out.old ≤ K.faults out.new }
+    ensures write { IsErrOf result Status.Write → Rose (K.faults out.old) (K.faults out.new) }
+{
+    match write_all(out, session.output()) {
+        Ok(()) => {
+            let count = session.output().len();
+            session.sent(count);
+            Ok(())
+        }
+        Err(_) => Err(Status::Write),
+    }
+}
+
+/// Reads a piece and feeds it. The answer is whether there was one.
+fn read<S: Source>(session: &mut Session, input: &mut S) -> Result<bool, Status>
+    ensures ok { IfOk result (λ more. (all start held : Option (List ℕ)) (given : List Command) (told : Answers)
+        → Reads all (S.left input.old) session.old start held given told → Reads all (S.left input.new) session.new start held given told) }
+    ensures ends { IfOk result (λ more. more ≡ false → IsAtEnd (S.left input.new) × (session.new ≡ session.old)) }
+    ensures grows { session.old.standing ≡ Live → IfOk result (λ more. more ≡ true
+        → (session.new ≡ record session.old { unread = session.new.unread }) × (length session.old.unread < length session.new.unread)) }
+    ensures err { IfErr result (λ s. session.new ≡ session.old) }
+    ensures left { IsErrOf result Status.Read → Keeps (S.left input.old) (S.left input.new) }
+    ensures kinds { IfErr result IsReadStop }
+    ensures later { S.faults input.old ≤ S.faults input.new }
+    ensures read { IsErrOf result Status.Read → Rose (S.faults input.old) (S.faults input.new) }
+{
+    let mut room = [0u8; PIECE_BYTES];
+    match input.read(&mut room) {
+        Ok(0) => Ok(false),
+        Ok(count) => {
+            let (piece, _) = room.split_at(count);
+            match session.feed(piece) {
+                Ok(()) => Ok(true),
+                Err(_) => Err(Status::Memory),
+            }
+        }
+        Err(_) => Err(Status::Read),
+    }
+}
+
+/// How a connection ends of which no more bytes are read. Condition: no command waits.
+fn ending(session: &Session) -> Status
+    requires { session.now.waiting ≡ Nothing }
+    ensures { result ≡ status_at (end_of session.now) }
+{
+    match session.standing() {
+        Standing::Live => {
+            if session.at_boundary() {
+                Status::Done
+            } else {
+                Status::Cut
+            }
+        }
+        Standing::Closed => Status::Done,
+        Standing::Refused(_) => Status::Refused,
+    }
+}
+
+/// Writes what there is to write and, where the connection goes on, reads. The answer is how it has ended, where it
+/// has. Condition: no whole message is left to read, and no command waits.
+pub fn exchange<S: Source, K: Sink>(
+    session: &mut Session,
+    input: &mut S,
+    out: &mut K,
+) -> Option<Status>
+    requires { IsQuiet session.old }
+    ensures goes_on { result ≡ None → (all start : Option (List ℕ)) (given : List Command) (told : Answers)
+        → Reads all (S.left input.old) session.old start (K.held out.old) given told
+        → Reads all (S.left input.new) session.new start (K.held out.new) given told }
+    ensures ended { IfSome result (λ s. (all start : Option (List ℕ)) (given : List Command) (told : Answers)
+        → Reads all (S.left input.old) session.old start (K.held out.old) given told
+        → IfSome all (λ bytes. Tells s bytes (S.left input.new) given told start (K.held out.new))) }
+    ensures waits { result ≡ None → session.new.waiting ≡ Nothing }
+    ensures grows { result ≡ None → (session.old.standing ≡ Live) × (to_come session.new ≡ to_come session.old)
+        × (length session.old.unread < length session.new.unread) }
+    ensures source_later { S.faults input.old ≤ S.faults input.new }
+    ensures sink_later { K.faults out.old ≤ K.faults out.new }
+    ensures read { result ≡ Some Status.Read → Rose (S.faults input.old) (S.faults input.new) }
+    ensures write { result ≡ Some Status.Write → Rose (K.faults out.old) (K.faults out.new) }
+    ensures kinds { IfSome result IsAnswerStatus }
+{
+    first_part();
+    whole_text();
+    nothing_follows();
+    match flush(session, out) {
+        Ok(()) => {}
+        Err(status) => return Some(status),
+    }
+    match session.standing() {
+        Standing::Live => match read(session, input) {
+            Ok(true) => None,
+            Ok(false) => Some(ending(session)),
+            Err(status) => Some(status),
+        },
+        _ => Some(ending(session)),
+    }
+}
