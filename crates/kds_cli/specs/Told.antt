@@ -1,14 +1,16 @@
 -- What a replay's end tells of the bytes and of the output.
-use Rattle.std.specs.Prelude.{◌≡◌, ◌⊎◌, ℕ, List, ◌++◌, Some, IfSome}
+use Rattle.std.specs.Prelude.{◌≡◌, ◌⊎◌, ℕ, List, [], ◌++◌, Some, IfSome}
 use Rattle.std.specs.declared.option.Option.{Option}
 use Rattle.std.specs.Io.KnownBytes.{Appends}
 use Rattle.kds_ends.specs.declared.status.Status.{Status}
 use Rattle.kds_ends.specs.declared.status.Status.TheVariants.{Done, BadLine, Read, Write, Memory, TooLong}
 use Rattle.kds_ends.specs.Causes.{AppendsFront}
 use Rattle.kds_ends.specs.Status.{code_of}
+use Rattle.kds_server.specs.Texts.{IsAnswerStatus}
+use Rattle.kds_server.specs.Serving.{Served}
 use Rattle.kcl_sim.specs.Schedule.{whole, too_long, bad_line, ending, text}
 use Rattle.kds_cli.specs.declared.words.Task.{Task}
-use Rattle.kds_cli.specs.declared.words.Task.TheVariants.{Replay}
+use Rattle.kds_cli.specs.declared.words.Task.TheVariants.{Replay, Answer}
 use Rattle.kds_cli.specs.Words.{error_text}
 
 -- Of the bytes of a schedule, those that are left, and what the sink held and holds. With Done, BadLine
@@ -33,10 +35,17 @@ IsReplayStatus Write = Unit {0}
 IsReplayStatus Memory = Unit {0}
 IsReplayStatus _ = ⊥
 
+-- The machine without turns served a connection, whose end is this; the clock tells so many moments then.
+pub record Answers (all left moments start held : Option (List ℕ)) (status : Status) : Type 0 where
+  pub kind : IsAnswerStatus status
+  pub spent : Option (List ℕ)
+  pub served : Served [] all left moments spent start held status
+
 -- How the program ended: this is its exit status, the error output gained its text unless that output's own
--- faults rose, and a replay's end is told by the bytes.
-pub record EndsSo (code : ℕ) (task : Option Task) (bytes left held now told tells : Option (List ℕ)) (failed : Type 0) : Type 0 where
+-- faults rose, and the end of a replay or a connection is told by the bytes.
+pub record EndsSo (code : ℕ) (task : Option Task) (bytes left moments held now told tells : Option (List ℕ)) (failed : Type 0) : Type 0 where
   pub status : Status
   pub is_code : code ≡ code_of status
   pub error : Appends told tells (error_text status) ⊎ failed
   pub replay : task ≡ Some Replay → IsReplayStatus status × IfSome bytes (λ bs. Tells status bs left held now)
+  pub answer : task ≡ Some Answer → Answers bytes left moments held now status

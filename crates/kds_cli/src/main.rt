@@ -1,6 +1,8 @@
 //! The program: its words, its runs, and the real ends.
 #![tactic(auto)]
 
+#[cfg(test)]
+mod answers;
 mod errors;
 mod feed;
 mod lines;
@@ -13,7 +15,7 @@ mod schedule;
 mod tests;
 mod words;
 
-use kds_ends::{StdSink, StdSource};
+use kds_ends::{StdSink, StdSource, SystemClock};
 use std::env;
 use std::process::ExitCode;
 
@@ -36,5 +38,14 @@ fn main(rt: HostRuntime) -> ExitCode {
     let mut input = StdSource::new(rt.stdin());
     let mut out = StdSink::new(rt.stdout());
     let mut err = StdSink::new(rt.stderr());
-    ExitCode::from(runs::run(&rt, rt.alloc(), &words, &mut input, &mut out, &mut err))
+    let clock = SystemClock::new(rt);
+    ExitCode::from(runs::run(
+        &rt,
+        rt.alloc(),
+        &words,
+        &mut input,
+        &mut out,
+        &mut err,
+        clock,
+    ))
 }

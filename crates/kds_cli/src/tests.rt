@@ -2,8 +2,8 @@
 ghost use Rattle.std.specs.Prelude.{◌<◌};
 
 use crate::runs::run;
-use kds_base::{Items, Octets};
-use kds_ends::{MemSink, MemSource};
+use kds_base::{Items, Moment, Octets};
+use kds_ends::{MemClock, MemSink, MemSource};
 use std::alloc::Global;
 use std::test::Fail;
 
@@ -58,7 +58,10 @@ pub fn run_on(
     let failing = numbers(alloc, writes)?;
     let mut out = MemSink::new(alloc, ROOM, step, failing)?;
     let mut err = MemSink::new(alloc, ROOM, ROOM, Items::new(alloc))?;
-    let code = run(rt, alloc, &given, &mut input, &mut out, &mut err);
+    let mut moments = Items::new(alloc);
+    moments.push(Moment::new(1000).ok_or("moment")?)?;
+    let clock = MemClock::new(moments);
+    let code = run(rt, alloc, &given, &mut input, &mut out, &mut err, clock);
     Ok(Left { code, out, err })
 }
 
