@@ -3,6 +3,7 @@
 
 mod hash;
 mod items;
+pub mod limits;
 mod memory;
 mod moment;
 mod name;

@@ -7,7 +7,7 @@ use Rattle.kds_head.specs.Headers.{Headers, count_named}
 use Rattle.kds_head.specs.Values.{body_length, operation, says_json, closes}
 use Rattle.kds_head.specs.declared.found.Found.{Found}
 use Rattle.kds_head.specs.declared.found.Found.TheVariants.{Refused, Whole}
-use Rattle.kds_head.specs.declared.limits.TheConstants.{HEADERS, BODY_BYTES}
+use Rattle.kds_base.specs.declared.limits.TheConstants.{HEADERS, BODY_BYTES}
 
 -- a case that refuses with a status where a test holds, and the cases after it
 infixr 1 refused◌if◌else◌

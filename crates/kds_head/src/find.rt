@@ -5,11 +5,11 @@ ghost use Rattle.kds_head.specs.Find as spec;
 
 use crate::found::Found;
 use crate::judge::judge;
-use crate::limits::HEAD_BYTES;
 use crate::target::ends_in_target;
 use httparse::spans::{EMPTY_HEADER_SPAN, HeaderSpan, parse_request};
 use httparse::{Error, Status};
 use kds_base::Memory;
+use kds_base::limits::HEAD_BYTES;
 use std::alloc::Global;
 
 /// The bytes that a head may have.

@@ -6,9 +6,9 @@ ghost use Rattle.kds_head.specs.Table.{judged_by};
 
 use crate::fields::covered;
 use crate::found::{Found, Head};
-use crate::limits::{BODY_BYTES, HEADERS};
 use crate::values::{body_length, closes, encodings, lengths, operation, says_json};
 use httparse::spans::{HeaderSpan, RequestSpans, Span};
+use kds_base::limits::{BODY_BYTES, HEADERS};
 use kds_base::{Memory, Octets};
 use std::alloc::Global;
 

@@ -7,7 +7,6 @@ mod find;
 mod found;
 mod judge;
 mod laws;
-pub mod limits;
 mod target;
 #[cfg(test)]
 mod tests;

@@ -1,8 +1,8 @@
-use crate::limits::{HEAD_BYTES, HEADERS};
 use crate::{
     Found, decided_stays, found_within_limits, head, no_bytes_need_more, one_finding, response,
 };
 use kds_base::Octets;
+use kds_base::limits::{HEAD_BYTES, HEADERS};
 use std::test::Fail;
 
 /// The status of a finding: 0 where more is needed, 200 for a whole head.

@@ -7,8 +7,8 @@ ghost use Rattle.kds_head.specs.Headers as spec;
 ghost use Rattle.kds_head.specs.Values as value;
 
 use crate::fields::{any_has, count_named, only_value};
-use crate::limits::LENGTH_DIGITS;
 use httparse::spans::HeaderSpan;
+use kds_base::limits::LENGTH_DIGITS;
 
 fn all_digits(text: &[u8]) -> bool
     ensures { result ≡ list_all is_ascii_digit text.now }

@@ -6,7 +6,7 @@ use Rattle.kds_defs.specs.declared.command.Command.{Command}
 use Rattle.kds_defs.specs.declared.command.Turn.{Turn}
 use Rattle.kds_ends.specs.declared.status.Status.{Status}
 use Rattle.kds_ends.specs.declared.status.Status.TheVariants.{Read, Memory}
-use Rattle.kds_head.specs.declared.limits.TheConstants.{HEAD_BYTES, BODY_BYTES}
+use Rattle.kds_base.specs.declared.limits.TheConstants.{HEAD_BYTES, BODY_BYTES}
 use Rattle.kds_session.specs.Text.{Answers}
 use Rattle.kds_session.specs.States.{SessionState}
 use Rattle.kds_session.specs.Standing.{StandsFor, to_come}

@@ -6,9 +6,9 @@ use Rattle.std.proofs.lemmas.List.{append_assoc, append-nil, length-append, take
 use Rattle.kds_head.specs.declared.found.Head.{Head}
 use Rattle.kds_head.specs.declared.found.Found.{Found}
 use Rattle.kds_head.specs.declared.found.Found.TheVariants.{Need, Refused, Whole}
-use Rattle.kds_head.specs.declared.limits.TheConstants.{HEAD_BYTES, BODY_BYTES}
+use Rattle.kds_base.specs.declared.limits.TheConstants.{HEAD_BYTES, BODY_BYTES}
 use Rattle.kds_head.specs.Find.{IsFound, IsWithinLimits}
-use Rattle.kds_session.specs.declared.limits.TheConstants.{REQUESTS}
+use Rattle.kds_base.specs.declared.limits.TheConstants.{REQUESTS}
 use Rattle.kds_session.specs.Messages.{Message, message_at, Begins, size, rest_of, Ending, boundary, inside, closed, refused, IsWhole, IsShort, IsUnfinished, Ends, Falls, closes}
 use Rattle.kds_session.specs.Standing.{GoesOn, going, end_in}
 

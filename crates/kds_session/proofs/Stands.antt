@@ -13,7 +13,7 @@ use Rattle.kds_head.specs.declared.found.Found.TheVariants.{Refused as RefusedHe
 use Rattle.kds_head.specs.declared.found.Found.{Found}
 use Rattle.kds_head.specs.Find.{IsFound, IsWithinLimits}
 use Rattle.kds_head.specs.Response.{response_text}
-use Rattle.kds_session.specs.declared.limits.TheConstants.{REQUESTS}
+use Rattle.kds_base.specs.declared.limits.TheConstants.{REQUESTS}
 use Rattle.kds_session.specs.declared.reading.Reading.{Reading}
 use Rattle.kds_session.specs.declared.state.Standing.{Standing}
 use Rattle.kds_session.specs.declared.state.Standing.TheVariants.{Live, Closed, Refused}

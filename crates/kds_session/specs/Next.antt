@@ -1,7 +1,7 @@
 -- What `next` gives, and what the session stands for then.
 use Rattle.std.specs.Prelude.{◌≡◌, ◌≢◌, ◌⊎◌, ◌<◌, ◌+◌, ℕ, List, ◌∷◌, [], ◌++◌, length, Option, Some, None}
 use Rattle.kds_defs.specs.declared.command.Command.{Command}
-use Rattle.kds_head.specs.declared.limits.TheConstants.{HEAD_BYTES, BODY_BYTES}
+use Rattle.kds_base.specs.declared.limits.TheConstants.{HEAD_BYTES, BODY_BYTES}
 use Rattle.kds_session.specs.declared.state.Standing.TheVariants.{Live}
 use Rattle.kds_session.specs.declared.state.Waiting.{Waiting}
 use Rattle.kds_session.specs.declared.state.Waiting.TheVariants.{Nothing}

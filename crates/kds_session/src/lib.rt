@@ -4,7 +4,6 @@
 
 mod front;
 mod laws;
-pub mod limits;
 mod queue;
 mod reading;
 mod request;

@@ -7,10 +7,10 @@ ghost use Rattle.kds_reply.specs.Replies.{reply_of};
 ghost use Rattle.kds_session.specs.Text.{Answers, answered, commands};
 
 use crate::laws::one_reading;
-use crate::limits::REQUESTS;
 use crate::queue::Queue;
 use crate::reading::Reading;
 use crate::state::{Standing, Waiting, is_last, standing_after};
+use kds_base::limits::REQUESTS;
 use kds_base::{Memory, Octets};
 use kds_defs::{Answer, Command};
 use kds_head::{found_within_limits, response};
