@@ -4,7 +4,7 @@ use Rattle.kds_defs.specs.Journal.{Journal}
 use Rattle.kds_stream.specs.Showing.{Shows}
 use Rattle.kds_stream.specs.Value.{StreamValue}
 use Rattle.kds_service.specs.Clocks.{advanced, retreated, settled}
-use Rattle.kds_service.specs.Shown.{AreAt, AreShown, IsRising, ServiceValue, ShowsAll, is_among, names_of, numbers_of, service}
+use Rattle.kds_service.specs.Shown.{AreAt, AreShown, IsRising, ServiceValue, ShowsAll, is_among, numbers_of}
 
 -- ---- where the streams stand
 

@@ -1,5 +1,5 @@
 -- What CreateStream leads to.
-use Rattle.std.proofs.Common.{◌≡◌, ℕ, ◌+◌, ◌<◌, Bool, true, false, List, [], ◌∷◌, ◌++◌, length, Option, Some, None, refl, sym, ap, subst, ◌∙◌, arith}
+use Rattle.std.proofs.Common.{◌≡◌, ℕ, ◌+◌, ◌<◌, true, false, List, [], ◌∷◌, ◌++◌, length, sym, ap, subst, ◌∙◌, arith}
 use Rattle.std.specs.Prelude.{◌==◌, ◌||◌, is_some, nat_le, nat_lt, Ok, Err}
 use Rattle.kds_defs.specs.declared.command.Command.TheVariants as command
 use Rattle.kds_defs.specs.declared.entry.Entry.TheVariants as entry
@@ -15,8 +15,8 @@ use Rattle.kds_defs.proofs.Decisions.{after_accepted, passed_if, refused_if}
 use Rattle.kds_stream.specs.Showing.{IsFresh, Shows}
 use Rattle.kds_stream.specs.Value.{StreamValue}
 use Rattle.kds_service.proofs.Leading.{refused_leads}
-use Rattle.kds_service.proofs.Readings.{live_count, none_named, open_are, some_named}
-use Rattle.kds_service.specs.Places.{is_full, open_total, place_of}
+use Rattle.kds_service.proofs.Readings.{live_count, open_are, some_named}
+use Rattle.kds_service.specs.Places.{is_full, place_of}
 use Rattle.kds_service.specs.Shown.{Leads, ServiceValue, ShowsAll, service}
 
 -- a live stream has the name exactly where one of the service's has it

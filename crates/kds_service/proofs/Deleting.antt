@@ -1,5 +1,5 @@
 -- What DeleteStream leads to.
-use Rattle.std.proofs.Common.{◌≡◌, ℕ, List, [], ◌∷◌, remove, slice_get, Option, Some, sym, ap, subst, ◌∙◌}
+use Rattle.std.proofs.Common.{◌≡◌, ℕ, List, [], ◌∷◌, remove, slice_get, Some, sym, subst}
 use Rattle.std.specs.Prelude.{Ok}
 use Rattle.kds_defs.specs.declared.command.Command.TheVariants as command
 use Rattle.kds_defs.specs.declared.entry.Entry.TheVariants as entry

@@ -3,10 +3,9 @@ use Rattle.std.proofs.Common.{◌≡◌, ℕ, Bool, List, [], ◌∷◌, filter,
 use Rattle.std.specs.Prelude.{Ok}
 use Rattle.kds_defs.specs.declared.command.Command.TheVariants as command
 use Rattle.kds_defs.specs.declared.reply.Reply.TheVariants as reply
-use Rattle.kds_defs.specs.Histories.{answer_of}
 use Rattle.kds_defs.specs.Journal.{Journal}
 use Rattle.kds_defs.specs.Listings.{are_more, is_after_name, names_after, names_in_order, streams}
-use Rattle.kds_defs.specs.Streams.{live_streams, name_of}
+use Rattle.kds_defs.specs.Streams.{name_of}
 use Rattle.kds_stream.specs.Value.{StreamValue}
 use Rattle.kds_service.proofs.Leading.{read_leads}
 use Rattle.kds_service.proofs.Readings.{live_are}

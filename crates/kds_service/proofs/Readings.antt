@@ -1,6 +1,6 @@
 -- What the streams of a service say of the journal that they show.
-use Rattle.std.proofs.Common.{◌≡◌, ◌≢◌, ℕ, zero, suc, ◌+◌, ◌-◌, ◌<◌, ◌≤◌, Bool, true, false, ◌==◌, cond, List, [], ◌∷◌, length, slice_get, Option, Some, None, refl, sym, ap, subst, ◌∙◌, arith}
-use Rattle.std.specs.Prelude.{◌||◌, is_some, nat_le, not}
+use Rattle.std.proofs.Common.{◌≡◌, ◌≢◌, ℕ, zero, suc, ◌+◌, ◌<◌, ◌≤◌, Bool, true, false, ◌==◌, cond, List, [], ◌∷◌, length, slice_get, Option, Some, None, refl, sym, ap, subst, ◌∙◌, arith}
+use Rattle.std.specs.Prelude.{is_some, nat_le, not}
 use Rattle.std.specs.Cmp.Lexicographic.{nat_list_eq_equiv}
 use Rattle.std.specs.List.{find, filter, position_from}
 use Rattle.std.proofs.lemmas.Bool.{eqb-false, eqb-true}
@@ -10,7 +10,7 @@ use Rattle.std.proofs.lemmas.Option.{none-some}
 use Rattle.kds_defs.specs.declared.limits.TheConstants.{OPEN_SHARDS}
 use Rattle.kds_defs.specs.Journal.{Journal}
 use Rattle.kds_defs.specs.Shards.{is_open, open_count, open_in}
-use Rattle.kds_defs.specs.Streams.{is_live, live_streams, made_count, name_of, numbers_from, same_name, stream_named}
+use Rattle.kds_defs.specs.Streams.{is_live, live_streams, name_of, numbers_from, same_name, stream_named}
 use Rattle.kds_stream.specs.Showing.{IsFresh, Shows}
 use Rattle.kds_stream.specs.Value.{StreamValue}
 use Rattle.kds_service.proofs.Lists.{AreUpTo, either_way, neither, not_below, same_some, unequal}
@@ -52,7 +52,7 @@ live_above log low (suc count) (v ∷ vs) rising below shown others =
     let same = is_next v.no low e in
     let live : is_live log (low + 1) ≡ true = ap (is_live log) (sym same) ∙ shown.0.live in
     let after = live_above log (low + 1) count vs (subst (λ n. IsRising n (numbers_of vs)) same rising.1) (subst (λ n. AreUpTo n vs) (end low count) below.1) shown.1
-        (λ s above out. others s (omega arith) (neither (v.no == s) (is_among (numbers_of vs) s) (unequal v.no s (λ is. apart v.no s low same above is)) out)) in
+    (λ s above out. others s (omega arith) (neither (v.no == s) (is_among (numbers_of vs) s) (unequal v.no s (λ is. apart v.no s low same above is)) out)) in
     ap (λ b. cond b ((low + 1) ∷ rest) rest) live ∙ ap (λ ns. (low + 1) ∷ ns) after ∙ ap (λ n. n ∷ numbers_of vs) (sym same))
     (λ e.
     let past = later v.no low e rising.0 in

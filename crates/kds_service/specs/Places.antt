@@ -1,5 +1,5 @@
 -- Where a stream stands among those of the service, and how much they are together.
-use Rattle.std.specs.Prelude.{ℕ, ◌≡◌, ◌+◌, ◌==◌, Bool, ◌||◌, nat_le, nat_lt, List, [], ◌∷◌, length, map, Option}
+use Rattle.std.specs.Prelude.{ℕ, ◌≡◌, ◌+◌, ◌==◌, Bool, ◌||◌, nat_le, nat_lt, List, [], ◌∷◌, length, Option}
 use Rattle.std.specs.List.{filter, position_from}
 use Rattle.std.specs.Map.{keys_of, values_of}
 use Rattle.kds_defs.specs.declared.limits.TheConstants.{LIVE_STREAMS, OPEN_SHARDS}

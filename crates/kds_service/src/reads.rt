@@ -106,12 +106,7 @@ pub fn shards(
 
 /// ListShards by a token: one that is too old is refused before its stream is looked for
 /// (Kinesis API Reference, ListShards).
-pub fn more(
-    streams: &Streams,
-    clock: Moment,
-    page: &Page,
-    limit: u32,
-) -> Result<Answer, Memory>
+pub fn more(streams: &Streams, clock: Moment, page: &Page, limit: u32) -> Result<Answer, Memory>
     requires placed { ArePlaced clock streams.now.entries }
     requires limit { IsLimit limit }
     ensures { IfOk result (LeadsTo clock (values streams.now) (values streams.now) (command.More page.now limit)) }

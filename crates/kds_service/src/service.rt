@@ -93,12 +93,6 @@ impl Service {
         ensures kept { OnErr result (self.new ≡ self.old) }
     {
         let alloc = *self.streams.allocator();
-        serve(
-            alloc,
-            &mut self.streams,
-            &mut self.made,
-            self.clock,
-            what,
-        )
+        serve(alloc, &mut self.streams, &mut self.made, self.clock, what)
     }
 }

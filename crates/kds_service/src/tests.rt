@@ -17,6 +17,10 @@ fn refusal(service: &mut Service, what: Command) -> Result<Option<Refusal>, Memo
     Ok(answer.err())
 }
 
+fn moment(ms: u64) -> Moment {
+    Moment::new(ms).unwrap_or(Moment::start())
+}
+
 fn name(alloc: Global, text: &str) -> Result<Name, Memory>
     requires { IsName text.now }
     ensures { IfOk result IsName }
@@ -62,7 +66,10 @@ fn limits(rt: HostRuntime) -> Result<(), Fail> {
         assert_eq!(rt; got, want, "of {text}");
     }
     assert_eq!(rt; delete(&mut service, rt.alloc(), "t")?, None);
-    assert_eq!(rt; delete(&mut service, rt.alloc(), "t")?, Some(Refusal::NoStream));
+    assert_eq!(rt;
+        delete(&mut service, rt.alloc(), "t")?,
+        Some(Refusal::NoStream)
+    );
     assert_eq!(rt; create(&mut service, rt.alloc(), "u", 499)?, None);
     Ok(())
 }
@@ -70,25 +77,26 @@ fn limits(rt: HostRuntime) -> Result<(), Fail> {
 #[test]
 fn tokens(rt: HostRuntime) -> Result<(), Fail> {
     let mut service = Service::new(rt.alloc());
+    service.advance(moment(300_001));
     assert_eq!(rt; create(&mut service, rt.alloc(), "s", 1)?, None);
     assert_eq!(rt; delete(&mut service, rt.alloc(), "s")?, None);
     assert_eq!(rt; create(&mut service, rt.alloc(), "s", 1)?, None);
     let cases = [
-        (1, 0, 300_000, Some(Refusal::NoStream)),
-        (2, 0, 300_000, None),
-        (2, 1, 300_000, Some(Refusal::NoShard)),
-        (1, 0, 300_001, Some(Refusal::Expired)),
+        (1, 0, 1, Some(Refusal::NoStream)),
+        (2, 0, 1, None),
+        (2, 1, 1, Some(Refusal::NoShard)),
+        (1, 0, 0, Some(Refusal::Expired)),
+        (2, 0, 0, Some(Refusal::Expired)),
     ];
-    for (stream, shard, ms, want) in cases {
-        service.advance(Moment::new(ms).unwrap_or(Moment::start()));
+    for (stream, shard, issued, want) in cases {
         let iter = Iter {
             stream: StreamNo(stream),
             shard: ShardNo(shard),
             position: 0,
-            issued: Moment::start(),
+            issued: moment(issued),
         };
         let got = refusal(&mut service, Command::Records { iter, limit: 1 })?;
-        assert_eq!(rt; got, want, "of {stream} at {ms}");
+        assert_eq!(rt; got, want, "of {stream} issued at {issued}");
     }
     Ok(())
 }

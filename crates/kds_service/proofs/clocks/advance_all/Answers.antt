@@ -1,4 +1,4 @@
-use Rattle.std.proofs.Common.{map, slice_get, slice_set, sym, ap, subst, ◌∙◌, arith}
+use Rattle.std.proofs.Common.{slice_get, slice_set, sym, ap, subst, ◌∙◌, arith}
 use Rattle.indexmap.specs.IndexMap.{values}
 use Rattle.kds_service.proofs.Entries.{keys_set, values_set}
 use Rattle.kds_service.proofs.Lists.{at_get, get_rest, set_rest, shown_get, shown_step}

@@ -1,4 +1,4 @@
-use Rattle.std.proofs.Common.{◌≡◌, ◌+◌, ◌-◌, ◌<◌, ℕ, drop, sym, ap, ◌∙◌, arith}
+use Rattle.std.proofs.Common.{◌≡◌, ◌+◌, ◌-◌, drop, sym, ap, ◌∙◌, arith}
 use Rattle.indexmap.specs.IndexMap.{values}
 use Rattle.kds_defs.specs.Listings.{names_in_order, with_name}
 use Rattle.kds_service.proofs.Lists.{drop_get}

@@ -1,4 +1,4 @@
-use Rattle.std.proofs.Common.{◌≡◌, ◌+◌, drop, insert, take, ◌++◌}
+use Rattle.std.proofs.Common.{◌≡◌, drop, take, ◌++◌}
 use Rattle.kds_defs.specs.Listings.{with_name}
 use Rattle.kds_service.proofs.naming.place_before.Given as goal
 

@@ -1,9 +1,8 @@
 use Rattle.std.proofs.Common.{map, refl, sym, ap, subst, ◌∙◌}
 use Rattle.indexmap.specs.IndexMap.{values}
-use Rattle.kds_stream.specs.Value.{StreamValue}
 use Rattle.kds_service.proofs.Clocked.{advanced_at, back_at, back_shown, kept_of, shows_along}
 use Rattle.kds_service.proofs.Entries.{placed_along}
-use Rattle.kds_service.specs.Clocks.{advanced, gone_back, retreated}
+use Rattle.kds_service.specs.Clocks.{advanced, retreated}
 use Rattle.kds_service.specs.Shown.{AreAt, AreShown, ServiceValue, ShowsAll, names_of, numbers_of, service}
 use Rattle.kds_service.specs.contracts.service.Service.{the_view}
 use Rattle.kds_service.proofs.service.Service.advance.Goals as goal
