@@ -66,7 +66,7 @@ impl Service {
     }
 
     /// The clock of the service, and the clock and the cut of every stream, are again what they were before the
-    /// last advance.
+    /// last advance, since which nothing was changed and nothing was settled.
     pub fn retreat(&mut self)
         requires { CanGoBack self.old }
         ensures { self.new ≡ gone_back self.old }
