@@ -1,5 +1,5 @@
 -- A command that is asked for is lawful.
-use Rattle.std.proofs.Common.{◌≡◌, ℕ, List, Bool, true, false, None, Result, Ok, Err, IfOk, codes, arith, is_some}
+use Rattle.std.proofs.Common.{◌≡◌, ℕ, List, Bool, true, false, None, Ok, IfOk, codes, arith, is_some}
 use Rattle.serde_json.specs.Data.{Data}
 use Rattle.serde_json.specs.Find.{as_str}
 use Rattle.kds_defs.specs.declared.command.Command.{Command}

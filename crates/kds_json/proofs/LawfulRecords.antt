@@ -1,5 +1,5 @@
 -- The records that are to be put are lawful.
-use Rattle.std.proofs.Common.{◌≡◌, ℕ, ◌+◌, ◌≤◌, List, length, nat_le, Option, Some, None, Result, Ok, Err, IfOk, IfSome, codes, refl, arith, is_some}
+use Rattle.std.proofs.Common.{◌≡◌, ℕ, ◌+◌, ◌≤◌, List, length, nat_le, Result, Ok, Err, IfOk, IfSome, codes, refl, arith, is_some}
 use Rattle.std.specs.List.{AllByRecursion, sum_by}
 use Rattle.std.proofs.lemmas.Bool.Decides.{nat_tests}
 use Rattle.serde_json.specs.Data.{Data, Items, no_items, item}

@@ -1,5 +1,5 @@
 -- The members that faults name are text: the steps and the names.
-use Rattle.std.proofs.Common.{◌≡◌, ℕ, List, true, false, Bool, Option, Some, None, Result, Ok, Err, IfOk, IfErr, refl, codes, if◌then◌else◌}
+use Rattle.std.proofs.Common.{ℕ, List, true, false, Bool, Option, Some, None, Result, Ok, Err, IfOk, IfErr, refl, codes, if◌then◌else◌}
 use Rattle.std.specs.Str.{IsUtf8, is_utf8, chars}
 use Rattle.std.proofs.lemmas.Str.{IsUtf8-from_is_utf8}
 use Rattle.serde_json.specs.Data.{Data}

@@ -3,8 +3,6 @@
 #![tactic(auto)]
 
 mod defaults;
-#[cfg(test)]
-mod fault_tests;
 mod ids;
 mod many;
 mod member;

@@ -1,5 +1,5 @@
 -- The keys of the lines of every journal are text, and so are those of the records that answers tell.
-use Rattle.std.proofs.Common.{◌≡◌, ℕ, zero, suc, ◌+◌, ◌-◌, List, [], ◌∷◌, ◌++◌, map, Bool, true, false, nat_le, ◌==◌, ◌&&◌, if◌then◌else◌, Option, Some, None}
+use Rattle.std.proofs.Common.{ℕ, zero, suc, ◌+◌, ◌-◌, List, [], ◌∷◌, ◌++◌, map, Bool, true, false, nat_le, ◌==◌, ◌&&◌, if◌then◌else◌, Option, Some, None}
 use Rattle.std.specs.List.{AllByRecursion, filter}
 use Rattle.std.specs.Str.{IsUtf8}
 use Rattle.std.proofs.lemmas.Str.{IsUtf8-nil, utf8_lossy-IsUtf8}
@@ -15,16 +15,15 @@ use Rattle.kds_defs.specs.declared.reply.Iter.{Iter}
 use Rattle.kds_defs.specs.declared.reply.Page.{Page}
 use Rattle.kds_defs.specs.declared.reply.Refusal.{Refusal}
 use Rattle.kds_defs.specs.declared.reply.Reply.{Reply}
-use Rattle.kds_defs.specs.declared.reply.Stored.{Stored}
 use Rattle.kds_defs.specs.Decision.{Decision, refuse◌if◌else◌, with◌or◌then◌}
-use Rattle.kds_defs.specs.Histories.{with_stream, decide, lines_of, answer_of, clock, journal, answer}
+use Rattle.kds_defs.specs.Histories.{decide, lines_of, answer_of, clock, journal, answer}
 use Rattle.kds_defs.specs.Journal.{Line, Journal, with_lines}
 use Rattle.kds_defs.specs.Lawful.{IsItem, AreItems, IsLawfulCommand, IsHistory}
 use Rattle.kds_defs.specs.Listings.{more, get_iterator, get_records, records_reply, ends_at}
-use Rattle.kds_defs.specs.Records.{Logged, next_number, stored, records_after, records, is_left, left_among, left_from, beginning, batch, numbers_of, place_after}
+use Rattle.kds_defs.specs.Records.{Logged, next_number, stored, records_after, records, is_left, left_from, beginning, batch}
 use Rattle.kds_defs.specs.StreamCommands.{create, put, put_lines, put_many, split, merge, keep}
 use Rattle.kds_defs.specs.Streams.{is_live, stream_named, trim_floor}
-use Rattle.kds_reply.specs.Keys.{records_in, records_of, IsPrintedWhole, ArePrintedWhole}
+use Rattle.kds_reply.specs.Keys.{records_in, IsPrintedWhole, ArePrintedWhole}
 
 -- ---- lists
 

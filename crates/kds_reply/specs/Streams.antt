@@ -1,5 +1,5 @@
 -- Streams as they are shown, and the list of their names.
-use Rattle.std.specs.Prelude.{ℕ, List, [], ◌++◌, codes, Bool}
+use Rattle.std.specs.Prelude.{ℕ, List, ◌++◌, codes, Bool}
 use Rattle.serde_json.specs.Data.{unsigned, Data, boolean, number, string, array, object, no_items, item, Members, no_members, member}
 use Rattle.kds_defs.specs.declared.reply.About.{About}
 use Rattle.kds_defs.specs.declared.reply.Shard.{Shard}
