@@ -1,5 +1,5 @@
 -- What a session stands for.
-use Rattle.std.specs.Prelude.{◌≡◌, ◌≢◌, ℕ, ◌+◌, ◌<◌, ◌⊎◌, List, [], ◌∷◌, ◌++◌, length, Bool, true, false, Ok}
+use Rattle.std.specs.Prelude.{◌≡◌, ◌≢◌, ℕ, ◌+◌, ◌<◌, List, [], ◌∷◌, ◌++◌, length, Bool, true, false, Ok}
 use Rattle.kds_defs.specs.declared.command.Command.{Command}
 use Rattle.kds_base.specs.declared.limits.TheConstants.{REQUESTS}
 use Rattle.kds_session.specs.declared.state.Standing.{Standing}

@@ -1,5 +1,5 @@
 -- The steps on the way to the next command.
-use Rattle.std.specs.Prelude.{◌≡◌, ◌≢◌, ℕ, ◌+◌, ◌≤◌, ◌<◌, List, ◌∷◌, [], ◌++◌, length, drop, Option, Some, None, true}
+use Rattle.std.specs.Prelude.{◌≡◌, ◌≢◌, ℕ, ◌<◌, List, ◌∷◌, [], ◌++◌, drop, true}
 use Rattle.kds_defs.specs.declared.command.Command.{Command}
 use Rattle.kds_defs.specs.Lawful.{IsLawfulCommand}
 use Rattle.kds_head.specs.declared.found.Found.TheVariants.{Refused as RefusedHead}
@@ -11,7 +11,6 @@ use Rattle.kds_session.specs.declared.reading.Reading.{Reading}
 use Rattle.kds_session.specs.declared.reading.Step.{Step}
 use Rattle.kds_session.specs.declared.reading.Step.TheVariants as step
 use Rattle.kds_session.specs.declared.state.Standing.TheVariants.{Live}
-use Rattle.kds_session.specs.declared.state.Waiting.{Waiting}
 use Rattle.kds_session.specs.declared.state.Waiting.TheVariants.{Nothing}
 use Rattle.kds_session.specs.Messages.{IsUnfinished, IsWhole}
 use Rattle.kds_session.specs.Text.{Answers}

@@ -4,7 +4,6 @@ use Rattle.kds_head.specs.declared.found.Found.TheVariants.{Refused}
 use Rattle.kds_session.specs.declared.front.Front.{Front}
 use Rattle.kds_session.specs.Messages.{IsUnfinished}
 use Rattle.kds_session.specs.Steps.{IsFront, read_state}
-use Rattle.kds_session.proofs.Readings.{HeadLaws}
 use Rattle.kds_session.specs.States.{SessionState}
 use Rattle.kds_session.specs.Standing.{to_come}
 use Rattle.kds_session.proofs.Stands.{refused_now, refused_state, refused_not_live, less_ended}
