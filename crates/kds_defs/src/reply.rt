@@ -126,7 +126,7 @@ pub enum Refusal {
     BadSplit,
     /// The sequence number lies outside the shard's.
     BadNumber,
-    /// The retention isn't above the present one, or not below it, as was asked.
+    /// The retention is below the present one where an increase was asked, or above it where a decrease was.
     BadRetention,
     /// The iterator is too old.
     Expired,
