@@ -1,5 +1,5 @@
 -- A connection that is being served.
-use Rattle.std.specs.Prelude.{◌≡◌, ◌≢◌, ℕ, ◌+◌, ◌-◌, ◌*◌, ◌<◌, List, length}
+use Rattle.std.specs.Prelude.{ℕ, ◌+◌, ◌-◌, ◌*◌, List, length}
 use Rattle.std.specs.declared.option.Option.{Option}
 use Rattle.std.specs.Io.KnownBytes.{Appends, Consumes}
 use Rattle.kds_defs.specs.declared.command.Command.{Command}
@@ -11,7 +11,6 @@ use Rattle.kds_session.specs.Text.{Answers}
 use Rattle.kds_session.specs.States.{SessionState}
 use Rattle.kds_session.specs.Standing.{StandsFor, to_come}
 use Rattle.kds_server.specs.Turns.{turns_at, followed, TurnsMade}
-use Rattle.kds_server.specs.Texts.{Tells}
 use Rattle.kds_server.specs.Serving.{Served}
 
 -- Some bytes were taken from the source and fed to the session, and its output so far was written.

@@ -1,8 +1,8 @@
-use Rattle.std.proofs.Common.{List, ℕ, ◌∙◌, sym, ap, subst, rules, Option, Some, None, Err}
+use Rattle.std.proofs.Common.{◌∙◌, sym, ap, subst, rules, Err}
 use Rattle.std.specs.Option.{IfSome}
 use Rattle.kds_ends.specs.declared.status.Status.{Status}
 use Rattle.kds_session.specs.Standing.{end_of}
-use Rattle.kds_server.specs.Texts.{Tells, IsAnswerStatus, status_at}
+use Rattle.kds_server.specs.Texts.{Tells, IsAnswerStatus}
 use Rattle.kds_server.proofs.Ends.{flushed, tells_part, tells_status, tells_over, tells_stop, kind_at, end_not_read, end_not_write, same_some, some_none}
 use Rattle.kds_server.proofs.exchange.exchange.Goals as goal
 

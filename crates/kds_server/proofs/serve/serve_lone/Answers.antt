@@ -1,4 +1,4 @@
-use Rattle.std.proofs.Common.{[], ◌≤◌, refl, rules}
+use Rattle.std.proofs.Common.{[], refl, rules}
 use Rattle.kds_server.proofs.Turning.{gives_none}
 use Rattle.kds_server.proofs.Ends.{consumes_none, appends_none}
 use Rattle.kds_server.proofs.serve.serve_lone.Goals as goal
