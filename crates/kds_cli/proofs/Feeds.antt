@@ -10,7 +10,7 @@ use Rattle.kds_ends.specs.Causes.{AppendsFront}
 use Rattle.kds_ends.proofs.Writing.{appends_more, appends_and_keeps, appends_nothing, front_later, front_longer}
 use Rattle.kcl_script.specs.declared.line.Line.{Line}
 use Rattle.kcl_script.specs.Line.{line_of}
-use Rattle.kcl_sim.specs.Output.{output_of, outputs, with_schedule, with_line}
+use Rattle.kcl_sim.specs.Output.{output_of, outputs, with_schedule}
 use Rattle.kcl_sim.specs.Schedule.{Ending, too_long, bad_line, Fed, Decides, NoFeed, is_over, judged, history, turns, text, ending, preceded_by, judge_last}
 use Rattle.kds_defs.specs.declared.limits.TheConstants.{LINE_BYTES, INPUT_BYTES}
 use Rattle.kcl_sim.specs.declared.sim.Sim.{Sim}

@@ -1,4 +1,4 @@
-use Rattle.std.proofs.Common.{◌∙◌, [], ◌∷◌, ◌++◌, sym, arith, length-append}
+use Rattle.std.proofs.Common.{◌∙◌, sym, arith, length-append}
 use Rattle.kds_cli.proofs.Feeds.{line_ok, line_over, line_stops, within_limits}
 use Rattle.kds_cli.proofs.feed.end_line.Goals as goal
 
