@@ -44,7 +44,6 @@ pub fn make_turn<M: Machine, C: Clock>(
 {
     first_part();
     let at = clock.now();
-    let _ = at.ms();
     match machine.apply(Turn {
         by: API_ACTOR,
         at,
