@@ -5,6 +5,10 @@ use kds_ends::{Clock, SystemClock};
 use std::alloc::Global;
 use std::test::Fail;
 
+/// Lists the streams.
+const LIST: &str =
+    "POST / HTTP/1.1\r\nHost: 127.0.0.1:4567\r\nX-Amz-Target: Kinesis_20131202.ListStreams\r\nContent-Type: application/x-amz-json-1.1\r\nAuthorization: AWS4-HMAC-SHA256 x\r\nContent-Length: 2\r\n\r\n{}";
+
 /// Makes a stream.
 const CREATE: &str =
     "POST / HTTP/1.1\r\nHost: 127.0.0.1:4567\r\nX-Amz-Target: Kinesis_20131202.CreateStream\r\nContent-Type: application/x-amz-json-1.1\r\nAuthorization: AWS4-HMAC-SHA256 x\r\nContent-Length: 33\r\n\r\n{\"StreamName\":\"s\",\"ShardCount\":1}";
@@ -24,6 +28,10 @@ const OTHER_OPERATION: &str =
 /// A body that is not JSON by its type.
 const OTHER_TYPE: &str =
     "POST / HTTP/1.1\r\nHost: 127.0.0.1:4567\r\nX-Amz-Target: Kinesis_20131202.PutRecord\r\nContent-Type: application/x-amz-cbor-1.1\r\nAuthorization: AWS4-HMAC-SHA256 x\r\nContent-Length: 2\r\n\r\n{}";
+
+/// There are no streams.
+const LISTED: &str =
+    "HTTP/1.1 200 OK\r\nContent-Type: application/x-amz-json-1.1\r\nContent-Length: 41\r\n\r\n{\"HasMoreStreams\":false,\"StreamNames\":[]}";
 
 /// The stream was made.
 const CREATED: &str =
@@ -72,8 +80,12 @@ fn joined(alloc: Global, parts: [&str; 3]) -> Result<Octets, Fail> {
 fn connections(rt: HostRuntime) -> Result<(), Fail> {
     let alloc = rt.alloc();
     let (cut, _) = PUT.split_at_checked(PUT.len() - 1).ok_or("cut")?;
+    let (short, _) = LIST.split_at_checked(LIST.len() - 1).ok_or("cut")?;
     let cases = [
-        ([CREATE, PUT, PUT], 0u8, [CREATED, FIRST, SECOND], ""),
+        ([LIST, "", ""], 0u8, [LISTED, "", ""], ""),
+        ([LIST, LIST, ""], 0, [LISTED, LISTED, ""], ""),
+        ([short, "", ""], 7, ["", "", ""], CUT),
+        ([CREATE, PUT, PUT], 0, [CREATED, FIRST, SECOND], ""),
         ([CREATE, PUT, cut], 7, [CREATED, FIRST, ""], CUT),
         ([PUT, CREATE, PUT], 0, [NO_STREAM, CREATED, FIRST], ""),
         (
@@ -83,7 +95,6 @@ fn connections(rt: HostRuntime) -> Result<(), Fail> {
             "",
         ),
         ([CREATE, LAST_PUT, PUT], 0, [CREATED, LAST, ""], ""),
-        ([cut, "", ""], 7, ["", "", ""], CUT),
         ([CREATE, "\r\n", ""], 7, [CREATED, "", ""], CUT),
         (["", "", ""], 0, ["", "", ""], ""),
     ];
