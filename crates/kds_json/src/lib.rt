@@ -14,6 +14,8 @@ mod request;
 mod shards;
 mod streams;
 #[cfg(test)]
+mod test_words;
+#[cfg(test)]
 mod tests;
 mod texts;
 mod tokens;
