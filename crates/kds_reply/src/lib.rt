@@ -13,6 +13,8 @@ mod seconds;
 mod shards;
 mod streams;
 #[cfg(test)]
+mod test_replies;
+#[cfg(test)]
 mod tests;
 mod tokens;
 
