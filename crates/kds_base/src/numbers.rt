@@ -44,3 +44,31 @@ impl Model for ShardNo {
 
     ghost inverse = { λ n. record { 0 = n } };
 }
+
+/// The number of a tenure of a lease, from 1 in the order of their beginnings.
+#[derive(Clone, Copy, Debug, PartialEq, Eq, PartialOrd, Ord)]
+pub struct TenureNo(pub u64);
+
+impl Model for TenureNo {
+    ghost use Rattle.std.specs.Prelude.{ℕ};
+
+    ghost Value = { ℕ };
+
+    ghost view = { λ s. s.0 };
+
+    ghost inverse = { λ n. record { 0 = n } };
+}
+
+/// The number of a worker, from 1 (Kinesis Client Library, worker identifier).
+#[derive(Clone, Copy, Debug, PartialEq, Eq, PartialOrd, Ord)]
+pub struct WorkerNo(pub u32);
+
+impl Model for WorkerNo {
+    ghost use Rattle.std.specs.Prelude.{ℕ};
+
+    ghost Value = { ℕ };
+
+    ghost view = { λ s. s.0 };
+
+    ghost inverse = { λ n. record { 0 = n } };
+}
