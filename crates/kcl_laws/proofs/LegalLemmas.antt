@@ -16,12 +16,16 @@ use Rattle.kds_defs.specs.Decision.{Decision, Refused, Accepted, refuse◌if◌e
 use Rattle.kds_defs.specs.Histories.{decide, decision, lines_of, journal, clock}
 use Rattle.kds_defs.specs.Journal.{Line, Journal, with_lines}
 use Rattle.kds_defs.specs.Lawful.{IsLawfulCommand, IsHistory, IsItem}
-use Rattle.kds_defs.specs.Legal.{told, in_stream, IsGood, IsLegal, IsInRange, last_clock}
+use Rattle.kds_defs.specs.Keys.{ref}
+use Rattle.kds_defs.specs.Leases.{TenureState, tenure, reach}
+use Rattle.kds_defs.specs.LeaseCommands.{with_tenure, take_lease, renew, free, mark, read, is_unread, past_parent, past_parents}
+use Rattle.kds_defs.specs.Legal.{told, in_stream, IsGood, IsLegal, IsInRange, last_clock, reach_in}
 use Rattle.kds_defs.specs.Records.{next_number}
 use Rattle.kds_defs.specs.Shards.{ShardState, shards, is_open, home_among}
 use Rattle.kds_defs.specs.StreamCommands.{last_number, put_place, put_line, put_lines}
 use Rattle.kds_defs.specs.Streams.{is_live, stream_named, hours}
 use Rattle.kds_defs.proofs.Decisions.{passes, found, same_lines}
+use Rattle.kcl_laws.proofs.FenceLemmas.{same_number, held, past_the_target}
 
 -- the journal with these lines is legal, and its clock is at most c
 pub record Adds (log : Journal) (lines : List Line) (c : ℕ) : Type 0 where
@@ -106,6 +110,39 @@ adds_puts (item ∷ items) first log c by s number lawful live same is fits lega
     let rest = adds_puts items first (line ∷ log) c by s (number + 1) lawful.1 live same (draws_one s number (next_number log s) is) (omega (arith, fits)) (good, legal) (omega arith) in
     record { legal = rest.legal; clock = rest.clock }
 
+-- what an own tenure gives
+pub record Owned (log : Journal) (by t : ℕ) (next : TenureState → Decision) (lines : List Line) (reply : Reply) : Type 0 where
+  pub state : TenureState
+  pub begun : tenure log t ≡ Some state
+  pub own : state.by ≡ by
+  pub rest : next state ≡ Accepted lines reply
+
+pub owned : (log : Journal) (by t : ℕ) (next : TenureState → Decision) (lines : List Line) (reply : Reply) → with_tenure log by t next ≡ Accepted lines reply → Owned log by t next lines reply
+owned log by t next lines reply h =
+    let a = found (tenure log t) refusal.NoTenure _ lines reply h in
+    let b = passes refusal.NotYours _ _ lines reply a.2 in
+    record { state = a.0; begun = a.1; own = same_number _ _ b.0; rest = b.1 }
+
+-- a parent that is read
+abbrev pub IsParentRead : Journal → ℕ → ℕ → Option ℕ → Type 0
+IsParentRead log c s None = Unit {0}
+IsParentRead log c s (Some parent) = is_unread log c (ref s parent) ≡ false
+
+pub past_the_parent : (log : Journal) (c s : ℕ) (o : Option ℕ) (next : Decision) (lines : List Line) (reply : Reply) → past_parent log c s o next ≡ Accepted lines reply → IsParentRead log c s o × (next ≡ Accepted lines reply)
+past_the_parent log c s None next lines reply h = (tt, h)
+past_the_parent log c s (Some parent) next lines reply h = let a = passes (refusal.ParentsOpen (ref s parent)) _ _ lines reply h in (a.0, a.1)
+
+abbrev pub AreParentsRead : Journal → ℕ → ℕ → Option ShardState → Type 0
+AreParentsRead log c s None = Unit {0}
+AreParentsRead log c s (Some x) = IsParentRead log c s x.parent × IsParentRead log c s x.adjacent
+
+pub past_the_parents : (log : Journal) (c s : ℕ) (o : Option ShardState) (next : Decision) (lines : List Line) (reply : Reply) → past_parents log c s o next ≡ Accepted lines reply → AreParentsRead log c s o × (next ≡ Accepted lines reply)
+past_the_parents log c s None next lines reply h = (tt, h)
+past_the_parents log c s (Some x) next lines reply h =
+    let a = past_the_parent log c s x.parent _ lines reply h in
+    let b = past_the_parent log c s x.adjacent _ lines reply a.1 in
+    ((a.0, b.0), b.1)
+
 accepted_legal : (log : Journal) (c by : ℕ) (what : Command) (lines : List Line) (reply : Reply) → IsLawfulCommand what → decide log c by what ≡ Accepted lines reply → IsLegal log → last_clock log ≤ c → Adds log lines c
 accepted_legal log c by (command.Create name count) lines reply lawful h legal order =
     let a = passes _ _ _ _ reply h in
@@ -168,6 +205,61 @@ accepted_legal log c by (command.Keep name wanted raise) lines reply lawful h le
     let f = found _ _ _ _ reply h in
     let a = passes _ _ _ _ reply f.2 in
     adds_one log _ lines reply _ a.1 (in_live log f.0 _ (live_named log name f.0 f.1) ∙ retested refusal.BadRetention _ _ (not_both wanted (hours log f.0) raise a.0) ∙ a.1) lawful.1 legal order
+accepted_legal log c by command.Survey lines reply lawful h legal order = adds_none log lines reply _ c h legal order
+accepted_legal log c by (command.MakeLease key) lines reply lawful h legal order =
+    let a = passes _ _ _ _ reply h in
+    let b = passes _ _ _ _ reply a.1 in
+    adds_one log _ lines reply _ b.1 h tt legal order
+accepted_legal log c by (command.Take key counter owner) lines reply lawful h legal order =
+    let f = found _ _ _ _ reply h in
+    let a = passes _ _ _ _ reply f.2 in
+    let b = passes _ _ _ _ reply a.1 in
+    let d = passes _ _ _ _ reply b.1 in
+    let same = same_number f.0.counter counter a.0 in
+    let n : counter ≡ f.0.counter + 1 - 1 = omega (arith, same) in
+    adds_one log _ lines reply _ d.1 (subst (λ m. take_lease log c by key m owner ≡ Accepted lines reply) n h) tt legal order
+accepted_legal log c by (command.Renew t counter) lines reply lawful h legal order =
+    let a = held log by t _ _ reply h in
+    let b = passes _ _ _ _ reply a.rest in
+    let d = passes _ _ _ _ reply b.1 in
+    let n : counter ≡ counter + 1 - 1 = omega arith in
+    adds_one log _ lines reply _ d.1 (subst (λ m. renew log c by t m ≡ Accepted lines reply) n h) tt legal order
+accepted_legal log c by (command.Free t counter) lines reply lawful h legal order =
+    let a = held log by t _ _ reply h in
+    let b = passes _ _ _ _ reply a.rest in
+    let d = passes _ _ _ _ reply b.1 in
+    let n : counter ≡ counter + 1 - 1 = omega arith in
+    adds_one log _ lines reply _ d.1 (subst (λ m. free log c by t m ≡ Accepted lines reply) n h) tt legal order
+accepted_legal log c by (command.OpenShard t) lines reply lawful h legal order =
+    let a = held log by t _ _ reply h in
+    let b = passes _ _ _ _ reply a.rest in
+    let d = passes _ _ _ _ reply b.1 in
+    let e = past_the_parents log c _ _ _ _ reply d.1 in
+    adds_one log _ lines reply _ e.1 h tt legal order
+accepted_legal log c by (command.Read t position limit) lines reply lawful h legal order =
+    let f = owned log by t _ _ reply h in
+    let a = passes _ _ _ _ reply f.rest in
+    let b = passes _ _ _ _ reply a.1 in
+    let d = passes _ _ _ _ reply b.1 in
+    let e = passes _ _ _ _ reply d.1 in
+    let place = same_number position (reach f.state) e.0 ∙ sym (ap reach_in f.begun) in
+    adds_one log _ lines reply _ e.1 (subst (λ p. read log c by t p limit ≡ Accepted lines reply) place h) tt legal order
+accepted_legal log c by (command.Give t) lines reply lawful h legal order =
+    let f = owned log by t _ _ reply h in
+    let a = passes _ _ _ _ reply f.rest in
+    adds_one log _ lines reply _ a.1 h tt legal order
+accepted_legal log c by (command.Mark t counter to) lines reply lawful h legal order =
+    let a = held log by t _ _ reply h in
+    let b = passes _ _ _ _ reply a.rest in
+    let e = past_the_target log a.holds.state to _ _ reply b.1 in
+    let d = passes _ _ _ _ reply e in
+    let n : counter ≡ counter + 1 - 1 = omega arith in
+    adds_one log _ lines reply _ d.1 (subst (λ m. mark log c by t m to ≡ Accepted lines reply) n h) tt legal order
+accepted_legal log c by (command.CutLease key counter) lines reply lawful h legal order =
+    let f = found _ _ _ _ reply h in
+    let a = passes _ _ _ _ reply f.2 in
+    let b = passes _ _ _ _ reply a.1 in
+    adds_one log _ lines reply _ b.1 h tt legal order
 
 -- the lines of a decision
 decided_legal : (d : Decision) (log : Journal) (c by : ℕ) (what : Command) → decide log c by what ≡ d → IsLawfulCommand what → IsLegal log → last_clock log ≤ c → Adds log (lines_of d) c

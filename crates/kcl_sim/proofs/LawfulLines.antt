@@ -4,26 +4,26 @@ use Rattle.std.specs.Prelude.{cond}
 use Rattle.std.specs.List.{AllByRecursion}
 use Rattle.kds_defs.specs.declared.command.Command.{Command}
 use Rattle.kds_defs.specs.declared.command.Turn.{Turn}
-use Rattle.kds_defs.specs.Lawful.{IsHistory, IsLawfulCommand}
+use Rattle.kds_defs.specs.Lawful.{IsHistory}
 use Rattle.kds_json.specs.declared.problem.Fault.{Fault}
-use Rattle.kds_json.specs.Asked.{asked}
+use Rattle.kds_json.specs.Asked.{asked, IsRequest}
 use Rattle.kcl_script.specs.declared.line.Line.{Line}
-use Rattle.kcl_script.specs.declared.line.Line.TheVariants.{Api}
+use Rattle.kcl_script.specs.declared.line.Line.TheVariants.{Api, Raw}
 use Rattle.kcl_script.specs.Line.{line_of, IsLine}
 use Rattle.kcl_sim.specs.Output.{with_request, with_line, with_schedule}
 use Rattle.kcl_sim.specs.Schedule.{Judged, pieces, is_over, decided, too_long, judge_form, judge, judged, history}
 
-pub request_lawful : (h : List Turn) (at : ℕ) (r : Result Command Fault) → at < 2 ^ 62 → ((what : Command) → r ≡ Ok what → IsLawfulCommand what) → IsHistory h → IsHistory (with_request h at r)
-request_lawful h at (Ok what) early lawful past = ((early, lawful what refl), past)
+pub request_lawful : (h : List Turn) (at : ℕ) (r : Result Command Fault) → at < 2 ^ 62 → ((what : Command) → r ≡ Ok what → IsRequest what) → IsHistory h → IsHistory (with_request h at r)
+request_lawful h at (Ok what) early lawful past = ((early, (lawful what refl).0), past)
 request_lawful h at (Err f) early lawful past = past
 
 -- the lines of a judgement are lines
 abbrev pub AreLines : Judged → Type 0
 AreLines j = AllByRecursion IsLine j.lines
 
--- what requests and lines are known to give: a command that may be asked, and a moment
+-- what requests and lines are known to give: commands that may be asked, and a moment
 abbrev pub AskLawfully : Type 0
-AskLawfully = (operation body : List ℕ) (what : Command) → asked operation body ≡ Ok what → IsLawfulCommand what
+AskLawfully = (operation body : List ℕ) (what : Command) → asked operation body ≡ Ok what → IsRequest what
 
 abbrev pub ReadLines : Type 0
 ReadLines = (text : List ℕ) (line : Line) → line_of text ≡ Some line → IsLine line
@@ -31,6 +31,7 @@ ReadLines = (text : List ℕ) (line : Line) → line_of text ≡ Some line → I
 module _ (asks : AskLawfully) (reads : ReadLines) where
   line_lawful : (h : List Turn) (l : Line) → IsLine l → IsHistory h → IsHistory (with_line h l)
   line_lawful h (Api at operation body) is past = request_lawful h at (asked operation body) is.0 (asks operation body) past
+  line_lawful h (Raw at by what long) is past = ((is.0, is.1.1.0.lawful), past)
 
   schedule_lawful : (h : List Turn) (ls : List Line) → AllByRecursion IsLine ls → IsHistory h → IsHistory (with_schedule h ls)
   schedule_lawful h [] are past = past

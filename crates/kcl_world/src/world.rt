@@ -2,38 +2,47 @@
 ghost use Rattle.std.specs.Prelude.{◌≡◌, [], max};
 ghost use Rattle.kcl_world.specs.Standing.{StandsFor};
 
+use crate::answer::answer;
+use kcl_book::Book;
+use kcl_table::Table;
 use kds_base::{Memory, Moment};
-use kds_defs::{Answer, Machine, Turn};
+use kds_defs::{Answer, Machine, Turn, lease_answers, service_answers};
 use kds_service::Service;
 use std::alloc::Global;
 use std::marker::Model;
 
-/// The machine: its clock, and the stream service, which stands at that clock.
+/// The machine: its clock, the stream service, which stands at that clock, the rows of the leases, and their
+/// tenures. It stands for the history that it has answered.
 #[derive(Drop)]
 pub struct World {
     clock: Moment,
     service: Service,
+    table: Table,
+    book: Book,
 }
 
 impl Model for World {
-    ghost use Rattle.std.specs.Prelude.{◌≡◌};
-    ghost use Rattle.kds_service.specs.Shown.{ServiceValue};
+    ghost use Rattle.std.specs.Prelude.{◌≡◌, List};
+    ghost use Rattle.kds_defs.specs.declared.command.Turn.{Turn};
+    ghost use Rattle.kcl_world.specs.Standing.{StandsFor, WorldValue, world};
 
-    ghost Value = { ServiceValue };
+    ghost Value = { WorldValue };
 
-    ghost view = { λ w. w.service };
+    ghost view = { λ w. world w.service w.table w.book.tenures };
 
-    ghost invariant = { λ w. w.service.clock ≡ w.clock };
+    ghost invariant = { λ w. (w.service.clock ≡ w.clock) × ((h : List Turn) × StandsFor (world w.service w.table w.book.tenures) h) };
 }
 
 impl World {
-    /// A machine without streams, which has answered nothing. It takes its memory from `alloc`.
+    /// A machine without streams and leases, which has answered nothing. It takes its memory from `alloc`.
     pub fn new(alloc: Global) -> World
         ensures { StandsFor result [] }
     {
         World {
             clock: Moment::start(),
             service: Service::new(alloc),
+            table: Table::new(alloc),
+            book: Book::new(alloc),
         }
     }
 }
@@ -51,9 +60,17 @@ impl Machine for World {
     ghost stands_for = { StandsFor };
 
     fn apply(&mut self, turn: Turn) -> Result<Answer, Memory> {
+        service_answers();
+        lease_answers();
         let clock = later(self.clock, turn.at);
         self.service.advance(clock);
-        match self.service.serve(turn.what) {
+        match answer(
+            &mut self.service,
+            &mut self.table,
+            &mut self.book,
+            turn.by,
+            turn.what,
+        ) {
             Ok(answer) => {
                 self.service.settle();
                 self.clock = clock;

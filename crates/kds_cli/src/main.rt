@@ -5,6 +5,8 @@
 mod answers;
 mod errors;
 mod feed;
+#[cfg(test)]
+mod lease_rows;
 mod lines;
 mod replay;
 #[cfg(test)]

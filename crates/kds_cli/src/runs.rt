@@ -1,6 +1,6 @@
 //! The runs of the program.
 ghost use Rattle.std.specs.Prelude.{◌≡◌, ◌↔◌, [], None, Some, List, ℕ, IfSome};
-ghost use Rattle.kds_defs.specs.Histories.{journal};
+ghost use Rattle.kds_defs.specs.Histories.{clock as clock_of, journal};
 ghost use Rattle.kds_defs.specs.Safe.{IsSafe};
 ghost use Rattle.kds_ends.specs.Causes.{Rose};
 ghost use Rattle.kcl_sim.specs.Schedule.{history};
@@ -12,7 +12,7 @@ ghost use Rattle.kds_cli.specs.Words.{task_of, texts_of};
 use crate::errors::tell;
 use crate::schedule::run_schedule;
 use crate::words::{Task, find_task};
-use kcl_laws::{one_home, partition};
+use kcl_laws::{coverage, fence, lineage, one_home, partition};
 use kcl_sim::lawful;
 use kcl_world::World;
 use kds_ends::{Clock, Sink, Source, Status};
@@ -27,8 +27,8 @@ pub fn run_replay<S: Source, K: Sink>(alloc: Global, input: &mut S, out: &mut K)
     ensures told { IfSome (S.left input.old) (λ bytes.
         Tells result bytes (S.left input.new) (K.held out.old) (K.held out.new)) }
 
-    // The state of the schedule's turns is safe.
-    ensures safe { IfSome (S.left input.old) (λ bytes. IsSafe (journal (history bytes))) }
+    // The state of the schedule's turns is safe, at their clock.
+    ensures safe { IfSome (S.left input.old) (λ bytes. IsSafe (journal (history bytes)) (clock_of (history bytes))) }
     ensures read { result ≡ Status.Read → Rose (S.faults input.old) (S.faults input.new) }
     ensures write { result ≡ Status.Write → Rose (K.faults out.old) (K.faults out.new) }
     ensures kinds { IsReplayStatus result }
@@ -36,6 +36,9 @@ pub fn run_replay<S: Source, K: Sink>(alloc: Global, input: &mut S, out: &mut K)
     lawful();
     partition();
     one_home();
+    coverage();
+    lineage();
+    fence();
     run_schedule(alloc, World::new(alloc), input, out).status
 }
 
@@ -73,7 +76,7 @@ fn perform<S: Source, K: Sink, C: Clock>(
     ensures told { task_of (texts_of words.now.items) ≡ Some Task.Replay → IfSome (S.left input.old) (λ bytes.
         Tells result bytes (S.left input.new) (K.held out.old) (K.held out.new)) }
     ensures safe { task_of (texts_of words.now.items) ≡ Some Task.Replay
-        → IfSome (S.left input.old) (λ bytes. IsSafe (journal (history bytes))) }
+        → IfSome (S.left input.old) (λ bytes. IsSafe (journal (history bytes)) (clock_of (history bytes))) }
     ensures answers { task_of (texts_of words.now.items) ≡ Some Task.Answer
         → Answers (S.left input.old) (S.left input.new) (C.moments clock.old) (K.held out.old) (K.held out.new) result }
     ensures read { result ≡ Status.Read → Rose (S.faults input.old) (S.faults input.new) }
@@ -103,9 +106,9 @@ pub fn run<R, S: Source, K: Sink, E: Sink, C: Clock + Drop>(
     ensures ended { EndsSo result (task_of (texts_of words.now.items)) (S.left input.old) (S.left input.new) (C.moments clock)
         (K.held out.old) (K.held out.new) (E.held err.old) (E.held err.new) (Rose (E.faults err.old) (E.faults err.new)) }
 
-    // The state of the schedule's turns is safe.
+    // The state of the schedule's turns is safe, at their clock.
     ensures safe { task_of (texts_of words.now.items) ≡ Some Task.Replay
-        → IfSome (S.left input.old) (λ bytes. IsSafe (journal (history bytes))) }
+        → IfSome (S.left input.old) (λ bytes. IsSafe (journal (history bytes)) (clock_of (history bytes))) }
     ensures read { result ≡ 4 → Rose (S.faults input.old) (S.faults input.new) }
     ensures write { result ≡ 5 → Rose (K.faults out.old) (K.faults out.new) }
 {

@@ -2,3 +2,4 @@ pub mod Decisions
 pub mod Examples
 pub mod Numbers
 pub mod Tiles
+pub mod KindLemmas

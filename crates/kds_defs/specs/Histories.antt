@@ -8,6 +8,7 @@ use Rattle.kds_defs.specs.declared.reply.Refusal.TheVariants as refusal
 use Rattle.kds_defs.specs.declared.reply.Reply.{Reply}
 use Rattle.kds_defs.specs.Decision.{Decision, Refused, Accepted, with◌or◌then◌}
 use Rattle.kds_defs.specs.Journal.{Line, Journal, with_lines}
+use Rattle.kds_defs.specs.LeaseCommands.{survey, make_lease, take_lease, renew, free, open_shard, read, give, mark, cut_lease}
 use Rattle.kds_defs.specs.Listings.{streams, describe, summary, list_shards, more, get_iterator, get_records}
 use Rattle.kds_defs.specs.StreamCommands.{create, delete, put, put_many, split, merge, keep}
 use Rattle.kds_defs.specs.Streams.{stream_named}
@@ -32,6 +33,16 @@ decide log c by (command.PutMany name items) = with_stream log name λ s. put_ma
 decide log c by (command.Split name sh at) = with_stream log name λ s. split log c by s sh at
 decide log c by (command.Merge name sh other) = with_stream log name λ s. merge log c by s sh other
 decide log c by (command.Keep name wanted raise) = with_stream log name λ s. keep log c by s wanted raise
+decide log c by command.Survey = survey log c
+decide log c by (command.MakeLease key) = make_lease log c by key
+decide log c by (command.Take key counter owner) = take_lease log c by key counter owner
+decide log c by (command.Renew t counter) = renew log c by t counter
+decide log c by (command.Free t counter) = free log c by t counter
+decide log c by (command.OpenShard t) = open_shard log c by t
+decide log c by (command.Read t position limit) = read log c by t position limit
+decide log c by (command.Give t) = give log c by t
+decide log c by (command.Mark t counter to) = mark log c by t counter to
+decide log c by (command.CutLease key counter) = cut_lease log c by key counter
 
 -- the lines that a decision adds
 abbrev pub lines_of : Decision → List Line

@@ -64,6 +64,9 @@ IsLawfulCommand (command.Merge name sh other) = IsName name
 IsLawfulCommand (command.Keep name wanted raise) = IsName name × IsRetention wanted
 IsLawfulCommand (command.Shards name after limit) = IsName name × IsLimit limit
 IsLawfulCommand (command.More page limit) = IsLimit limit
+IsLawfulCommand (command.Take key counter owner) = 1 ≤ owner
+IsLawfulCommand (command.Read t position limit) = IsLimit limit
+IsLawfulCommand _ = Unit {0}
 
 abbrev pub IsLawful : Turn → Type 0
 IsLawful turn = (turn.at < 2 ^ 62) × IsLawfulCommand turn.what

@@ -1,5 +1,5 @@
 -- Which journals a machine can leave: each line is good after the lines before it.
-use Rattle.std.specs.Prelude.{ℕ, ◌^◌, ◌<◌, ◌≤◌, ◌≡◌, not, nat_lt, [], ◌∷◌}
+use Rattle.std.specs.Prelude.{ℕ, ◌-◌, ◌^◌, ◌<◌, ◌≤◌, ◌≡◌, not, nat_lt, [], ◌∷◌, Option, Some, None}
 use Rattle.kds_defs.specs.declared.command.NewItem.{NewItem}
 use Rattle.kds_defs.specs.declared.entry.Entry.{Entry}
 use Rattle.kds_defs.specs.declared.entry.Entry.TheVariants as entry
@@ -7,6 +7,8 @@ use Rattle.kds_defs.specs.declared.reply.Refusal.TheVariants as refusal
 use Rattle.kds_defs.specs.declared.reply.Reply.{Reply}
 use Rattle.kds_defs.specs.Decision.{Decision, Accepted, refuse◌if◌else◌}
 use Rattle.kds_defs.specs.Journal.{Line, Journal}
+use Rattle.kds_defs.specs.LeaseCommands.{make_lease, take_lease, renew, free, open_shard, read, give, mark, cut_lease}
+use Rattle.kds_defs.specs.Leases.{TenureState, tenure, reach}
 use Rattle.kds_defs.specs.Lawful.{IsShardCount, IsRetention}
 use Rattle.kds_defs.specs.StreamCommands.{create, delete, put, split, merge, keep}
 use Rattle.kds_defs.specs.Streams.{is_live, hours}
@@ -19,6 +21,11 @@ in_stream log s next = refuse refusal.NoStream if not (is_live log s) else next
 abbrev pub item_of : Line → ℕ → NewItem
 item_of line hash = record { key = line.key; hash = hash; payload = line.payload }
 
+-- the reach of a tenure
+abbrev pub reach_in : Option TenureState → ℕ
+reach_in None = 0
+reach_in (Some T) = reach T
+
 -- what the command that an entry tells leads to after the lines of log
 abbrev pub told : Journal → Line → Entry → Decision
 told log line (entry.Made s name count) = create log line.clock line.by name count
@@ -27,6 +34,15 @@ told log line (entry.Put s sh number hash bytes) = in_stream log s (put log line
 told log line (entry.Split s sh at number low high) = in_stream log s (split log line.clock line.by s sh at)
 told log line (entry.Merged s sh other number child) = in_stream log s (merge log line.clock line.by s sh other)
 told log line (entry.Kept s wanted) = in_stream log s (keep log line.clock line.by s wanted (not (nat_lt wanted (hours log s))))
+told log line (entry.LeaseMade key) = make_lease log line.clock line.by key
+told log line (entry.Taken key t counter owner) = take_lease log line.clock line.by key (counter - 1) owner
+told log line (entry.Renewed t counter) = renew log line.clock line.by t (counter - 1)
+told log line (entry.Freed t counter) = free log line.clock line.by t (counter - 1)
+told log line (entry.Opened t) = open_shard log line.clock line.by t
+told log line (entry.Read t limit ended numbers) = read log line.clock line.by t (reach_in (tenure log t)) limit
+told log line (entry.Given t) = give log line.clock line.by t
+told log line (entry.Marked t counter to) = mark log line.clock line.by t (counter - 1) to
+told log line (entry.LeaseCut key counter) = cut_lease log line.clock line.by key counter
 
 -- the numbers of an entry lie in their ranges
 abbrev pub IsInRange : Entry → Type 0
@@ -52,3 +68,8 @@ pub record IsGood (log : Journal) (line : Line) : Type 0 where
 abbrev pub IsLegal : Journal → Type 0
 IsLegal [] = Unit {0}
 IsLegal (line ∷ log) = IsGood log line × IsLegal log
+
+-- a state that can be reached: the journal is legal, and no line of it is later than the clock
+pub record IsReached (log : Journal) (c : ℕ) : Type 0 where
+  pub legal : IsLegal log
+  pub order : last_clock log ≤ c

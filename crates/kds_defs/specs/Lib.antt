@@ -3,11 +3,16 @@ pub mod Streams
 pub mod Values
 pub mod Records
 pub mod Shards
+pub mod Keys
+pub mod Leases
 pub mod Decision
 pub mod StreamCommands
 pub mod Listings
+pub mod LeaseCommands
 pub mod Histories
 pub mod Lawful
+pub mod Kinds
+pub mod Machines
 pub mod Legal
 pub mod Safe
 pub mod Tiled

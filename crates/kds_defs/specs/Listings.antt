@@ -1,5 +1,5 @@
 -- The commands that read streams: their refusals in order, and their replies.
-use Rattle.std.specs.Prelude.{ℕ, ◌+◌, ◌-◌, Bool, true, false, ◌&&◌, not, is_none, nat_le, nat_lt, if◌then◌else◌, List, [], ◌∷◌, length, map, take, Option, Some, None}
+use Rattle.std.specs.Prelude.{ℕ, ◌+◌, ◌-◌, Bool, true, false, ◌&&◌, not, is_none, nat_le, nat_lt, if◌then◌else◌, List, [], ◌∷◌, ◌++◌, length, map, take, Option, Some, None}
 use Rattle.std.specs.List.{filter}
 use Rattle.std.specs.Cmp.Lexicographic.{slice_cmp}
 use Rattle.std.specs.Ordering.{nat_cmp}
@@ -8,6 +8,7 @@ use Rattle.std.specs.declared.cmp.Ordering.TheVariants.{Less, Equal, Greater}
 use Rattle.kds_defs.specs.declared.command.Start.{Start}
 use Rattle.kds_defs.specs.declared.command.Start.TheVariants as start
 use Rattle.kds_defs.specs.declared.limits.TheConstants.{TOKEN_LIFE}
+use Rattle.kds_base.specs.declared.lease_key.ShardRef.{ShardRef}
 use Rattle.kds_defs.specs.declared.reply.About.{About}
 use Rattle.kds_defs.specs.declared.reply.Iter.{Iter}
 use Rattle.kds_defs.specs.declared.reply.Page.{Page}
@@ -16,6 +17,7 @@ use Rattle.kds_defs.specs.declared.reply.Refusal.TheVariants as refusal
 use Rattle.kds_defs.specs.declared.reply.Reply.TheVariants as reply
 use Rattle.kds_defs.specs.Decision.{Decision, Accepted, refuse◌if◌else◌, with◌or◌then◌}
 use Rattle.kds_defs.specs.Journal.{Journal}
+use Rattle.kds_defs.specs.Keys.{ref}
 use Rattle.kds_defs.specs.Records.{Logged, next_number, left_from, batch, numbers_of, place_after, stored, first_at}
 use Rattle.kds_defs.specs.Shards.{ShardState, shard_at, Closing, is_listed, listed_shards, open_shards, children, shown}
 use Rattle.kds_defs.specs.Streams.{is_live, live_streams, name_of, made_at, hours}
@@ -169,3 +171,13 @@ get_records log c iter limit =
     refuse refusal.NoShard if not (is_listed log c iter.stream iter.shard) else
     let rs = batch log c iter.stream iter.shard iter.position limit in
     records_reply log c iter.stream iter.shard rs (place_after iter.position (numbers_of rs))
+
+-- ---- the survey of a worker
+
+abbrev pub refs_of : ℕ → List ShardState → List ShardRef
+refs_of s xs = map (λ x. ref s x.no) xs
+
+-- the listed shards of these streams, in the order of their keys
+abbrev pub listed_in : Journal → ℕ → List ℕ → List ShardRef
+listed_in log c [] = []
+listed_in log c (s ∷ streams) = refs_of s (listed_shards log c s) ++ listed_in log c streams

@@ -1,12 +1,19 @@
 -- What is true of every journal that a machine can leave.
-use Rattle.std.specs.Prelude.{ℕ, ◌+◌, ◌^◌, ◌<◌, ◌≡◌, true, if◌then◌else◌, List, [], ◌∷◌, map, Some}
+use Rattle.std.specs.Prelude.{ℕ, ◌+◌, ◌^◌, ◌<◌, ◌≤◌, ◌≡◌, ◌⊎◌, true, if◌then◌else◌, List, [], ◌∷◌, ◌++◌, map, Option, Some, None}
+use Rattle.std.specs.List.{AllByRecursion}
 use Rattle.kds_base.specs.Span.{Span, covers, Covers}
+use Rattle.kds_base.specs.declared.lease_key.Checkpoint.{Checkpoint}
+use Rattle.kds_base.specs.declared.lease_key.Checkpoint.TheVariants.{TrimHorizon, At, ShardEnd}
+use Rattle.kds_base.specs.declared.lease_key.ShardRef.{ShardRef}
 use Rattle.kds_defs.specs.declared.entry.Entry.{Entry}
 use Rattle.kds_defs.specs.declared.entry.Entry.TheVariants as entry
+use Rattle.kds_defs.specs.declared.reply.Row.{Row}
 use Rattle.kds_defs.specs.Journal.{Journal}
-use Rattle.kds_defs.specs.Records.{next_number}
-use Rattle.kds_defs.specs.Shards.{ShardState, shard_at, is_open, open_shards}
-use Rattle.kds_defs.specs.Streams.{was_made}
+use Rattle.kds_defs.specs.Leases.{row, counter_in, tenure_in, reads_end, tenure, TenureState, ReadDone, given_reads, key_of}
+use Rattle.kds_defs.specs.Records.{Logged, records, next_number}
+use Rattle.kds_defs.specs.Shards.{ShardState, shard_at, is_open, open_shards, is_expired}
+use Rattle.kds_defs.specs.Keys.{ref}
+use Rattle.kds_defs.specs.Streams.{was_made, is_trimmed}
 
 -- ---- partition of the keys (guide on resharding)
 
@@ -47,8 +54,121 @@ abbrev pub ArePlaced : Journal → Type 0
 ArePlaced [] = Unit {0}
 ArePlaced (line ∷ log) = IsPlaced log line.what × ArePlaced log
 
--- ---- all of it
+-- ---- fence (Kinesis Client Library, leases)
 
-pub record IsSafe (log : Journal) : Type 0 where
+-- the tenure is this actor's, and it is the tenure of its key's row
+pub record HoldsRow (log : Journal) (by t : ℕ) : Type 0 where
+  pub state : TenureState
+  pub begun : tenure log t ≡ Some state
+  pub own : state.by ≡ by
+  pub current : tenure_in (row log state.key) ≡ t
+
+-- and this counter is one above the row's
+pub record WritesRow (log : Journal) (by t counter : ℕ) : Type 0 where
+  pub holds : HoldsRow log by t
+  pub next : counter ≡ counter_in (row log holds.state.key) + 1
+
+abbrev pub IsFenced : Journal → ℕ → Entry → Type 0
+IsFenced log by (entry.Renewed t counter) = WritesRow log by t counter
+IsFenced log by (entry.Freed t counter) = WritesRow log by t counter
+IsFenced log by (entry.Marked t counter to) = WritesRow log by t counter
+IsFenced log by (entry.Opened t) = HoldsRow log by t
+IsFenced log by _ = Unit {0}
+
+abbrev pub AreFenced : Journal → Type 0
+AreFenced [] = Unit {0}
+AreFenced (line ∷ log) = IsFenced log line.by line.what × AreFenced log
+
+-- ---- lineage
+
+-- the parent's row reads the shard's end, or the parent is expired
+abbrev pub IsExpiredState : Journal → ℕ → ℕ → Option ShardState → Type 0
+IsExpiredState log c s None = ⊥
+IsExpiredState log c s (Some x) = is_expired log c s x ≡ true
+
+abbrev pub IsPast : Journal → ℕ → ℕ → Option ℕ → Type 0
+IsPast log c s None = Unit {0}
+IsPast log c s (Some parent) = (reads_end (row log (ref s parent)) ≡ true) ⊎ IsExpiredState log c s (shard_at log s parent)
+
+-- both parents of the shard are past
+abbrev pub ArePastState : Journal → ℕ → ℕ → Option ShardState → Type 0
+ArePastState log c s None = ⊥
+ArePastState log c s (Some x) = IsPast log c s x.parent × IsPast log c s x.adjacent
+
+-- and so are those of the tenure's shard
+abbrev pub AreParentsPast : Journal → ℕ → Option ShardRef → Type 0
+AreParentsPast log c None = ⊥
+AreParentsPast log c (Some key) = ArePastState log c key.stream (shard_at log key.stream key.shard)
+
+-- an opening line of the tenure stands in the journal
+abbrev pub IsOpening : Entry → ℕ → Type 0
+IsOpening (entry.Opened tenure) t = tenure ≡ t
+IsOpening _ t = ⊥
+
+abbrev pub WasOpened : Journal → ℕ → Type 0
+WasOpened [] t = ⊥
+WasOpened (line ∷ log) t = IsOpening line.what t ⊎ WasOpened log t
+
+-- an opening stands after the parents are past, and a read stands after an opening
+abbrev pub IsInLine : Journal → ℕ → Entry → Type 0
+IsInLine log c (entry.Opened t) = AreParentsPast log c (key_of log t)
+IsInLine log c (entry.Read t limit ended numbers) = WasOpened log t
+IsInLine log c _ = Unit {0}
+
+abbrev pub AreInLine : Journal → Type 0
+AreInLine [] = Unit {0}
+AreInLine (line ∷ log) = IsInLine log line.clock line.what × AreInLine log
+
+-- ---- coverage
+
+abbrev pub IsAmong : ℕ → List ℕ → Type 0
+IsAmong n [] = ⊥
+IsAmong n (x ∷ xs) = (n ≡ x) ⊎ IsAmong n xs
+
+abbrev pub IsRead : ℕ → List ReadDone → Type 0
+IsRead n [] = ⊥
+IsRead n (r ∷ rs) = IsAmong n r.numbers ⊎ IsRead n rs
+
+-- a tenure of the key was given the record of this number
+pub record IsDelivered (log : Journal) (key : ShardRef) (n : ℕ) : Type 0 where
+  pub by_tenure : ℕ
+  pub state : TenureState
+  pub begun : tenure log by_tenure ≡ Some state
+  pub of_key : state.key ≡ key
+  pub given : IsRead n (given_reads state)
+
+-- each record of the key's shard below this place was delivered or is trimmed
+abbrev pub IsSettled : Journal → ℕ → ShardRef → Logged → Type 0
+IsSettled log c key r = IsDelivered log key r.seq ⊎ (is_trimmed log c key.stream r.arrival ≡ true)
+
+abbrev pub SettledBelow : Journal → ℕ → ShardRef → ℕ → Type 0
+SettledBelow log c key place =
+    AllByRecursion (λ r. r.seq < place → IsSettled log c key r) (records log key.stream key.shard)
+
+-- each record at or below the checkpoint was delivered or is trimmed
+abbrev pub IsCovered : Journal → ℕ → ShardRef → Checkpoint → Type 0
+IsCovered log c key TrimHorizon = Unit {0}
+IsCovered log c key (At q) = SettledBelow log c key (q + 1)
+IsCovered log c key ShardEnd = AllByRecursion (IsSettled log c key) (records log key.stream key.shard)
+
+abbrev pub all_numbers : List ReadDone → List ℕ
+all_numbers [] = []
+all_numbers (r ∷ rs) = r.numbers ++ all_numbers rs
+
+-- each is above the one before, and the first at or above the place
+abbrev pub RiseFrom : ℕ → List ℕ → Type 0
+RiseFrom place [] = Unit {0}
+RiseFrom place (n ∷ ns) = (place ≤ n) × RiseFrom (n + 1) ns
+
+pub record AreCovered (log : Journal) (c : ℕ) : Type 0 where
+  pub rows : (key : ShardRef) (r : Row) → row log key ≡ Some r → IsCovered log c key r.checkpoint
+  pub reads_rise : (t : ℕ) (T : TenureState) → tenure log t ≡ Some T → RiseFrom 0 (all_numbers T.reads)
+
+-- ---- all of it, at the clock c
+
+pub record IsSafe (log : Journal) (c : ℕ) : Type 0 where
   pub partition : HasPartitions log
   pub one_home : ArePlaced log
+  pub coverage : AreCovered log c
+  pub lineage : AreInLine log
+  pub fence : AreFenced log

@@ -1,6 +1,20 @@
--- What contracts see of a shard: the fields.
+-- What contracts see of a shard and of a row: the fields.
 use Rattle.std.specs.Prelude.{ℕ, Option}
 use Rattle.kds_base.specs.Span.{Span}
+use Rattle.kds_base.specs.declared.lease_key.Checkpoint.{Checkpoint}
+use Rattle.kds_base.specs.declared.lease_key.ShardRef.{ShardRef}
+
+-- a row of the lease table (Kinesis Client Library, lease)
+pub record RowValue : Type 0 where
+  pub key : ShardRef
+  pub owner : Option ℕ
+  pub counter : ℕ
+  pub checkpoint : Checkpoint
+  pub switches : ℕ
+  pub tenure : ℕ
+  pub floor : ℕ
+  pub parent : Option ℕ
+  pub adjacent : Option ℕ
 
 -- a shard as it is shown (Kinesis API Reference, Shard)
 pub record ShardValue : Type 0 where

@@ -2,7 +2,7 @@
 ghost use Rattle.std.specs.Prelude.{◌≡◌, IfOk};
 
 use crate::reply::{Iter, Page};
-use kds_base::{Items, Memory, Moment, Name, Octets, Seq, ShardNo};
+use kds_base::{Items, Memory, Moment, Name, Octets, Seq, ShardNo, ShardRef, TenureNo, WorkerNo};
 use std::alloc::Global;
 
 /// One event: who acts, when, and what is asked.
@@ -91,6 +91,60 @@ pub enum Command {
         page: Page,
         limit: u32,
     },
+    /// All listed shards and all rows of the lease table.
+    Survey,
+    /// A row is made for a shard.
+    MakeLease {
+        key: ShardRef,
+    },
+    /// A worker takes a row at its counter, and a tenure of it begins.
+    Take {
+        key: ShardRef,
+        counter: u64,
+        owner: WorkerNo,
+    },
+    /// The tenure's row is renewed at its counter.
+    Renew {
+        tenure: TenureNo,
+        counter: u64,
+    },
+    /// The tenure's row is freed at its counter.
+    Free {
+        tenure: TenureNo,
+        counter: u64,
+    },
+    /// The tenure may read its shard from now on.
+    OpenShard {
+        tenure: TenureNo,
+    },
+    /// The tenure reads at most so many records at its reach.
+    Read {
+        tenure: TenureNo,
+        position: u64,
+        limit: u32,
+    },
+    /// The first of the tenure's reads that isn't given is given to the processor.
+    Give {
+        tenure: TenureNo,
+    },
+    /// The checkpoint of the tenure's row is set, at its counter.
+    Mark {
+        tenure: TenureNo,
+        counter: u64,
+        to: Target,
+    },
+    /// A row is removed at its counter.
+    CutLease {
+        key: ShardRef,
+        counter: u64,
+    },
+}
+
+/// What a checkpoint is set to: the number of a record, or the shard's end.
+#[derive(Clone, Copy, Debug, PartialEq, Eq)]
+pub enum Target {
+    At(Seq),
+    End,
 }
 
 /// Where an iterator begins (Kinesis API Reference, GetShardIterator, ShardIteratorType).
@@ -245,6 +299,49 @@ impl Command {
             Command::More { page, limit } => Ok(Command::More {
                 page: *page,
                 limit: *limit,
+            }),
+            Command::Survey => Ok(Command::Survey),
+            Command::MakeLease { key } => Ok(Command::MakeLease { key: *key }),
+            Command::Take {
+                key,
+                counter,
+                owner,
+            } => Ok(Command::Take {
+                key: *key,
+                counter: *counter,
+                owner: *owner,
+            }),
+            Command::Renew { tenure, counter } => Ok(Command::Renew {
+                tenure: *tenure,
+                counter: *counter,
+            }),
+            Command::Free { tenure, counter } => Ok(Command::Free {
+                tenure: *tenure,
+                counter: *counter,
+            }),
+            Command::OpenShard { tenure } => Ok(Command::OpenShard { tenure: *tenure }),
+            Command::Read {
+                tenure,
+                position,
+                limit,
+            } => Ok(Command::Read {
+                tenure: *tenure,
+                position: *position,
+                limit: *limit,
+            }),
+            Command::Give { tenure } => Ok(Command::Give { tenure: *tenure }),
+            Command::Mark {
+                tenure,
+                counter,
+                to,
+            } => Ok(Command::Mark {
+                tenure: *tenure,
+                counter: *counter,
+                to: *to,
+            }),
+            Command::CutLease { key, counter } => Ok(Command::CutLease {
+                key: *key,
+                counter: *counter,
             }),
         }
     }

@@ -1,5 +1,6 @@
 //! What the lines of the journal say.
-use kds_base::{Name, Seq, ShardNo, StreamNo};
+use crate::command::Target;
+use kds_base::{Items, Name, Seq, ShardNo, ShardRef, StreamNo, TenureNo, WorkerNo};
 
 /// What a line of the journal says.
 #[derive(Drop)]
@@ -43,5 +44,52 @@ pub enum Entry {
     Kept {
         stream: StreamNo,
         hours: u32,
+    },
+    /// A row of the lease table was made.
+    LeaseMade {
+        key: ShardRef,
+    },
+    /// A worker took a row, and this tenure of it began; the counter is the row's after it.
+    Taken {
+        key: ShardRef,
+        tenure: TenureNo,
+        counter: u64,
+        owner: WorkerNo,
+    },
+    /// The tenure's row was renewed; the counter is the row's after it.
+    Renewed {
+        tenure: TenureNo,
+        counter: u64,
+    },
+    /// The tenure's row was freed; the counter is the row's after it.
+    Freed {
+        tenure: TenureNo,
+        counter: u64,
+    },
+    /// The tenure was opened.
+    Opened {
+        tenure: TenureNo,
+    },
+    /// The tenure read the records of these numbers, and whether that ended the shard.
+    Read {
+        tenure: TenureNo,
+        limit: u32,
+        end: bool,
+        numbers: Items<Seq>,
+    },
+    /// The first read of the tenure that wasn't given was given.
+    Given {
+        tenure: TenureNo,
+    },
+    /// The checkpoint of the tenure's row was set; the counter is the row's after it.
+    Marked {
+        tenure: TenureNo,
+        counter: u64,
+        to: Target,
+    },
+    /// A row was removed; the counter is the row's.
+    LeaseCut {
+        key: ShardRef,
+        counter: u64,
     },
 }

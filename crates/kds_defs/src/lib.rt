@@ -4,11 +4,13 @@
 
 pub mod command;
 pub mod entry;
+mod laws;
 pub mod limits;
 pub mod machine;
 pub mod reply;
 
-pub use command::{Command, NewItem, Start, Turn};
+pub use command::{Command, NewItem, Start, Target, Turn};
 pub use entry::Entry;
+pub use laws::{lease_answers, service_answers};
 pub use machine::{Answer, Machine};
-pub use reply::{About, Iter, Page, Place, Refusal, Reply, Shard, Stored};
+pub use reply::{About, Iter, Page, Place, Refusal, Reply, Row, Shard, Stored};

@@ -46,6 +46,9 @@ pub const BATCH_BYTES: u64 = 10_485_760;
 /// The greatest limit that a listing or a read may ask for.
 pub const MOST: u32 = 10_000;
 
+/// The reads that a tenure may have that aren't given.
+pub const PENDING_READS: u64 = 8;
+
 /// The bytes that a line of a schedule may have before its line feed.
 pub const LINE_BYTES: u64 = 8_388_608;
 

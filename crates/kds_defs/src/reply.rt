@@ -1,5 +1,8 @@
 //! What the machine answers.
-use kds_base::{Items, Moment, Name, Octets, Range, Seq, ShardNo, StreamNo};
+use kds_base::{
+    Checkpoint, Items, Moment, Name, Octets, Range, Seq, ShardNo, ShardRef, StreamNo, TenureNo,
+    WorkerNo,
+};
 use std::marker::Model;
 
 /// Where a record was put.
@@ -58,6 +61,35 @@ impl Model for Shard {
     ghost inverse = { λ x. record { no = x.no; range = x.range; parent = x.parent; adjacent = x.adjacent; start = x.start; end = x.end } };
 }
 
+/// A row of the lease table (Kinesis Client Library, lease). Contracts see the fields.
+#[derive(Clone, Copy, Debug, PartialEq, Eq)]
+pub struct Row {
+    pub key: ShardRef,
+    /// The worker that owns it.
+    pub owner: Option<WorkerNo>,
+    /// How many times the row was taken, renewed, freed and marked.
+    pub counter: u64,
+    pub checkpoint: Checkpoint,
+    /// How many times it was taken from another owner since the last mark.
+    pub switches: u64,
+    /// The tenure that holds it; 0 is none.
+    pub tenure: TenureNo,
+    /// The shard's starting sequence number.
+    pub floor: Seq,
+    pub parent: Option<ShardNo>,
+    pub adjacent: Option<ShardNo>,
+}
+
+impl Model for Row {
+    ghost use Rattle.kds_defs.specs.Values.{RowValue};
+
+    ghost Value = { RowValue };
+
+    ghost view = { λ r. record { key = r.key; owner = r.owner; counter = r.counter; checkpoint = r.checkpoint; switches = r.switches; tenure = r.tenure; floor = r.floor; parent = r.parent; adjacent = r.adjacent } };
+
+    ghost inverse = { λ r. record { key = r.key; owner = r.owner; counter = r.counter; checkpoint = r.checkpoint; switches = r.switches; tenure = r.tenure; floor = r.floor; parent = r.parent; adjacent = r.adjacent } };
+}
+
 /// What is told of a stream: its name, when it was made, its retention in hours (Kinesis API Reference,
 /// StreamDescription and StreamDescriptionSummary).
 #[derive(Drop)]
@@ -107,6 +139,29 @@ pub enum Reply {
         shards: Items<Shard>,
         next: Option<Page>,
     },
+    /// Survey: all listed shards and all rows, each in the order of their keys.
+    Survey {
+        shards: Items<ShardRef>,
+        rows: Items<Row>,
+    },
+    /// Take: the tenure, the row's counter, and where the tenure begins.
+    Taken {
+        tenure: TenureNo,
+        counter: u64,
+        start: Checkpoint,
+    },
+    /// Renew, Free, Mark: the row's counter.
+    Counter(u64),
+    /// Read: the records, the tenure's reach after them, and whether the shard ends there.
+    Read {
+        batch: Items<Stored>,
+        reach: u64,
+        end: bool,
+    },
+    /// Give: one above the greatest number that was given, where there was any.
+    Given {
+        delivered: u64,
+    },
 }
 
 /// Why a command is refused.
@@ -134,6 +189,42 @@ pub enum Refusal {
     PageExpired,
     /// A limit on streams or shards is reached.
     Full,
-    /// The numbers of a stream, or those of streams, are used up.
+    /// The numbers of a stream, of streams, of a row or of tenures are used up.
     Spent,
+    /// The key has no row.
+    NoLease,
+    /// There is no such tenure.
+    NoTenure,
+    /// The tenure was taken by another actor.
+    NotYours,
+    /// The row's tenure is this one, or 0 for none.
+    Lost(TenureNo),
+    /// The row's counter is this one.
+    Moved(u64),
+    /// The row's checkpoint is the shard's end.
+    Ended,
+    /// The number isn't below this one, up to which records were given.
+    Beyond(u64),
+    /// The number is below this one, the least that a checkpoint may be set to.
+    Below(Seq),
+    /// The last read that was given didn't end the shard.
+    NotAtEnd,
+    /// This parent is listed, and its row doesn't read its end.
+    ParentsOpen(ShardRef),
+    /// The tenure wasn't opened.
+    NotOpened,
+    /// The tenure was opened before.
+    OpenedBefore,
+    /// Each read of the tenure was given.
+    NothingPending,
+    /// Too many reads of the tenure aren't given.
+    TooManyPending,
+    /// The tenure's reach is this position.
+    OutOfPlace(u64),
+    /// The shard isn't listed.
+    ShardGone,
+    /// The key has a row.
+    LeaseThere,
+    /// The shard is listed.
+    ShardListed,
 }

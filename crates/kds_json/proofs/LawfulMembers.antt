@@ -12,10 +12,11 @@ use Rattle.kds_base.specs.Names.{IsName, is_name, name_of}
 use Rattle.kds_base.specs.NumberText.{is_plain, number_of}
 use Rattle.kds_defs.specs.declared.command.Command.{Command}
 use Rattle.kds_defs.specs.declared.limits.TheConstants.{MOST, RECORD_BYTES}
-use Rattle.kds_defs.specs.Lawful.{IsPartitionKey, IsNameIfThere, IsLimit, IsLawfulCommand}
+use Rattle.kds_defs.specs.Lawful.{IsPartitionKey, IsNameIfThere, IsLimit}
 use Rattle.kds_json.specs.declared.problem.Fault.{Fault}
 use Rattle.kds_json.specs.declared.problem.FaultKind.{FaultKind}
 use Rattle.kds_json.specs.Reading.{◌>>=◌, some_or}
+use Rattle.kds_json.specs.Asked.{IsRequest}
 use Rattle.kds_json.specs.Member.{required, member_of, required_at, value_or, optional_at}
 use Rattle.kds_json.specs.Kinds.{name_in, some_name_in, within, number_in, is_partition_key, key_of, key_in, fitting, blob_of, blob_in, hash_in, hash_at}
 use Rattle.kds_json.proofs.Digests.{hash_fits}
@@ -126,11 +127,11 @@ unfolding hash_at
 record_hash_is key name d = optional_has IsHash (key_hash key) hash_in name d (hash_fits key) hash_is
 
 -- the name of a stream, and what follows it
-pub then_named : (name : List ℕ) (d : Data) (f : List ℕ → Result Command Fault) → ((x : List ℕ) → IsName x → IfOk (f x) IsLawfulCommand) → IfOk (required_at name_in name d >>= f) IsLawfulCommand
-then_named name d f k = then_has IsName IsLawfulCommand (required_at name_in name d) f (required_has IsName name_in name d name_is) k
+pub then_named : (name : List ℕ) (d : Data) (f : List ℕ → Result Command Fault) → ((x : List ℕ) → IsName x → IfOk (f x) IsRequest) → IfOk (required_at name_in name d >>= f) IsRequest
+then_named name d f k = then_has IsName IsRequest (required_at name_in name d) f (required_has IsName name_in name d name_is) k
 
 -- a limit, and what follows it
-pub then_limited : (default : ℕ) (name : List ℕ) (d : Data) (f : ℕ → Result Command Fault) → IsLimit default → ((n : ℕ) → IsLimit n → IfOk (f n) IsLawfulCommand) → IfOk (optional_at default (number_in 1 MOST) name d >>= f) IsLawfulCommand
+pub then_limited : (default : ℕ) (name : List ℕ) (d : Data) (f : ℕ → Result Command Fault) → IsLimit default → ((n : ℕ) → IsLimit n → IfOk (f n) IsRequest) → IfOk (optional_at default (number_in 1 MOST) name d >>= f) IsRequest
 then_limited default name d f is k =
-    then_has IsLimit IsLawfulCommand (optional_at default (number_in 1 MOST) name d) f
+    then_has IsLimit IsRequest (optional_at default (number_in 1 MOST) name d) f
     (optional_has IsLimit default (number_in 1 MOST) name d is (number_is 1 MOST)) k

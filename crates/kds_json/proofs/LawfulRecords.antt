@@ -6,9 +6,10 @@ use Rattle.serde_json.specs.Data.{Data, Items, no_items, item}
 use Rattle.serde_json.specs.Find.{as_array, as_object}
 use Rattle.kds_defs.specs.declared.command.NewItem.{NewItem}
 use Rattle.kds_defs.specs.declared.limits.TheConstants.{MANY_ITEMS, MANY_BYTES}
-use Rattle.kds_defs.specs.Lawful.{IsPartitionKey, IsItem, AreItems, item_bytes, IsLawfulCommand}
+use Rattle.kds_defs.specs.Lawful.{IsPartitionKey, IsItem, AreItems, item_bytes}
 use Rattle.kds_json.specs.declared.problem.Fault.{Fault}
 use Rattle.kds_json.specs.Reading.{some_or}
+use Rattle.kds_json.specs.Asked.{IsRequest}
 use Rattle.kds_json.specs.Member.{required_at}
 use Rattle.kds_json.specs.Kinds.{key_in, blob_in, hash_at}
 use Rattle.kds_json.specs.Operations.{item_of, put_record}
@@ -24,11 +25,11 @@ item_is d =
     then_has IsHash IsItem (hash_at key (codes "ExplicitHashKey") d) _ (record_hash_is key (codes "ExplicitHashKey") d)
     (λ hash is_hash. record { key = is_key; hash = is_hash; bytes = is_short })))
 
-pub put_is : (d : Data) → IfOk (put_record d) IsLawfulCommand
+pub put_is : (d : Data) → IfOk (put_record d) IsRequest
 unfolding put_record
 put_is d =
     then_named (codes "StreamName") d _ (λ name is_named.
-    then_has IsItem IsLawfulCommand (item_of d) _ (item_is d) (λ one is. (is_named, is)))
+    then_has IsItem IsRequest (item_of d) _ (item_is d) (λ one is. ((is_named, is), refl)))
 
 -- ---- PutRecords
 
@@ -66,11 +67,11 @@ within_are ds items counts are =
       bytes = grind (arith, nat_tests);
     })
 
-pub many_is : (d : Data) → IfOk (put_records d) IsLawfulCommand
+pub many_is : (d : Data) → IfOk (put_records d) IsRequest
 unfolding put_records
 many_is d =
     then_named (codes "StreamName") d _ (λ name is_named.
-    then_has IsCounted IsLawfulCommand (required_at records_in (codes "Records") d) _ (required_has IsCounted records_in (codes "Records") d records_counted) (λ ds counts.
-    then_has (AreRead ds) IsLawfulCommand (records_from 1 ds) _ (records_are 1 ds) (λ items are.
-    then_has AreItems IsLawfulCommand (some_or _ (codes "Records") (within_limit items)) _
-    (some_or_has AreItems _ (codes "Records") (within_limit items) (within_are ds items counts are)) (λ fitting fit. (is_named, fit)))))
+    then_has IsCounted IsRequest (required_at records_in (codes "Records") d) _ (required_has IsCounted records_in (codes "Records") d records_counted) (λ ds counts.
+    then_has (AreRead ds) IsRequest (records_from 1 ds) _ (records_are 1 ds) (λ items are.
+    then_has AreItems IsRequest (some_or _ (codes "Records") (within_limit items)) _
+    (some_or_has AreItems _ (codes "Records") (within_limit items) (within_are ds items counts are)) (λ fitting fit. ((is_named, fit), refl)))))

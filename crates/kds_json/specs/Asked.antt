@@ -1,9 +1,11 @@
 -- What an operation and a body ask for: a command, or the first fault.
-use Rattle.std.specs.Prelude.{ℕ, List, [], codes, true, false, if◌then◌else◌, Option, Some, None, Result, Ok, Err}
+use Rattle.std.specs.Prelude.{◌≡◌, ℕ, List, [], codes, true, false, if◌then◌else◌, Option, Some, None, Result, Ok, Err}
 use Rattle.std.specs.Str.{bytes_eq, is_utf8}
 use Rattle.serde_json.specs.Data.{Data, object}
 use Rattle.serde_json.specs.Read.{read}
 use Rattle.kds_defs.specs.declared.command.Command.{Command}
+use Rattle.kds_defs.specs.Kinds.{is_service}
+use Rattle.kds_defs.specs.Lawful.{IsLawfulCommand}
 use Rattle.kds_json.specs.declared.operation.Operation.{Operation}
 use Rattle.kds_json.specs.declared.operation.Operation.TheVariants as op
 use Rattle.kds_json.specs.declared.problem.Fault.{Fault}
@@ -66,3 +68,7 @@ asked operation body = do
   what ← some_or Unknown [] (operation_named operation)
   d ← object_of body
   members_of what d
+
+-- what a request may ask for: a lawful command of the stream service
+abbrev pub IsRequest : Command → Type 0
+IsRequest what = IsLawfulCommand what × (is_service what ≡ true)

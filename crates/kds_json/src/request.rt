@@ -2,9 +2,8 @@
 ghost use Rattle.std.specs.Prelude.{◌≡◌, ℕ, List, Ok, IsUtf8, IfOk, IfErr, option_map};
 ghost use Rattle.kds_defs.specs.declared.command.Command.{Command};
 ghost use Rattle.serde_json.specs.View.{view};
-ghost use Rattle.kds_defs.specs.Lawful.{IsLawfulCommand};
 ghost use Rattle.kds_json.specs.Reading.{Gives};
-ghost use Rattle.kds_json.specs.Asked.{object_of, read_body, members_of, asked};
+ghost use Rattle.kds_json.specs.Asked.{object_of, read_body, members_of, asked, IsRequest};
 
 use crate::many::put_records;
 use crate::member::stop_at;
@@ -89,8 +88,8 @@ fn command(alloc: Global, operation: &[u8], body: &[u8]) -> Result<Command, Stop
 pub fn ask(alloc: Global, operation: &[u8], body: &[u8]) -> Result<Result<Command, Fault>, Memory>
     ensures value { IfOk result (λ r. r ≡ asked operation.now body.now) }
 
-    // A command may be asked of a machine, and the member of a fault can be printed.
-    ensures lawful { IfOk result (λ r. IfOk r IsLawfulCommand) }
+    // A command may be asked of a machine, whose stream service answers it. The member of a fault can be printed.
+    ensures lawful { IfOk result (λ r. IfOk r IsRequest) }
     ensures text { IfOk result (λ r. IfErr r (λ fault. IsUtf8 fault.member)) }
 {
     match command(alloc, operation, body) {
@@ -100,7 +99,7 @@ pub fn ask(alloc: Global, operation: &[u8], body: &[u8]) -> Result<Result<Comman
     }
 }
 
-/// What a request asks for may be asked of a machine.
+/// What a request asks for may be asked of a machine, whose stream service answers it.
 pub fn asks_lawfully()
-    ensures { (operation body : List ℕ) (what : Command) → asked operation body ≡ Ok what → IsLawfulCommand what }
+    ensures { (operation body : List ℕ) (what : Command) → asked operation body ≡ Ok what → IsRequest what }
 {}

@@ -1,4 +1,4 @@
--- The keys of the lines of every journal are text, and so are those of the records that answers tell.
+-- The keys of the lines of every journal are text, and so are those of the records that answers hold.
 use Rattle.std.proofs.Common.{ℕ, zero, suc, ◌+◌, ◌-◌, List, [], ◌∷◌, ◌++◌, map, Bool, true, false, nat_le, ◌==◌, ◌&&◌, if◌then◌else◌, Option, Some, None}
 use Rattle.std.specs.List.{AllByRecursion, filter}
 use Rattle.std.specs.Str.{IsUtf8}
@@ -7,6 +7,8 @@ use Rattle.kds_defs.specs.declared.command.Command.{Command}
 use Rattle.kds_defs.specs.declared.command.Command.TheVariants as command
 use Rattle.kds_defs.specs.declared.command.NewItem.{NewItem}
 use Rattle.kds_defs.specs.declared.command.Start.{Start}
+use Rattle.kds_defs.specs.declared.command.Target.{Target}
+use Rattle.kds_defs.specs.declared.command.Target.TheVariants as target
 use Rattle.kds_defs.specs.declared.command.Turn.{Turn}
 use Rattle.kds_defs.specs.declared.entry.Entry.{Entry}
 use Rattle.kds_defs.specs.declared.entry.Entry.TheVariants as entry
@@ -19,8 +21,11 @@ use Rattle.kds_defs.specs.Decision.{Decision, refuse◌if◌else◌, with◌or�
 use Rattle.kds_defs.specs.Histories.{decide, lines_of, answer_of, clock, journal, answer}
 use Rattle.kds_defs.specs.Journal.{Line, Journal, with_lines}
 use Rattle.kds_defs.specs.Lawful.{IsItem, AreItems, IsLawfulCommand, IsHistory}
+use Rattle.kds_defs.specs.LeaseCommands.{open_shard, past_parent, past_parents, past_target, read, with_held, with_tenure}
+use Rattle.kds_defs.specs.Leases.{TenureState, reach, row, tenure}
 use Rattle.kds_defs.specs.Listings.{more, get_iterator, get_records, records_reply, ends_at}
 use Rattle.kds_defs.specs.Records.{Logged, next_number, stored, records_after, records, is_left, left_from, beginning, batch}
+use Rattle.kds_defs.specs.Shards.{ShardState, shard_at}
 use Rattle.kds_defs.specs.StreamCommands.{create, put, put_lines, put_many, split, merge, keep}
 use Rattle.kds_defs.specs.Streams.{is_live, stream_named, trim_floor}
 use Rattle.kds_reply.specs.Keys.{records_in, IsPrintedWhole, ArePrintedWhole}
@@ -51,13 +56,9 @@ abbrev HasTextKeys : Journal → Type 0
 HasTextKeys log = AllByRecursion HasTextKey log
 
 record_text : (line : Line) (e : Entry) (s sh : ℕ) (before : List Logged) → HasTextKey line → AllByRecursion IsKeptText before → AllByRecursion IsKeptText (records_after line e s sh before)
-record_text line (entry.Made stream name count) s sh before h k = k
-record_text line (entry.Gone stream) s sh before h k = k
-record_text line (entry.Kept stream hours) s sh before h k = k
 record_text line (entry.Put stream shard seq hash bytes) s sh before h k =
     all-if IsKeptText ((stream == s) && (shard == sh)) _ before (all-append IsKeptText before _ k (h, tt)) k
-record_text line (entry.Split stream shard at seq low high) s sh before h k = k
-record_text line (entry.Merged stream shard other seq child) s sh before h k = k
+record_text line _ s sh before h k = k
 
 records_text : (log : Journal) (s sh : ℕ) → HasTextKeys log → AllByRecursion IsKeptText (records log s sh)
 records_text [] s sh h = tt
@@ -127,15 +128,48 @@ reply_if false x y h k = k
 told_text : (log : Journal) (c s sh place : ℕ) (rs : List Logged) → AllByRecursion IsKeptText rs → IsText (records_reply log c s sh rs place)
 told_text log c s sh place rs h = (tt, reply_if (ends_at log c s sh place) _ _ (printed_text rs h) (printed_text rs h))
 
-batch_text : (log : Journal) (c : ℕ) (iter : Iter) (limit : ℕ) → HasTextKeys log → AllByRecursion IsKeptText (batch log c iter.stream iter.shard iter.position limit)
-batch_text log c iter limit h = beginning_text limit BATCH_BYTES _ (left_text log c iter.stream iter.shard iter.position h)
+batch_text : (log : Journal) (c s sh position limit : ℕ) → HasTextKeys log → AllByRecursion IsKeptText (batch log c s sh position limit)
+batch_text log c s sh position limit h = beginning_text limit BATCH_BYTES _ (left_text log c s sh position h)
 
 get_text : (log : Journal) (c : ℕ) (iter : Iter) (limit : ℕ) → HasTextKeys log → IsText (get_records log c iter limit)
 get_text log c iter limit h =
-    refused_text _ _ _ (refused_text _ _ _ (refused_text _ _ _ (told_text log c iter.stream iter.shard _ _ (batch_text log c iter limit h))))
+    refused_text _ _ _ (refused_text _ _ _ (refused_text _ _ _ (told_text log c iter.stream iter.shard _ _ (batch_text log c iter.stream iter.shard iter.position limit h))))
 
 more_text : (log : Journal) (c : ℕ) (page : Page) (limit : ℕ) → IsText (more log c page limit)
 more_text log c page limit = refused_text _ _ _ (refused_text _ _ _ (tt, tt))
+
+-- ---- decisions on leases
+
+-- what is decided of a tenure that is the actor's, and of one that is moreover the row's
+of_tenure : (log : Journal) (by t : ℕ) (next : TenureState → Decision) → ((T : TenureState) → IsText (next T)) → IsText (with_tenure log by t next)
+of_tenure log by t next h = with_text (tenure log t) _ _ (λ T. refused_text _ _ _ (h T))
+
+of_held : (log : Journal) (by t : ℕ) (next : TenureState → Decision) → ((T : TenureState) → IsText (next T)) → IsText (with_held log by t next)
+of_held log by t next h = of_tenure log by t _ (λ T. refused_text _ _ _ (h T))
+
+of_parent : (log : Journal) (c s : ℕ) (o : Option ℕ) (next : Decision) → IsText next → IsText (past_parent log c s o next)
+of_parent log c s None next h = h
+of_parent log c s (Some parent) next h = refused_text _ _ _ h
+
+of_parents : (log : Journal) (c s : ℕ) (o : Option ShardState) (next : Decision) → IsText next → IsText (past_parents log c s o next)
+of_parents log c s None next h = h
+of_parents log c s (Some x) next h = of_parent log c s x.parent _ (of_parent log c s x.adjacent next h)
+
+of_target : (log : Journal) (T : TenureState) (to : Target) (next : Decision) → IsText next → IsText (past_target log T to next)
+of_target log T (target.At q) next h = refused_text _ _ _ (refused_text _ _ _ (refused_text _ _ _ h))
+of_target log T target.End next h = refused_text _ _ _ h
+
+open_text : (log : Journal) (c by t : ℕ) → IsText (open_shard log c by t)
+open_text log c by t =
+    of_held log by t _ (λ T. refused_text _ _ _ (refused_text _ _ _
+    (of_parents log c T.key.stream (shard_at log T.key.stream T.key.shard) _ ((IsUtf8-nil, tt), tt))))
+
+read_text : (log : Journal) (c by t position limit : ℕ) → HasTextKeys log → IsText (read log c by t position limit)
+read_text log c by t position limit h =
+    of_tenure log by t _ (λ T. refused_text _ _ _ (refused_text _ _ _ (refused_text _ _ _ (refused_text _ _ _
+    ((IsUtf8-nil, tt), printed_text _ (batch_text log c T.key.stream T.key.shard (reach T) limit h))))))
+
+-- ---- all decisions
 
 decide_text : (log : Journal) (c by : ℕ) (what : Command) → HasTextKeys log → IsLawfulCommand what → IsText (decide log c by what)
 decide_text log c by (command.Create name count) h is = create_text log c by name count
@@ -152,6 +186,19 @@ decide_text log c by (command.Records iter limit) h is = get_text log c iter lim
 decide_text log c by (command.Put name item) h is = with_text (stream_named log name) _ _ (λ s. put_text log c by s item is.1)
 decide_text log c by (command.Split name sh at) h is = with_text (stream_named log name) _ _ (λ s. split_text log c by s sh at)
 decide_text log c by (command.Merge name sh other) h is = with_text (stream_named log name) _ _ (λ s. merge_text log c by s sh other)
+decide_text log c by command.Survey h is = (tt, tt)
+decide_text log c by (command.MakeLease key) h is = refused_text _ _ _ (refused_text _ _ _ ((IsUtf8-nil, tt), tt))
+decide_text log c by (command.Take key counter owner) h is =
+    with_text (row log key) _ _ (λ r. refused_text _ _ _ (refused_text _ _ _ (refused_text _ _ _ ((IsUtf8-nil, tt), tt))))
+decide_text log c by (command.Renew t counter) h is = of_held log by t _ (λ T. refused_text _ _ _ (refused_text _ _ _ ((IsUtf8-nil, tt), tt)))
+decide_text log c by (command.Free t counter) h is = of_held log by t _ (λ T. refused_text _ _ _ (refused_text _ _ _ ((IsUtf8-nil, tt), tt)))
+decide_text log c by (command.OpenShard t) h is = open_text log c by t
+decide_text log c by (command.Read t position limit) h is = read_text log c by t position limit h
+decide_text log c by (command.Give t) h is = of_tenure log by t _ (λ T. refused_text _ _ _ ((IsUtf8-nil, tt), tt))
+decide_text log c by (command.Mark t counter to) h is =
+    of_held log by t _ (λ T. refused_text _ _ _ (of_target log T to _ (refused_text _ _ _ ((IsUtf8-nil, tt), tt))))
+decide_text log c by (command.CutLease key counter) h is =
+    with_text (row log key) _ _ (λ r. refused_text _ _ _ (refused_text _ _ _ ((IsUtf8-nil, tt), tt)))
 
 -- ---- histories
 

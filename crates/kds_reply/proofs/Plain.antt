@@ -110,3 +110,4 @@ reply_plain (PutMany ps) = places_plain ps
 reply_plain (Iterator i) = iterator_plain i
 reply_plain (Records batch next behind children) = records_plain batch next behind children
 reply_plain (Shards shards next) = shards_plain shards next
+reply_plain _ = tt

@@ -1,5 +1,5 @@
 -- The bodies of errors (Kinesis API Reference, Common Errors, and the Errors of each action).
-use Rattle.std.specs.Prelude.{ℕ, List, ◌++◌, codes}
+use Rattle.std.specs.Prelude.{ℕ, List, [], ◌++◌, codes}
 use Rattle.serde_json.specs.Data.{Data, string, object, member, no_members}
 use Rattle.serde_json.specs.Written.{compact_text}
 use Rattle.kds_defs.specs.declared.reply.Refusal.{Refusal}
@@ -12,7 +12,8 @@ use Rattle.kds_json.specs.declared.problem.FaultKind.TheVariants.{Unknown, Seria
 abbrev pub error_data : List ℕ → List ℕ → Data
 error_data name message = object (member (codes "__type") (string name) (member (codes "message") (string message) no_members))
 
--- the error that a refusal is
+-- The error that a refusal of the stream service is. No other refusal is told in JSON: the last lines stand for those,
+-- which the condition of `reply` excludes.
 abbrev pub refusal_name : Refusal → List ℕ
 refusal_name NoStream = codes "ResourceNotFoundException"
 refusal_name StreamThere = codes "ResourceInUseException"
@@ -26,6 +27,7 @@ refusal_name Expired = codes "ExpiredIteratorException"
 refusal_name PageExpired = codes "ExpiredNextTokenException"
 refusal_name Full = codes "LimitExceededException"
 refusal_name Spent = codes "LimitExceededException"
+refusal_name _ = []
 
 abbrev pub refusal_message : Refusal → List ℕ
 refusal_message NoStream = codes "stream not found"
@@ -40,6 +42,7 @@ refusal_message Expired = codes "iterator expired"
 refusal_message PageExpired = codes "next token expired"
 refusal_message Full = codes "limit reached"
 refusal_message Spent = codes "numbers are used up"
+refusal_message _ = []
 
 -- the body of a refusal
 abbrev pub refusal_text : Refusal → List ℕ

@@ -1,23 +1,17 @@
--- The partition keys that answers tell.
+-- The partition keys that answers hold.
 use Rattle.std.specs.Prelude.{◌≡◌, List, [], Result, Ok, Err}
 use Rattle.std.specs.List.{AllByRecursion}
 use Rattle.std.specs.Str.Lossy.{utf8_lossy}
 use Rattle.kds_defs.specs.declared.reply.Refusal.{Refusal}
 use Rattle.kds_defs.specs.declared.reply.Reply.{Reply}
-use Rattle.kds_defs.specs.declared.reply.Reply.TheVariants.{Done, Streams, Described, Summary, Put, PutMany, Iterator, Records, Shards}
+use Rattle.kds_defs.specs.declared.reply.Reply.TheVariants.{Records, Read}
 use Rattle.kds_defs.specs.declared.reply.Stored.{Stored}
 
 -- the records that a reply holds
 abbrev pub records_in : Reply → List Stored
-records_in Done = []
-records_in (Streams names more) = []
-records_in (Described about shards more) = []
-records_in (Summary about open_shards) = []
-records_in (Put place) = []
-records_in (PutMany places) = []
-records_in (Iterator iter) = []
 records_in (Records batch next behind children) = batch
-records_in (Shards shards next) = []
+records_in (Read batch reach ended) = batch
+records_in _ = []
 
 -- the records that an answer holds
 abbrev pub records_of : Result Reply Refusal → List Stored

@@ -12,7 +12,8 @@ use Rattle.kds_reply.specs.Records.{records_data}
 use Rattle.kds_reply.specs.Shards.{shards_data}
 use Rattle.kds_reply.specs.Streams.{streams_data, described_data, summary_data}
 
--- what a reply tells, if there is anything to tell
+-- What a reply of the stream service tells, if there is anything to tell. No other reply is told in JSON: the last
+-- line stands for those, which the condition of `reply` excludes.
 abbrev pub reply_data : Reply → Option Data
 reply_data Done = None
 reply_data (Streams names more) = Some (streams_data names more)
@@ -23,6 +24,7 @@ reply_data (PutMany ps) = Some (places_data ps)
 reply_data (Iterator i) = Some (iterator_data i)
 reply_data (Records batch next behind children) = Some (records_data batch next behind children)
 reply_data (Shards shards next) = Some (shards_data shards next)
+reply_data _ = None
 
 -- as compact JSON, and empty where there is nothing
 abbrev pub body_text : Option Data → List ℕ

@@ -1,6 +1,7 @@
-ghost use Rattle.std.specs.Prelude.{◌≡◌, option_map, IfOk, false};
+ghost use Rattle.std.specs.Prelude.{◌≡◌, option_map, IfOk, false, true};
 ghost use Rattle.serde_json.specs.View.{view};
 ghost use Rattle.serde_json.specs.Written.{compact_text, has_float};
+ghost use Rattle.kds_defs.specs.Kinds.{is_service_answer, is_service_reply};
 ghost use Rattle.kds_reply.specs.Replies.{reply_data, reply_text, reply_of};
 
 use crate::errors::BAD_REQUEST;
@@ -28,6 +29,7 @@ fn text_of(alloc: Global, value: &Value) -> Result<Octets, Memory>
 
 /// What a reply tells, if there is anything to tell.
 fn reply_value(alloc: Global, reply: &Reply) -> Result<Option<Value>, Memory>
+    requires { is_service_reply reply.now ≡ true }
     ensures { IfOk result (λ o. option_map view o ≡ reply_data reply.now) }
 {
     match reply {
@@ -60,10 +62,12 @@ fn reply_value(alloc: Global, reply: &Reply) -> Result<Option<Value>, Memory>
             Ok(Some(records_value(alloc, batch, next, *behind, children)?))
         }
         Reply::Shards { shards, next } => Ok(Some(shards_value(alloc, shards.as_slice(), next)?)),
+        _ => unreachable!(),
     }
 }
 
 fn reply_body(alloc: Global, reply: &Reply) -> Result<Octets, Memory>
+    requires { is_service_reply reply.now ≡ true }
     ensures { IfOk result (λ o. o ≡ reply_text reply.now) }
 {
     match reply_value(alloc, reply)? {
@@ -73,12 +77,14 @@ fn reply_body(alloc: Global, reply: &Reply) -> Result<Octets, Memory>
 }
 
 /// The status and the body of an answer: 200, or 400 for a refusal
-/// (Kinesis API Reference, Response Elements and Errors of each action). `Memory` is want of memory.
+/// (Kinesis API Reference, Response Elements and Errors of each action). Condition: it is an answer of the stream
+/// service. `Memory` is want of memory.
 pub fn reply(alloc: Global, answer: &Answer) -> Result<(u16, Octets), Memory>
+    requires { is_service_answer answer.now ≡ true }
     ensures { IfOk result (λ r. r ≡ reply_of answer.now) }
 {
     match answer {
         Ok(reply) => Ok((DONE, reply_body(alloc, reply)?)),
-        Err(refusal) => Ok((BAD_REQUEST, refusal_body(alloc, *refusal)?)),
+        Err(refusal) => Ok((BAD_REQUEST, refusal_body(alloc, refusal)?)),
     }
 }

@@ -1,4 +1,5 @@
-ghost use Rattle.std.specs.Prelude.{◌≡◌, IfOk};
+ghost use Rattle.std.specs.Prelude.{◌≡◌, IfOk, true};
+ghost use Rattle.kds_defs.specs.Kinds.{is_service_refusal};
 ghost use Rattle.kds_reply.specs.Errors.{refusal_name as name_of, refusal_message as message_of, refusal_text};
 
 use crate::errors::error_body;
@@ -7,8 +8,9 @@ use kds_defs::Refusal;
 use std::alloc::Global;
 
 /// The name of a refusal (Kinesis API Reference, Errors of each action).
-fn refusal_name(refusal: Refusal) -> &'static str
-    ensures { result.now ≡ name_of refusal }
+fn refusal_name(refusal: &Refusal) -> &'static str
+    requires { is_service_refusal refusal.now ≡ true }
+    ensures { result.now ≡ name_of refusal.now }
 {
     match refusal {
         Refusal::NoStream => "ResourceNotFoundException",
@@ -23,11 +25,13 @@ fn refusal_name(refusal: Refusal) -> &'static str
         Refusal::PageExpired => "ExpiredNextTokenException",
         Refusal::Full => "LimitExceededException",
         Refusal::Spent => "LimitExceededException",
+        _ => unreachable!(),
     }
 }
 
-fn refusal_message(refusal: Refusal) -> &'static str
-    ensures { result.now ≡ message_of refusal }
+fn refusal_message(refusal: &Refusal) -> &'static str
+    requires { is_service_refusal refusal.now ≡ true }
+    ensures { result.now ≡ message_of refusal.now }
 {
     match refusal {
         Refusal::NoStream => "stream not found",
@@ -42,12 +46,14 @@ fn refusal_message(refusal: Refusal) -> &'static str
         Refusal::PageExpired => "next token expired",
         Refusal::Full => "limit reached",
         Refusal::Spent => "numbers are used up",
+        _ => unreachable!(),
     }
 }
 
 /// The body of a refusal.
-pub fn refusal_body(alloc: Global, refusal: Refusal) -> Result<Octets, Memory>
-    ensures { IfOk result (λ o. o ≡ refusal_text refusal) }
+pub fn refusal_body(alloc: Global, refusal: &Refusal) -> Result<Octets, Memory>
+    requires { is_service_refusal refusal.now ≡ true }
+    ensures { IfOk result (λ o. o ≡ refusal_text refusal.now) }
 {
     error_body(alloc, refusal_name(refusal), refusal_message(refusal))
 }

@@ -1,4 +1,7 @@
-//! Replies, for the tests.
+//! Replies of the stream service, for the tests.
+ghost use Rattle.std.specs.Prelude.{◌≡◌, true, IfOk};
+ghost use Rattle.kds_defs.specs.Kinds.{is_service_reply};
+
 use kds_base::{Items, Memory, Moment, Name, Octets, Range, Seq, ShardNo, StreamNo};
 use kds_defs::{About, Iter, Page, Place, Reply, Shard, Stored};
 use std::alloc::Global;
@@ -10,7 +13,9 @@ pub fn place(shard: u64, seq: u64) -> Place {
     }
 }
 
-pub fn two_places(alloc: Global) -> Result<Reply, Memory> {
+pub fn two_places(alloc: Global) -> Result<Reply, Memory>
+    ensures { IfOk result (λ r. is_service_reply r ≡ true) }
+{
     let mut places = Items::new(alloc);
     places.push(place(0, 2))?;
     places.push(place(0, 3))?;
@@ -24,7 +29,9 @@ fn name(alloc: Global, text: &str) -> Result<Name, Memory> {
     }
 }
 
-pub fn one_name(alloc: Global) -> Result<Reply, Memory> {
+pub fn one_name(alloc: Global) -> Result<Reply, Memory>
+    ensures { IfOk result (λ r. is_service_reply r ≡ true) }
+{
     let mut names = Items::new(alloc);
     names.push(name(alloc, "a")?)?;
     Ok(Reply::Streams { names, more: true })
@@ -60,7 +67,9 @@ fn stored(alloc: Global, seq: u64, ms: u64, key: &str, payload: &str) -> Result<
     })
 }
 
-pub fn two_records(alloc: Global) -> Result<Reply, Memory> {
+pub fn two_records(alloc: Global) -> Result<Reply, Memory>
+    ensures { IfOk result (λ r. is_service_reply r ≡ true) }
+{
     let mut batch = Items::new(alloc);
     batch.push(stored(alloc, 1, 1000, "a", "hi")?)?;
     batch.push(stored(alloc, 2, 1001, "abc", "")?)?;
@@ -107,7 +116,9 @@ fn listed(alloc: Global, shards: [Option<Shard>; 2]) -> Result<Items<Shard>, Mem
     Ok(items)
 }
 
-pub fn ended(alloc: Global) -> Result<Reply, Memory> {
+pub fn ended(alloc: Global) -> Result<Reply, Memory>
+    ensures { IfOk result (λ r. is_service_reply r ≡ true) }
+{
     let half: u128 = 1 << 127;
     let parent = Some(ShardNo(0));
     let lower = shard(1, (0, half - 1), parent);
@@ -120,7 +131,9 @@ pub fn ended(alloc: Global) -> Result<Reply, Memory> {
     })
 }
 
-pub fn one_shard(alloc: Global) -> Result<Reply, Memory> {
+pub fn one_shard(alloc: Global) -> Result<Reply, Memory>
+    ensures { IfOk result (λ r. is_service_reply r ≡ true) }
+{
     Ok(Reply::Shards {
         shards: listed(alloc, [first_shard(Some(Seq(1))), None])?,
         next: Some(Page {
@@ -131,14 +144,18 @@ pub fn one_shard(alloc: Global) -> Result<Reply, Memory> {
     })
 }
 
-pub fn merged(alloc: Global) -> Result<Reply, Memory> {
+pub fn merged(alloc: Global) -> Result<Reply, Memory>
+    ensures { IfOk result (λ r. is_service_reply r ≡ true) }
+{
     Ok(Reply::Shards {
         shards: listed(alloc, [merged_shard(), None])?,
         next: None,
     })
 }
 
-pub fn described(alloc: Global) -> Result<Reply, Memory> {
+pub fn described(alloc: Global) -> Result<Reply, Memory>
+    ensures { IfOk result (λ r. is_service_reply r ≡ true) }
+{
     Ok(Reply::Described {
         about: about(alloc)?,
         shards: listed(alloc, [first_shard(None), None])?,
@@ -146,7 +163,9 @@ pub fn described(alloc: Global) -> Result<Reply, Memory> {
     })
 }
 
-pub fn summary(alloc: Global) -> Result<Reply, Memory> {
+pub fn summary(alloc: Global) -> Result<Reply, Memory>
+    ensures { IfOk result (λ r. is_service_reply r ≡ true) }
+{
     Ok(Reply::Summary {
         about: about(alloc)?,
         open_shards: 1,

@@ -1,9 +1,12 @@
+ghost use Rattle.std.specs.Prelude.{◌≡◌, true};
+ghost use Rattle.kds_defs.specs.Kinds.{is_service_refusal, is_service_reply};
+
 use crate::test_replies::{
     described, ended, iter_at, merged, one_name, one_shard, place, summary, two_places, two_records,
 };
 use crate::{fault, reply};
-use kds_base::{Items, Memory, Octets};
-use kds_defs::{Answer, Refusal, Reply};
+use kds_base::{Memory, Octets};
+use kds_defs::{Refusal, Reply};
 use kds_json::{Fault, FaultKind};
 use std::alloc::Global;
 use std::test::Fail;
@@ -58,35 +61,29 @@ fn add_line(alloc: Global, told: &(u16, Octets), text: &mut Octets) -> Result<()
     Ok(())
 }
 
-/// What answers are told, each on a line.
-fn lines(alloc: Global, answers: &[Answer]) -> Result<Octets, Memory> {
-    let mut text = Octets::new(alloc);
-    for answer in answers {
-        add_line(alloc, &reply(alloc, answer)?, &mut text)?;
-    }
-    Ok(text)
+/// Adds the line of a refusal of the stream service.
+fn refused(alloc: Global, refusal: Refusal, text: &mut Octets) -> Result<(), Memory>
+    requires { is_service_refusal refusal ≡ true }
+{
+    add_line(alloc, &reply(alloc, &Err(refusal))?, text)
 }
 
 #[test]
 fn refusals(rt: HostRuntime) -> Result<(), Fail> {
-    let mut answers = Items::new(rt.alloc());
-    for refusal in [
-        Refusal::NoStream,
-        Refusal::NoShard,
-        Refusal::StreamThere,
-        Refusal::ShardClosed,
-        Refusal::NotAdjacent,
-        Refusal::BadSplit,
-        Refusal::BadNumber,
-        Refusal::BadRetention,
-        Refusal::Expired,
-        Refusal::PageExpired,
-        Refusal::Full,
-        Refusal::Spent,
-    ] {
-        answers.push(Err(refusal))?;
-    }
-    let text = lines(rt.alloc(), answers.as_slice())?;
+    let alloc = rt.alloc();
+    let mut text = Octets::new(alloc);
+    refused(alloc, Refusal::NoStream, &mut text)?;
+    refused(alloc, Refusal::NoShard, &mut text)?;
+    refused(alloc, Refusal::StreamThere, &mut text)?;
+    refused(alloc, Refusal::ShardClosed, &mut text)?;
+    refused(alloc, Refusal::NotAdjacent, &mut text)?;
+    refused(alloc, Refusal::BadSplit, &mut text)?;
+    refused(alloc, Refusal::BadNumber, &mut text)?;
+    refused(alloc, Refusal::BadRetention, &mut text)?;
+    refused(alloc, Refusal::Expired, &mut text)?;
+    refused(alloc, Refusal::PageExpired, &mut text)?;
+    refused(alloc, Refusal::Full, &mut text)?;
+    refused(alloc, Refusal::Spent, &mut text)?;
     assert!(rt; text.as_slice() == REFUSALS.as_bytes());
     Ok(())
 }
@@ -118,32 +115,40 @@ fn faults(rt: HostRuntime) -> Result<(), Fail> {
     Ok(())
 }
 
-fn puts_and_streams(alloc: Global, answers: &mut Items<Answer>) -> Result<(), Memory> {
-    answers.push(Ok(Reply::Done))?;
-    answers.push(Ok(Reply::Put(place(0, 1))))?;
-    answers.push(Ok(Reply::Put(place(1234567890123, 18446744073709551614))))?;
-    answers.push(Ok(two_places(alloc)?))?;
-    answers.push(Ok(one_name(alloc)?))?;
-    answers.push(Ok(summary(alloc)?))?;
-    answers.push(Ok(described(alloc)?))?;
-    Ok(())
+/// Adds the line of a reply of the stream service.
+fn told(alloc: Global, what: Reply, text: &mut Octets) -> Result<(), Memory>
+    requires { is_service_reply what ≡ true }
+{
+    add_line(alloc, &reply(alloc, &Ok(what))?, text)
 }
 
-fn records_and_shards(alloc: Global, answers: &mut Items<Answer>) -> Result<(), Memory> {
-    answers.push(Ok(Reply::Iterator(iter_at(0))))?;
-    answers.push(Ok(two_records(alloc)?))?;
-    answers.push(Ok(ended(alloc)?))?;
-    answers.push(Ok(one_shard(alloc)?))?;
-    answers.push(Ok(merged(alloc)?))?;
-    Ok(())
+fn puts_and_streams(alloc: Global, text: &mut Octets) -> Result<(), Memory> {
+    told(alloc, Reply::Done, text)?;
+    told(alloc, Reply::Put(place(0, 1)), text)?;
+    told(
+        alloc,
+        Reply::Put(place(1234567890123, 18446744073709551614)),
+        text,
+    )?;
+    told(alloc, two_places(alloc)?, text)?;
+    told(alloc, one_name(alloc)?, text)?;
+    told(alloc, summary(alloc)?, text)?;
+    told(alloc, described(alloc)?, text)
+}
+
+fn records_and_shards(alloc: Global, text: &mut Octets) -> Result<(), Memory> {
+    told(alloc, Reply::Iterator(iter_at(0)), text)?;
+    told(alloc, two_records(alloc)?, text)?;
+    told(alloc, ended(alloc)?, text)?;
+    told(alloc, one_shard(alloc)?, text)?;
+    told(alloc, merged(alloc)?, text)
 }
 
 #[test]
 fn replies(rt: HostRuntime) -> Result<(), Fail> {
-    let mut answers = Items::new(rt.alloc());
-    puts_and_streams(rt.alloc(), &mut answers)?;
-    records_and_shards(rt.alloc(), &mut answers)?;
-    let text = lines(rt.alloc(), answers.as_slice())?;
+    let mut text = Octets::new(rt.alloc());
+    puts_and_streams(rt.alloc(), &mut text)?;
+    records_and_shards(rt.alloc(), &mut text)?;
     assert!(rt; text.as_slice() == REPLIES.as_bytes());
     Ok(())
 }

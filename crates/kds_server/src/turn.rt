@@ -1,8 +1,9 @@
 //! The turn of a command.
-ghost use Rattle.std.specs.Prelude.{◌≡◌, ◌≢◌, ◌∷◌, [], ◌++◌, List, ℕ, OnOk, OnErr};
+ghost use Rattle.std.specs.Prelude.{◌≡◌, ◌≢◌, ◌∷◌, [], ◌++◌, List, ℕ, OnOk, OnErr, true};
 ghost use Rattle.std.specs.declared.option.Option.{Option};
 ghost use Rattle.kds_defs.specs.declared.command.Command.{Command};
 ghost use Rattle.kds_defs.specs.declared.command.Turn.{Turn};
+ghost use Rattle.kds_defs.specs.Kinds.{is_service};
 ghost use Rattle.kds_defs.specs.Lawful.{IsLawfulCommand};
 ghost use Rattle.kds_ends.specs.declared.status.Status.TheVariants.{Memory as OutOfMemory};
 ghost use Rattle.kds_session.specs.Text.{Answers};
@@ -31,6 +32,7 @@ pub fn make_turn<M: Machine, C: Clock>(
 ) -> Result<(), Memory>
     requires waits { session.old.waiting ≢ Nothing }
     requires lawful { IsLawfulCommand what }
+    requires own { is_service what ≡ true }
     ensures goes_on { OnOk result ((h : List Turn) (all left before start held : Option (List ℕ)) (given : List Command) (told : Answers)
         → (made : TurnsMade h before (C.moments clock.old) given told) → M.stands_for machine.old (followed h (turns_at made.moments given))
         → Reads all left session.old start held (given ++ what ∷ []) told

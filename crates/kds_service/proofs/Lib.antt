@@ -2,6 +2,7 @@ pub mod Clocked
 pub mod Creating
 pub mod Deleting
 pub mod Entries
+pub mod KeyedShards
 pub mod Leading
 pub mod Lives
 pub mod Lists

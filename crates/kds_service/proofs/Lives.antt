@@ -21,26 +21,29 @@ use Rattle.kds_stream.specs.Value.{StreamValue}
 use Rattle.kds_service.proofs.Lists.{AreUpTo, among_push, among_remove, at_push, at_remove, at_set, map_push, map_same, either_way, neither, rising_push, rising_remove, same_some, shown_push, shown_remove, shown_set}
 use Rattle.kds_service.proofs.Readings.{up_to}
 use Rattle.kds_service.specs.Lines.{AreOf, is_within_life}
-use Rattle.kds_service.specs.Shown.{IsRising, ShowsAll, is_among, numbers_of, service}
+use Rattle.kds_service.specs.Shown.{AreAt, AreShown, IsRising, ServiceValue, ShowsAll, is_among, numbers_of, service}
 
 -- ---- the laws of a stream, as `other_lines` and `fresh` ensure them
 
 abbrev pub LinesOfOthers : Type 0
-LinesOfOthers = (v : StreamValue) (log : Journal) (line : Line) → Shows v log → line.clock ≡ v.clock → stream_of line.what ≢ v.no → Shows v (line ∷ log)
+LinesOfOthers = (v : StreamValue) (log : Journal) (line : Line) → Shows v log → line.clock ≡ v.clock → stream_of line.what ≢ Some v.no → Shows v (line ∷ log)
 
 abbrev pub StaysFresh : Type 0
-StaysFresh = (log : Journal) (line : Line) (s : ℕ) → IsFresh log s → stream_of line.what ≢ s → IsFresh (line ∷ log) s
+StaysFresh = (log : Journal) (line : Line) (s : ℕ) → IsFresh log s → stream_of line.what ≢ Some s → IsFresh (line ∷ log) s
+
+the_same : (a b : ℕ) → Some a ≡ Some b → a ≡ b
+the_same a b h = cc
 
 -- ---- the same of several lines
 
 shows_more : (v : StreamValue) (c s : ℕ) (lines : List Line) (log : Journal) → LinesOfOthers → v.clock ≡ c → v.no ≢ s → AreOf s c lines → Shows v log → Shows v (with_lines lines log)
 shows_more v c s [] log law clock differ of shown = shown
 shows_more v c s (line ∷ lines) log law clock differ of shown =
-    shows_more v c s lines (line ∷ log) law clock differ of.3 (law v log line shown (of.1 ∙ sym clock) (λ same. differ (sym same ∙ of.0)))
+    shows_more v c s lines (line ∷ log) law clock differ of.3 (law v log line shown (of.1 ∙ sym clock) (λ same. differ (the_same _ _ (sym same ∙ of.0))))
 
 fresh_more : (s t c : ℕ) (lines : List Line) (log : Journal) → StaysFresh → t ≢ s → AreOf s c lines → IsFresh log t → IsFresh (with_lines lines log) t
 fresh_more s t c [] log law differ of fresh = fresh
-fresh_more s t c (line ∷ lines) log law differ of fresh = fresh_more s t c lines (line ∷ log) law differ of.3 (law log line t fresh (λ same. differ (sym same ∙ of.0)))
+fresh_more s t c (line ∷ lines) log law differ of fresh = fresh_more s t c lines (line ∷ log) law differ of.3 (law log line t fresh (λ same. differ (the_same _ _ (sym same ∙ of.0))))
 
 made_same : (what : Entry) (n : ℕ) → is_within_life what ≡ true → made_count_after what n ≡ n
 made_same (entry.Made s name count) n h = absurd cc
@@ -93,11 +96,11 @@ shows_added c b n by count name vs v log law fresh all numbered clock shown =
       made = ap (λ m. m + 1) all.made;
       at = at_push c vs v all.at clock;
       rising = subst (IsRising 0) (sym numbers) (rising_push 0 n (n + 1) vs (omega arith) (omega arith) up all.rising);
-      shown = shown_push log (line ∷ log) c n vs v up all.at all.shown shown (λ u is at below. law u log line is (sym at) (λ same. last n u.no below same));
+      shown = shown_push log (line ∷ log) c n vs v up all.at all.shown shown (λ u is at below. law u log line is (sym at) (λ same. last n u.no below (the_same _ _ same)));
       others = λ s out.
           let parts = among_push (numbers_of vs) (n + 1) s (ap (λ ns. is_among ns s) (sym numbers) ∙ out) in
           neither ((n + 1) == s) (is_live log s) parts.1 (all.others s parts.0);
-      unmade = λ s later. fresh log line s (all.unmade s (omega arith)) (λ same. apart n s later same);
+      unmade = λ s later. fresh log line s (all.unmade s (omega arith)) (λ same. apart n s later (the_same _ _ same));
     }
   where
     last : (n m : ℕ) → m ≤ n → n + 1 ≡ m → ⊥
@@ -116,9 +119,9 @@ shows_removed c b n by i vs x log law fresh all here =
       made = all.made;
       at = at_remove c i vs all.at;
       rising = rising_remove 0 i vs all.rising;
-      shown = shown_remove log (line ∷ log) c 0 i vs x all.rising all.at all.shown here (λ u is at differ. law u log line is (sym at) (λ same. differ (sym same)));
+      shown = shown_remove log (line ∷ log) c 0 i vs x all.rising all.at all.shown here (λ u is at differ. law u log line is (sym at) (λ same. differ (sym (the_same _ _ same))));
       others = λ s out. either_way (x.no == s) (λ e. ended (x.no == s) (is_live log s) e) (λ e. stays (x.no == s) (is_live log s) (all.others s (among_remove i s vs x here out e)));
-      unmade = λ s later. fresh log line s (all.unmade s later) (λ same. beyond n x.no s (up_at n i vs x up here) later (sym same));
+      unmade = λ s later. fresh log line s (all.unmade s later) (λ same. beyond n x.no s (up_at n i vs x up here) later (sym (the_same _ _ same)));
     }
   where
     ended : (a b : Bool) → a ≡ true → (not a && b) ≡ false
@@ -128,6 +131,31 @@ shows_removed c b n by i vs x log law fresh all here =
     stays : (a b : Bool) → b ≡ false → (not a && b) ≡ false
     stays true b e = refl
     stays false b e = e
+
+-- ---- a line of a lease
+
+none_some : (what : Entry) (s : ℕ) → stream_of what ≡ None → stream_of what ≢ Some s
+none_some what s none h = none-some s (sym none ∙ h)
+
+no_life : (what : Entry) → stream_of what ≡ None → is_within_life what ≡ true
+no_life (entry.Made s name count) h = absurd (none-some s (sym h))
+no_life (entry.Gone s) h = absurd (none-some s (sym h))
+no_life _ h = refl
+
+shown_along : (c : ℕ) (vs : List StreamValue) (line : Line) (log : Journal) → LinesOfOthers → AreAt c vs → line.clock ≡ c → stream_of line.what ≡ None → AreShown log vs → AreShown (line ∷ log) vs
+shown_along c [] line log law at clock none shown = tt
+shown_along c (v ∷ vs) line log law at clock none shown =
+    (law v log line shown.0 (clock ∙ sym at.0) (none_some line.what v.no none), shown_along c vs line log law at.1 clock none shown.1)
+
+pub shows_lease : (w : ServiceValue) (line : Line) (log : Journal) → LinesOfOthers → StaysFresh → ShowsAll w log → line.clock ≡ w.clock → stream_of line.what ≡ None → ShowsAll w (line ∷ log)
+shows_lease w line log law fresh all clock none = record {
+  made = made_same line.what (made_count log) (no_life line.what none) ∙ all.made;
+  at = all.at;
+  rising = all.rising;
+  shown = shown_along w.clock w.streams line log law all.at clock none all.shown;
+  others = λ s out. live_same line.what s (is_live log s) (no_life line.what none) ∙ all.others s out;
+  unmade = λ s later. fresh log line s (all.unmade s later) (none_some line.what s none);
+}
 
 -- ---- no stream
 

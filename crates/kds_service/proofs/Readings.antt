@@ -112,10 +112,10 @@ room_is w log room is all = is ∙ below (open_total w.streams) ∙ ap (λ n. no
 -- ---- the stream of a name
 
 -- where the first passes the search is over, and else it goes on
-hit : {X : Type 0} (p : X → Bool) (n : ℕ) (x : X) (xs : List X) → p x ≡ true → position_from p n (x ∷ xs) ≡ Some n
+pub hit : {X : Type 0} (p : X → Bool) (n : ℕ) (x : X) (xs : List X) → p x ≡ true → position_from p n (x ∷ xs) ≡ Some n
 hit p n x xs e = ap (λ b. cond b (Some n) (position_from p (n + 1) xs)) e
 
-missed : {X : Type 0} (p : X → Bool) (n : ℕ) (x : X) (xs : List X) → p x ≡ false → position_from p n (x ∷ xs) ≡ position_from p (n + 1) xs
+pub missed : {X : Type 0} (p : X → Bool) (n : ℕ) (x : X) (xs : List X) → p x ≡ false → position_from p n (x ∷ xs) ≡ position_from p (n + 1) xs
 missed p n x xs e = ap (λ b. cond b (Some n) (position_from p (n + 1) xs)) e
 
 -- a search from n on answers n or more
@@ -125,13 +125,13 @@ from_on p n j (x ∷ xs) is =
     either_way (p x) (λ e. let same : n ≡ j = same_some n j (sym (hit p n x xs e) ∙ is) in omega (arith, same)) (λ e. let rest = from_on p (n + 1) j xs (sym (missed p n x xs e) ∙ is) in omega (arith, rest))
 
 -- the first place is found exactly where the first passes
-first_passes : {X : Type 0} (p : X → Bool) (n : ℕ) (x : X) (xs : List X) → position_from p n (x ∷ xs) ≡ Some (n + 0) → p x ≡ true
+pub first_passes : {X : Type 0} (p : X → Bool) (n : ℕ) (x : X) (xs : List X) → position_from p n (x ∷ xs) ≡ Some (n + 0) → p x ≡ true
 first_passes p n x xs is = either_way (p x) (λ e. e) (λ e. absurd (short n (from_on p (n + 1) (n + 0) xs (sym (missed p n x xs e) ∙ is))))
   where
     short : (n : ℕ) → n + 1 ≤ n + 0 → ⊥
     short n h = absurd (omega (arith, h))
 
-later_fails : {X : Type 0} (p : X → Bool) (n i : ℕ) (x : X) (xs : List X) → position_from p n (x ∷ xs) ≡ Some (n + suc i) → (p x ≡ false) × (position_from p (n + 1) xs ≡ Some (n + 1 + i))
+pub later_fails : {X : Type 0} (p : X → Bool) (n i : ℕ) (x : X) (xs : List X) → position_from p n (x ∷ xs) ≡ Some (n + suc i) → (p x ≡ false) × (position_from p (n + 1) xs ≡ Some (n + 1 + i))
 later_fails p n i x xs is =
     let one : n + suc i ≡ n + 1 + i = omega arith in
     either_way (p x) (λ e. absurd (past n i (same_some n (n + suc i) (sym (hit p n x xs e) ∙ is)))) (λ e. (e, sym (missed p n x xs e) ∙ is ∙ ap Some one))
@@ -139,7 +139,7 @@ later_fails p n i x xs is =
     past : (n i : ℕ) → n ≡ n + suc i → ⊥
     past n i h = absurd (omega (arith, h))
 
-none_passes : {X : Type 0} (p : X → Bool) (n : ℕ) (x : X) (xs : List X) → position_from p n (x ∷ xs) ≡ None → (p x ≡ false) × (position_from p (n + 1) xs ≡ None)
+pub none_passes : {X : Type 0} (p : X → Bool) (n : ℕ) (x : X) (xs : List X) → position_from p n (x ∷ xs) ≡ None → (p x ≡ false) × (position_from p (n + 1) xs ≡ None)
 none_passes p n x xs none = either_way (p x) (λ e. absurd (none-some n (sym none ∙ hit p n x xs e))) (λ e. (e, sym (missed p n x xs e) ∙ none))
 
 same_names : (log : Journal) (v : StreamValue) (name : List ℕ) → Shows v log → same_name (name_of log v.no) name ≡ same_name name v.name

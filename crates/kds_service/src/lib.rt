@@ -3,6 +3,7 @@
 
 mod changes;
 mod clocks;
+mod keyed;
 mod life;
 mod naming;
 mod others;
@@ -13,4 +14,5 @@ mod service;
 #[cfg(test)]
 mod tests;
 
+pub use others::lease_lines;
 pub use service::Service;

@@ -1,11 +1,11 @@
-//! What a command to one stream leaves of the others.
-ghost use Rattle.std.specs.Prelude.{◌≡◌, ◌+◌, ◌∷◌, ◌++◌, [], ℕ, List, Some, remove, slice_get, slice_set};
+//! What a command to one stream, or to a lease, leaves of the other streams.
+ghost use Rattle.std.specs.Prelude.{◌≡◌, ◌+◌, ◌∷◌, ◌++◌, [], ℕ, List, None, Some, remove, slice_get, slice_set};
 ghost use Rattle.kds_defs.specs.declared.entry.Entry.TheVariants as entry;
 ghost use Rattle.kds_defs.specs.Journal.{Journal, Line, plain_line, with_lines};
-ghost use Rattle.kds_stream.specs.Showing.{Shows};
+ghost use Rattle.kds_stream.specs.Showing.{Shows, stream_of};
 ghost use Rattle.kds_stream.specs.Value.{StreamValue};
 ghost use Rattle.kds_service.specs.Lines.{AreOf};
-ghost use Rattle.kds_service.specs.Shown.{ShowsAll, service};
+ghost use Rattle.kds_service.specs.Shown.{ServiceValue, ShowsAll, service};
 
 use kds_stream::{fresh, other_lines};
 
@@ -22,6 +22,14 @@ pub fn others()
     ensures removed { (c b n by i : ℕ) (vs : List StreamValue) (x : StreamValue) (log : Journal) → ShowsAll (service c b n vs) log
         → slice_get vs i ≡ Some x → ShowsAll (service c b n (remove vs i)) (plain_line c by (entry.Gone x.no) ∷ log) }
     ensures empty { (c b : ℕ) → ShowsAll (service c b 0 []) [] }
+{
+    other_lines();
+    fresh();
+}
+
+/// The streams of a service show a journal with a line of a lease too, at its clock.
+pub fn lease_lines()
+    ensures { (w : ServiceValue) (log : Journal) (line : Line) → ShowsAll w log → line.clock ≡ w.clock → stream_of line.what ≡ None → ShowsAll w (line ∷ log) }
 {
     other_lines();
     fresh();

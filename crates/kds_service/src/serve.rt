@@ -1,6 +1,7 @@
 //! One command, over streams that all stand at the clock.
-ghost use Rattle.std.specs.Prelude.{◌≡◌, ℕ, IfOk, OnErr};
+ghost use Rattle.std.specs.Prelude.{◌≡◌, ℕ, true, IfOk, OnErr};
 ghost use Rattle.indexmap.specs.IndexMap.{values};
+ghost use Rattle.kds_defs.specs.Kinds.{is_service};
 ghost use Rattle.kds_defs.specs.Lawful.{IsLawfulCommand};
 ghost use Rattle.kds_service.specs.Places.{ArePlaced};
 ghost use Rattle.kds_service.specs.Shown.{Leads, service};
@@ -14,7 +15,7 @@ use kds_base::{Memory, Moment};
 use kds_defs::{Answer, Command};
 use std::alloc::Global;
 
-/// Serves a command at the clock at which all streams stand.
+/// Serves a command that isn't of leases, at the clock at which all streams stand.
 pub fn serve(
     alloc: Global,
     streams: &mut Streams,
@@ -24,6 +25,7 @@ pub fn serve(
 ) -> Result<Answer, Memory>
     requires placed { ArePlaced clock streams.old.entries }
     requires lawful { IsLawfulCommand what }
+    requires own { is_service what ≡ true }
     ensures leads { (before : ℕ) → IfOk result (Leads (service clock before made.old (values streams.old)) (service clock before made.new (values streams.new)) what) }
     ensures placed { ArePlaced clock streams.new.entries }
     ensures kept { OnErr result ((values streams.new ≡ values streams.old) × (made.new ≡ made.old)) }
@@ -47,5 +49,15 @@ pub fn serve(
         Command::Keep { name, hours, raise } => Ok(keep(streams, clock, &name, hours, raise)),
         Command::Shards { name, after, limit } => shards(streams, clock, &name, after, limit),
         Command::More { page, limit } => more(streams, clock, &page, limit),
+        Command::Survey
+        | Command::MakeLease { .. }
+        | Command::Take { .. }
+        | Command::Renew { .. }
+        | Command::Free { .. }
+        | Command::OpenShard { .. }
+        | Command::Read { .. }
+        | Command::Give { .. }
+        | Command::Mark { .. }
+        | Command::CutLease { .. } => unreachable!(),
     }
 }

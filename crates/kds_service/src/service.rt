@@ -1,17 +1,27 @@
 //! The service.
-ghost use Rattle.std.specs.Prelude.{◌≡◌, ◌≤◌, [], map, IfOk, OnErr};
+ghost use Rattle.std.specs.Prelude.{◌≡◌, ◌≤◌, ◌-◌, ◌^◌, ◌<◌, [], map, true, IfOk, OnErr};
+ghost use Rattle.std.specs.List.{AllByRecursion};
+ghost use Rattle.std.specs.Option.{option_map};
 ghost use Rattle.kds_defs.specs.Journal.{Journal};
+ghost use Rattle.kds_defs.specs.Keys.{is_listed_key};
+ghost use Rattle.kds_defs.specs.Kinds.{is_service};
 ghost use Rattle.kds_defs.specs.Lawful.{IsLawfulCommand};
+ghost use Rattle.kds_defs.specs.Listings.{ends_at, listed_in};
+ghost use Rattle.kds_defs.specs.Records.{batch, numbers_of, place_after, stored};
+ghost use Rattle.kds_defs.specs.Shards.{shown};
+ghost use Rattle.kds_defs.specs.Streams.{live_streams};
 ghost use Rattle.kds_service.specs.Clocks.{CanGoBack, advanced, gone_back, settled};
+ghost use Rattle.kds_service.specs.Keyed.{is_listed_in, live_shard};
 ghost use Rattle.kds_service.specs.Shown.{Leads, ShowsAll, service};
 
 use crate::clocks::{advance_all, retreat_all, settle_all};
+use crate::keyed;
 use crate::others::others;
 use crate::places::Streams;
 use crate::serve::serve;
 use indexmap::IndexMap;
-use kds_base::{Memory, Moment};
-use kds_defs::{Answer, Command};
+use kds_base::{Items, Memory, Moment, ShardRef};
+use kds_defs::{Answer, Command, Shard, Stored};
 use std::alloc::Global;
 use std::marker::Model;
 
@@ -84,15 +94,60 @@ impl Service {
         self.clock_before = self.clock;
     }
 
-    /// Serves a command at the service's clock. After `Memory`, which is want of memory, the service is as before
+    /// Serves a command that isn't of leases, at the service's clock. After `Memory`, which is want of memory, the service is as before
     /// (Kinesis API Reference, the operations of the commands).
     pub fn serve(&mut self, what: Command) -> Result<Answer, Memory>
-        requires { IsLawfulCommand what }
+        requires lawful { IsLawfulCommand what }
+        requires own { is_service what ≡ true }
         ensures leads { IfOk result (Leads self.old self.new what) }
         ensures clock { self.new.clock ≡ self.old.clock }
         ensures kept { OnErr result (self.new ≡ self.old) }
     {
         let alloc = *self.streams.allocator();
         serve(alloc, &mut self.streams, &mut self.made, self.clock, what)
+    }
+
+    /// Whether the shard of a key is listed: it was made, it isn't expired, and its stream isn't gone.
+    pub fn is_listed(&self, key: ShardRef) -> bool
+        ensures value { result ≡ is_listed_in self.now.streams key }
+        ensures shown { (log : Journal) → ShowsAll self.now log → result ≡ is_listed_key log self.now.clock key }
+    {
+        keyed::is_listed(&self.streams, &key)
+    }
+
+    /// The shard of a key. `None` exactly where its stream is gone, or it was never made.
+    pub fn shard(&self, key: ShardRef) -> Option<&Shard>
+        ensures { (log : Journal) → ShowsAll self.now log → option_map (λ x. x.now) result ≡ option_map shown (live_shard log key) }
+    {
+        keyed::shard(&self.streams, &key)
+    }
+
+    /// The keys of all listed shards, in order.
+    pub fn listed(&self) -> Result<Items<ShardRef>, Memory>
+        ensures { (log : Journal) → ShowsAll self.now log → IfOk result (λ keys. keys ≡ listed_in log self.now.clock (live_streams log)) }
+    {
+        keyed::listed(*self.streams.allocator(), &self.streams)
+    }
+
+    /// A batch of a listed shard at a position, and whether the shard ends after it: it is closed, and no
+    /// record is left.
+    pub fn read(
+        &self,
+        key: ShardRef,
+        position: u64,
+        limit: u32,
+    ) -> Result<(Items<Stored>, bool), Memory>
+        requires { is_listed_in self.now.streams key ≡ true }
+        ensures batch { (log : Journal) → ShowsAll self.now log → IfOk result (λ r. r.0 ≡ map stored (batch log self.now.clock key.stream key.shard position limit)) }
+        ensures numbers { IfOk result (λ r. AllByRecursion (λ x. x.seq < 2 ^ 64 - 1) r.0) }
+        ensures end { (log : Journal) → ShowsAll self.now log → IfOk result (λ r. r.1 ≡ ends_at log self.now.clock key.stream key.shard (place_after position (numbers_of (batch log self.now.clock key.stream key.shard position limit)))) }
+    {
+        keyed::read(
+            *self.streams.allocator(),
+            &self.streams,
+            &key,
+            position,
+            limit,
+        )
     }
 }

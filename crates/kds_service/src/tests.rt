@@ -1,6 +1,7 @@
 //! The service on worked rows.
-ghost use Rattle.std.specs.Prelude.{IfOk};
+ghost use Rattle.std.specs.Prelude.{◌≡◌, true, IfOk};
 ghost use Rattle.kds_base.specs.Names.{IsName};
+ghost use Rattle.kds_defs.specs.Kinds.{is_service};
 ghost use Rattle.kds_defs.specs.Lawful.{IsLawfulCommand, IsShardCount};
 
 use crate::Service;
@@ -11,7 +12,8 @@ use std::test::Fail;
 
 /// What a command is refused with, if it is.
 fn refusal(service: &mut Service, what: Command) -> Result<Option<Refusal>, Memory>
-    requires { IsLawfulCommand what }
+    requires lawful { IsLawfulCommand what }
+    requires own { is_service what ≡ true }
 {
     let answer = service.serve(what)?;
     Ok(answer.err())

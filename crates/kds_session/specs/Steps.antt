@@ -1,10 +1,10 @@
 -- The steps on the way to the next command.
 use Rattle.std.specs.Prelude.{◌≡◌, ◌≢◌, ℕ, ◌<◌, List, ◌∷◌, [], ◌++◌, drop, true}
 use Rattle.kds_defs.specs.declared.command.Command.{Command}
-use Rattle.kds_defs.specs.Lawful.{IsLawfulCommand}
 use Rattle.kds_head.specs.declared.found.Found.TheVariants.{Refused as RefusedHead}
 use Rattle.kds_head.specs.Find.{IsFound}
 use Rattle.kds_head.specs.Response.{is_refusal}
+use Rattle.kds_json.specs.Asked.{IsRequest}
 use Rattle.kds_session.specs.declared.front.Front.{Front}
 use Rattle.kds_session.specs.declared.front.Front.TheVariants as front
 use Rattle.kds_session.specs.declared.reading.Reading.{Reading}
@@ -53,8 +53,8 @@ IsAfter step.Answered new fed given told sent = StandsFor new fed given told sen
 IsAfter (step.Command what) new fed given told sent = StandsFor new fed (given ++ what ∷ []) told sent × (new.waiting ≢ Nothing)
 
 -- Something is known without the bytes that were fed: after an answered fault the session is free and fewer requests
--- may still come, and a command is lawful and waits.
+-- may still come, and a command may be asked and waits.
 abbrev pub IsPlainly : Step → (old new : SessionState) → Type 0
 IsPlainly step.Stop old new = IsQuiet new × IsNearer old new
 IsPlainly step.Answered old new = IsFree new × (new.left < old.left)
-IsPlainly (step.Command what) old new = (new.waiting ≢ Nothing) × IsLawfulCommand what × (to_come new < to_come old)
+IsPlainly (step.Command what) old new = (new.waiting ≢ Nothing) × IsRequest what × (to_come new < to_come old)

@@ -1,8 +1,8 @@
 //! How a session reads on to the next command.
 ghost use Rattle.std.specs.Prelude.{◌≡◌, ◌<◌, ◌≤◌, ◌^◌, ◌++◌, ◌||◌, [], ℕ, List, drop, length, take, nat_le, true, false, None, IfOk, IfSome, IsUtf8, OnOk};
 ghost use Rattle.kds_defs.specs.declared.command.Command.{Command};
-ghost use Rattle.kds_defs.specs.Lawful.{IsLawfulCommand};
 ghost use Rattle.kds_head.specs.Response.{is_refusal, response_text};
+ghost use Rattle.kds_json.specs.Asked.{IsRequest};
 ghost use Rattle.kds_reply.specs.Replies.{fault_reply};
 ghost use Rattle.kds_session.specs.Messages.{IsWhole};
 ghost use Rattle.kds_session.specs.Text.{Answers, answered};
@@ -186,7 +186,7 @@ impl Reading {
         ensures waits { IfOk result (IsWaiting self.new.waiting) }
         ensures out { IfOk result (λ o. o ≡ None → IsQuiet (read_state bytes.now self.new)) }
         ensures fewer { IfOk result (λ o. IsFewer o (read_state bytes.now self.old) (read_state bytes.now self.new)) }
-        ensures lawful { IfOk result (λ o. IfSome o IsLawfulCommand) }
+        ensures lawful { IfOk result (λ o. IfSome o IsRequest) }
         ensures room { OnOk result (self.new.read ≤ length bytes.now) }
     {
         loop {

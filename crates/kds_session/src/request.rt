@@ -1,6 +1,6 @@
 //! What a request asks for.
 ghost use Rattle.std.specs.Prelude.{◌≡◌, [], IfOk, IfErr, IsUtf8};
-ghost use Rattle.kds_defs.specs.Lawful.{IsLawfulCommand};
+ghost use Rattle.kds_json.specs.Asked.{IsRequest};
 ghost use Rattle.kds_json.specs.Reading as reading;
 ghost use Rattle.kds_session.specs.Text.{requested};
 
@@ -15,7 +15,7 @@ use std::alloc::Global;
 #[tactic(auto, unfolding(crate::specs::Text::requested))]
 pub fn request(alloc: Global, head: &Head, body: &[u8]) -> Result<Result<Command, Fault>, Memory>
     ensures value { IfOk result (λ r. r ≡ requested head.now.operation head.now.json body.now) }
-    ensures lawful { IfOk result (λ r. IfOk r IsLawfulCommand) }
+    ensures lawful { IfOk result (λ r. IfOk r IsRequest) }
     ensures text { IfOk result (λ r. IfErr r (λ fault. IsUtf8 fault.member)) }
 {
     let operation = head.operation.as_slice();

@@ -1,7 +1,8 @@
 //! One connection.
-ghost use Rattle.std.specs.Prelude.{◌≡◌, ◌≢◌, ◌≤◌, ◌+◌, [], ◌∷◌, ◌++◌, List, ℕ, length, take, drop, slice_get, IfOk, IfSome, OnErr, OnOk, IsTrue, ◌↔◌, Ok};
+ghost use Rattle.std.specs.Prelude.{◌≡◌, ◌≢◌, ◌≤◌, ◌+◌, [], ◌∷◌, ◌++◌, List, ℕ, length, take, drop, slice_get, IfOk, IfSome, OnErr, OnOk, IsTrue, true, ◌↔◌, Ok};
 ghost use Rattle.kds_defs.specs.declared.command.Command.{Command};
-ghost use Rattle.kds_defs.specs.Lawful.{IsLawfulCommand};
+ghost use Rattle.kds_defs.specs.Kinds.{is_service_answer};
+ghost use Rattle.kds_json.specs.Asked.{IsRequest};
 ghost use Rattle.kds_session.specs.Messages.{Message, Ending, Falls};
 ghost use Rattle.kds_reply.specs.Replies.{reply_of};
 ghost use Rattle.kds_session.specs.Text.{Answers, answered, commands};
@@ -40,6 +41,7 @@ impl Model for Session {
 
 /// The response to a command with this answer.
 fn response_to(alloc: Global, answer: &Answer, close: bool) -> Result<Octets, Memory>
+    requires { is_service_answer answer.now ≡ true }
     ensures { IfOk result (λ text. text ≡ answered (reply_of answer.now) close) }
 {
     let (status, body) = reply(alloc, answer)?;
@@ -165,7 +167,9 @@ impl Session {
 
         // Less is to come on the connection, or nothing was read.
         ensures fewer { IfOk result (λ o. IsFewer o self.old self.new) }
-        ensures lawful { IfOk result (λ o. IfSome o IsLawfulCommand) }
+
+        // It may be asked of a machine, whose stream service answers it.
+        ensures lawful { IfOk result (λ o. IfSome o IsRequest) }
         ensures err { OnErr result (self.new ≡ self.old) }
     {
         one_reading();
@@ -179,10 +183,11 @@ impl Session {
         Ok(what)
     }
 
-    /// Adds the response to the command that waits. Condition: a command waits. After `Memory` the session is as
-    /// before.
+    /// Adds the response to the command that waits. Condition: a command waits, and the answer is one of the stream
+    /// service. After `Memory` the session is as before.
     pub fn absorb(&mut self, alloc: Global, answer: &Answer) -> Result<(), Memory>
-        requires { self.old.waiting ≢ Waiting.Nothing }
+        requires waits { self.old.waiting ≢ Waiting.Nothing }
+        requires own { is_service_answer answer.now ≡ true }
         ensures stands { OnOk result ((fed : List ℕ) (given : List Command) (told : Answers) (sent : List ℕ)
             → StandsFor self.old fed given told sent → StandsFor self.new fed given (told ++ answer.now ∷ []) sent) }
         ensures free { OnOk result (self.new.waiting ≡ Waiting.Nothing) }

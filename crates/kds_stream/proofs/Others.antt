@@ -1,5 +1,5 @@
--- The lines of other streams leave every reading of a stream as it was.
-use Rattle.std.proofs.Common.{◌≡◌, ℕ, ◌+◌, ◌≢◌, Bool, true, false, List, [], ◌∷◌, refl, sym, ap, subst, ◌∙◌, arith}
+-- The lines of other streams and of leases leave every reading of a stream as it was.
+use Rattle.std.proofs.Common.{◌≡◌, ℕ, ◌+◌, ◌≢◌, Bool, true, false, List, [], ◌∷◌, Some, refl, sym, ap, subst, ◌∙◌, arith}
 use Rattle.std.specs.Prelude.{◌==◌, ◌&&◌, ◌||◌, not, if◌then◌else◌}
 use Rattle.std.proofs.lemmas.Bool.Decides.{nat_tests}
 use Rattle.kds_defs.specs.declared.entry.Entry.{Entry}
@@ -14,14 +14,14 @@ use Rattle.kds_stream.specs.Showing.{AreKept, IsFresh, IsKept, Shows, stream_of}
 use Rattle.kds_stream.specs.Value.{StreamValue}
 
 -- two numbers that differ
-differ : (a s : ℕ) → a ≢ s → (a == s) ≡ false
+differ : (a s : ℕ) → Some a ≢ Some s → (a == s) ≡ false
 differ a s h = by (a == s) refl
   where
     same : (a b : ℕ) → (a == b) ≡ true → a ≡ b
     same a b e = grind (arith, nat_tests)
 
     by : (b : Bool) → (a == s) ≡ b → b ≡ false
-    by true e = absurd (h (same a s e))
+    by true e = absurd (h (ap Some (same a s e)))
     by false e = refl
 
 not_chosen : {A : Type 0} (b : Bool) (x y : A) → b ≡ false → (if b then x else y) ≡ y
@@ -38,49 +38,45 @@ not_both false c h = refl
 
 -- ---- each reading after one more line
 
-live_same : (what : Entry) (s : ℕ) (before : Bool) → stream_of what ≢ s → is_live_after what s before ≡ before
+live_same : (what : Entry) (s : ℕ) (before : Bool) → stream_of what ≢ Some s → is_live_after what s before ≡ before
 live_same (entry.Made a name count) s before h = not_either (a == s) before (differ a s h)
 live_same (entry.Gone a) s before h = ap (λ b. not b && before) (differ a s h)
 live_same _ s before h = refl
 
-made_same : (what : Entry) (s : ℕ) (before : Bool) → stream_of what ≢ s → was_made_after what s before ≡ before
+made_same : (what : Entry) (s : ℕ) (before : Bool) → stream_of what ≢ Some s → was_made_after what s before ≡ before
 made_same (entry.Made a name count) s before h = not_either (a == s) before (differ a s h)
 made_same _ s before h = refl
 
-name_same : (what : Entry) (s : ℕ) (before : List ℕ) → stream_of what ≢ s → name_of_after what s before ≡ before
+name_same : (what : Entry) (s : ℕ) (before : List ℕ) → stream_of what ≢ Some s → name_of_after what s before ≡ before
 name_same (entry.Made a name count) s before h = not_chosen (a == s) name before (differ a s h)
 name_same _ s before h = refl
 
-made_at_same : (line : Line) (what : Entry) (s before : ℕ) → stream_of what ≢ s → made_at_after line what s before ≡ before
+made_at_same : (line : Line) (what : Entry) (s before : ℕ) → stream_of what ≢ Some s → made_at_after line what s before ≡ before
 made_at_same line (entry.Made a name count) s before h = not_chosen (a == s) line.clock before (differ a s h)
 made_at_same line _ s before h = refl
 
-hours_same : (what : Entry) (s before : ℕ) → stream_of what ≢ s → hours_after what s before ≡ before
+hours_same : (what : Entry) (s before : ℕ) → stream_of what ≢ Some s → hours_after what s before ≡ before
 hours_same (entry.Made a name count) s before h = not_chosen (a == s) _ before (differ a s h)
 hours_same (entry.Kept a wanted) s before h = not_chosen (a == s) wanted before (differ a s h)
 hours_same _ s before h = refl
 
-draws_none : (what : Entry) (s : ℕ) → stream_of what ≢ s → draws what s ≡ 0
-draws_none (entry.Made a name count) s h = refl
-draws_none (entry.Gone a) s h = refl
-draws_none (entry.Kept a wanted) s h = refl
+draws_none : (what : Entry) (s : ℕ) → stream_of what ≢ Some s → draws what s ≡ 0
 draws_none (entry.Put a sh number hash bytes) s h = not_chosen (a == s) 1 0 (differ a s h)
 draws_none (entry.Split a sh at number low high) s h = not_chosen (a == s) 1 0 (differ a s h)
 draws_none (entry.Merged a sh other number child) s h = not_chosen (a == s) 1 0 (differ a s h)
+draws_none _ s h = refl
 
-shards_same : (line : Line) (what : Entry) (s start : ℕ) (before : List ShardState) → stream_of what ≢ s → shards_after line what s start before ≡ before
+shards_same : (line : Line) (what : Entry) (s start : ℕ) (before : List ShardState) → stream_of what ≢ Some s → shards_after line what s start before ≡ before
 shards_same line (entry.Made a name count) s start before h = not_chosen (a == s) _ before (differ a s h)
-shards_same line (entry.Gone a) s start before h = refl
-shards_same line (entry.Kept a wanted) s start before h = refl
-shards_same line (entry.Put a sh number hash bytes) s start before h = refl
 shards_same line (entry.Split a sh at number low high) s start before h = not_chosen (a == s) _ before (differ a s h)
 shards_same line (entry.Merged a sh other number child) s start before h = not_chosen (a == s) _ before (differ a s h)
+shards_same line _ s start before h = refl
 
-records_same : (line : Line) (what : Entry) (s sh : ℕ) (before : List Logged) → stream_of what ≢ s → records_after line what s sh before ≡ before
+records_same : (line : Line) (what : Entry) (s sh : ℕ) (before : List Logged) → stream_of what ≢ Some s → records_after line what s sh before ≡ before
 records_same line (entry.Put a shard number hash bytes) s sh before h = not_chosen ((a == s) && (shard == sh)) _ before (not_both (a == s) (shard == sh) (differ a s h))
 records_same line _ s sh before h = refl
 
-next_same : (log : Journal) (line : Line) (s : ℕ) → stream_of line.what ≢ s → next_number (line ∷ log) s ≡ next_number log s
+next_same : (log : Journal) (line : Line) (s : ℕ) → stream_of line.what ≢ Some s → next_number (line ∷ log) s ≡ next_number log s
 next_same log line s h = ap (λ n. n + next_number log s) (draws_none line.what s h) ∙ zero_more (next_number log s)
   where
     zero_more : (n : ℕ) → 0 + n ≡ n
@@ -93,7 +89,7 @@ kept_along floor log log' s n [] same h = tt
 kept_along floor log log' s n (l ∷ ls) same h =
     (subst (λ rs. IsKept floor rs l.kept) (sym (same n)) h.0, kept_along floor log log' s (n + 1) ls same h.1)
 
-pub shows_other : (v : StreamValue) (log : Journal) (line : Line) → Shows v log → line.clock ≡ v.clock → stream_of line.what ≢ v.no → Shows v (line ∷ log)
+pub shows_other : (v : StreamValue) (log : Journal) (line : Line) → Shows v log → line.clock ≡ v.clock → stream_of line.what ≢ Some v.no → Shows v (line ∷ log)
 shows_other v log line shown at other = record {
   live = live_same line.what v.no (is_live log v.no) other ∙ shown.live;
   was = made_same line.what v.no (was_made log v.no) other ∙ shown.was;
@@ -115,7 +111,7 @@ fresh_empty s = record { gone = refl; unmade = refl; undrawn = refl; no_floor = 
 no_floor_by : (log : Journal) (line : Line) (s : ℕ) → was_made (line ∷ log) s ≡ false → floor_after log line s ≡ 0
 no_floor_by log line s h = not_chosen (was_made (line ∷ log) s) _ 0 h
 
-pub fresh_other : (log : Journal) (line : Line) (s : ℕ) → IsFresh log s → stream_of line.what ≢ s → IsFresh (line ∷ log) s
+pub fresh_other : (log : Journal) (line : Line) (s : ℕ) → IsFresh log s → stream_of line.what ≢ Some s → IsFresh (line ∷ log) s
 fresh_other log line s fresh other =
     let unmade : was_made (line ∷ log) s ≡ false = made_same line.what s (was_made log s) other ∙ fresh.unmade in
     record {

@@ -1,5 +1,5 @@
 -- Which journals a stream shows.
-use Rattle.std.specs.Prelude.{ℕ, ◌≡◌, ◌+◌, ◌≤◌, true, false, List, [], ◌∷◌, length}
+use Rattle.std.specs.Prelude.{ℕ, ◌≡◌, ◌+◌, ◌≤◌, true, false, List, [], ◌∷◌, length, Option, Some, None}
 use Rattle.kds_defs.specs.declared.entry.Entry.{Entry}
 use Rattle.kds_defs.specs.declared.entry.Entry.TheVariants as entry
 use Rattle.kds_defs.specs.Journal.{Journal, Line, plain_line}
@@ -42,14 +42,15 @@ pub record IsFresh (log : Journal) (s : ℕ) : Type 0 where
   pub no_shards : shards log s ≡ []
   pub no_records : (sh : ℕ) → records log s sh ≡ []
 
--- the stream that an entry speaks of
-abbrev pub stream_of : Entry → ℕ
-stream_of (entry.Made s name count) = s
-stream_of (entry.Gone s) = s
-stream_of (entry.Put s sh number hash bytes) = s
-stream_of (entry.Split s sh at number low high) = s
-stream_of (entry.Merged s sh other number child) = s
-stream_of (entry.Kept s hours) = s
+-- the stream that an entry speaks of, if it isn't of a lease
+abbrev pub stream_of : Entry → Option ℕ
+stream_of (entry.Made s name count) = Some s
+stream_of (entry.Gone s) = Some s
+stream_of (entry.Put s sh number hash bytes) = Some s
+stream_of (entry.Split s sh at number low high) = Some s
+stream_of (entry.Merged s sh other number child) = Some s
+stream_of (entry.Kept s hours) = Some s
+stream_of _ = None
 
 -- ---- the lines of a split and of a merge
 

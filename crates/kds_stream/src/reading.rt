@@ -99,6 +99,7 @@ pub fn batch_at(
 ) -> Result<(Items<Stored>, u64), Memory>
     requires { IsBelow (2 ^ 64 - 1) (log_of log.now) }
     ensures batch { IfOk result (λ r. r.0 ≡ map stored (batch_among (floor_of cut) position limit log.now.kept)) }
+    ensures numbers { IfOk result (λ r. AllByRecursion (λ x. x.seq < 2 ^ 64 - 1) r.0) }
     ensures place { IfOk result (λ r. r.1 ≡ place_after position (numbers_of (batch_among (floor_of cut) position limit log.now.kept))) }
 {
     let batch = log.batch(alloc, cut, position, limit)?;

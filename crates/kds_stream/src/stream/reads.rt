@@ -1,19 +1,20 @@
 //! Iterators, and what is read of a stream.
-ghost use Rattle.std.specs.Prelude.{◌≡◌, ℕ, map, slice_get, true, IfOk, IfSome};
+ghost use Rattle.std.specs.Prelude.{◌≡◌, ◌++◌, ◌-◌, ◌^◌, ◌<◌, ℕ, map, slice_get, true, IfOk, IfSome, OnOk};
+ghost use Rattle.std.specs.List.{AllByRecursion};
 ghost use Rattle.std.specs.Option.{option_map};
 ghost use Rattle.kds_defs.specs.Histories.{answer_of};
 ghost use Rattle.kds_defs.specs.Journal.{Journal};
 ghost use Rattle.kds_defs.specs.Lawful.{IsLimit};
-ghost use Rattle.kds_defs.specs.Listings.{ends_at, get_iterator, get_records, list_shards};
+ghost use Rattle.kds_defs.specs.Listings.{ends_at, get_iterator, get_records, list_shards, refs_of};
 ghost use Rattle.kds_defs.specs.Records.{batch, numbers_of, place_after, stored};
-ghost use Rattle.kds_defs.specs.Shards.{shown};
+ghost use Rattle.kds_defs.specs.Shards.{listed_among, shown};
 ghost use Rattle.kds_defs.specs.Streams.{floor_of};
 ghost use Rattle.kds_stream.specs.Showing.{Shows};
 ghost use Rattle.kds_stream.specs.Value.{IsUnder, is_listed_at, listed_at};
 
 use crate::reading::{batch_at, behind, is_end, last_no, position};
 use crate::stream::Stream;
-use kds_base::{Items, Memory, ShardNo};
+use kds_base::{Items, Memory, ShardNo, ShardRef};
 use kds_defs::{Answer, Iter, Page, Refusal, Reply, Shard, Start, Stored};
 use kds_token::iter_expired;
 use std::alloc::Global;
@@ -35,6 +36,21 @@ impl Stream {
         ensures { result ≡ is_listed_at (floor_of self.now.cut) (slice_get self.now.tree no) }
     {
         self.listed(no).is_some()
+    }
+
+    /// Adds the keys of the listed shards, in the order of their numbers.
+    pub fn add_listed(&self, keys: &mut Items<ShardRef>) -> Result<(), Memory>
+        ensures { OnOk result (keys.new ≡ keys.old ++ refs_of self.now.no (listed_among (floor_of self.now.cut) self.now.tree)) }
+    {
+        for i in 0..self.logs.len() {
+            if let Some(shard) = self.listed(ShardNo(i as u64)) {
+                keys.push(ShardRef {
+                    stream: self.no,
+                    shard: shard.no,
+                })?;
+            }
+        }
+        Ok(())
     }
 
     /// Where reading of a shard begins: an iterator, issued at the clock. `NoShard` where the shard isn't listed,
@@ -129,6 +145,7 @@ impl Stream {
     ) -> Result<(Items<Stored>, bool), Memory>
         requires { is_listed_at (floor_of self.now.cut) (slice_get self.now.tree shard) ≡ true }
         ensures batch { (log : Journal) → Shows self.now log → IfOk result (λ r. r.0 ≡ map stored (batch log self.now.clock self.now.no shard position limit)) }
+        ensures numbers { IfOk result (λ r. AllByRecursion (λ x. x.seq < 2 ^ 64 - 1) r.0) }
         ensures end { (log : Journal) → Shows self.now log → IfOk result (λ r. r.1 ≡ ends_at log self.now.clock self.now.no shard (place_after position (numbers_of (batch log self.now.clock self.now.no shard position limit)))) }
     {
         let log = &self.logs[shard.0 as usize];

@@ -1,9 +1,9 @@
-use Rattle.kds_json.proofs.Lawful.{asked_lawful}
+use Rattle.kds_json.proofs.Lawful.{asked_request}
 use Rattle.kds_json.proofs.FaultTexts.{fault_text}
 use Rattle.kds_json.proofs.request.ask.Goals as goal
 
 pub returns-in-Ok-clause-lawful : goal.returns-in-Ok-clause-lawful
-returns-in-Ok-clause-lawful c = asked_lawful c.args.operation.now c.args.body.now _ c.in-Ok.ensures
+returns-in-Ok-clause-lawful c = asked_request c.args.operation.now c.args.body.now _ c.in-Ok.ensures
 
 pub returns-in-Err-Fault-clause-text : goal.returns-in-Err-Fault-clause-text
 returns-in-Err-Fault-clause-text c =

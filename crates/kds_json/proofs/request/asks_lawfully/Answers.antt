@@ -1,5 +1,5 @@
-use Rattle.kds_json.proofs.Lawful.{asked_lawful}
+use Rattle.kds_json.proofs.Lawful.{asked_request}
 use Rattle.kds_json.proofs.request.asks_lawfully.Goals as goal
 
 pub returns : goal.returns
-returns c = asked_lawful
+returns c = asked_request

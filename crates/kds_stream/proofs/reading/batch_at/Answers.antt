@@ -18,3 +18,8 @@ returns-clause-place c =
     c.place_after-place.ensures
     ∙ ap (λ (items : List Stored). place_after c.args.position (map (λ (r : Stored). r.seq) items)) (c.as_slice.ensures ∙ c.in_ok-batch.ensures.value)
     ∙ ap (place_after c.args.position) (numbers_stored (batch_among (floor_of c.args.cut) c.args.position c.args.limit c.args.log.now.kept))
+
+pub returns-clause-numbers : goal.returns-clause-numbers
+returns-clause-numbers c =
+    subst (AllByRecursion (λ (r : Stored). r.seq < 18446744073709551615)) (sym c.in_ok-batch.ensures.value)
+    (batch_below 18446744073709551615 (floor_of c.args.cut) c.args.position c.args.limit (log_of c.args.log.now) c.requires c.batch.ensures.orderly)

@@ -1,8 +1,8 @@
 use Rattle.std.proofs.Common.{◌+◌, ◌∙◌, sym, ap, take, drop, subst, inl, refl, Result}
 use Rattle.std.specs.Result.{IfOk}
 use Rattle.kds_defs.specs.declared.command.Command.{Command}
-use Rattle.kds_defs.specs.Lawful.{IsLawfulCommand}
 use Rattle.kds_json.specs.declared.problem.Fault.{Fault}
+use Rattle.kds_json.specs.Asked.{IsRequest}
 use Rattle.kds_reply.specs.Replies.{fault_reply}
 use Rattle.kds_session.specs.Text.{requested, answered}
 use Rattle.kds_session.specs.States.{waiting_for}
@@ -41,7 +41,7 @@ pub returns-in-Ok-clause-plain : goal.returns-in-Ok-clause-plain
 returns-in-Ok-clause-plain c =
     let head = c.args.head.now in (
       λ e. waits_for c.closes-close.result (sym c.waiting_for-self.ensures ∙ e),
-      subst (λ (r : Result Command Fault). IfOk r IsLawfulCommand) c.in-Ok.is c.in_ok-what.ensures.lawful,
+      subst (λ (r : Result Command Fault). IfOk r IsRequest) c.in-Ok.is c.in_ok-what.ensures.lawful,
       less_asked (read_state c.args.bytes.now c.args.self.now) head c.closes-close.result _ c.requires.free c.closes-close.ensures _
           (command_state c.args.bytes.now c.args.self.now c.pass.new.self (head.length + head.body) _ (waiting_for c.closes-close.result) c.pass.ensures c.waiting_for-self.ensures),
     )

@@ -8,12 +8,12 @@ use Rattle.kds_session.proofs.session.Session.absorb.Goals as goal
 
 pub returns-clause-stands : goal.returns-clause-stands
 returns-clause-stands c = λ fed given told sent st.
-    let waits = subst (λ (s : SessionState). s.waiting ≢ Nothing) (sym c.self.view_is) c.requires in
+    let waits = subst (λ (s : SessionState). s.waiting ≢ Nothing) (sym c.self.view_is) c.requires.waits in
     let stands = subst (λ (s : SessionState). StandsFor s fed given told sent) (sym c.self.view_is) st in
     answer_told _ fed given told sent c.args.answer.now stands waits _
     (told_state _ c.extend.new.self c.as_slice.result.now c.is_last-close.result _ (reply_of c.args.answer.now) c.in_ok-extend.ensures.ok (c.as_slice.ensures ∙ c.in_ok-text.ensures) c.is_last-close.ensures c.standing_after-self-inside.ensures)
 
 pub returns-clause-as_much : goal.returns-clause-as_much
 returns-clause-as_much c =
-    let waits = subst (λ (s : SessionState). s.waiting ≢ Nothing) (sym c.self.view_is) c.requires in
+    let waits = subst (λ (s : SessionState). s.waiting ≢ Nothing) (sym c.self.view_is) c.requires.waits in
     told_still c.self.inside.left c.self.inside.standing _ c.self.inside.waiting c.is_last-close.result c.is_last-close.ensures waits c.standing_after-self-inside.ensures ∙ ap to_come c.self.view_is

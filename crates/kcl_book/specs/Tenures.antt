@@ -1,0 +1,50 @@
+-- The tenures of leases, the first of them number 1 (Kinesis Client Library, lease ownership).
+use Rattle.std.specs.Prelude.{ℕ, zero, suc, ◌+◌, Bool, false, List, [], ◌∷◌, ◌++◌, length, slice_get, Option, Some, None}
+use Rattle.kds_base.specs.declared.lease_key.Checkpoint.{Checkpoint}
+use Rattle.kds_base.specs.declared.lease_key.ShardRef.{ShardRef}
+use Rattle.kds_defs.specs.Leases.{place_of}
+use Rattle.kcl_book.specs.declared.tenure.PendingRead.{PendingRead}
+use Rattle.kcl_book.specs.declared.tenure.Tenure.{Tenure}
+
+-- a tenure, with the reads that aren't given, the oldest first
+pub record TenureValue : Type 0 where
+  pub by : ℕ
+  pub key : ShardRef
+  pub start : Checkpoint
+  pub opened : Bool
+  pub reach : ℕ
+  pub delivered : ℕ
+  pub pending : List PendingRead
+  pub at_end : Bool
+
+-- what contracts see of all tenures: them in the order of their numbers, and for how many more there is memory
+pub record BookValue : Type 0 where
+  pub tenures : List TenureValue
+  pub spare : ℕ
+
+-- a tenure as it begins: nothing is read or given
+abbrev pub begun : ℕ → ShardRef → Checkpoint → TenureValue
+begun by key start =
+    record { by = by; key = key; start = start; opened = false; reach = place_of start; delivered = place_of start; pending = []; at_end = false }
+
+-- the tenure of a number
+abbrev pub tenure_at : List TenureValue → ℕ → Option TenureValue
+tenure_at ts zero = None
+tenure_at ts (suc n) = slice_get ts n
+
+-- as it is shown
+abbrev pub shown : TenureValue → Tenure
+shown t =
+    record { by = t.by; key = t.key; start = t.start; opened = t.opened; reach = t.reach; delivered = t.delivered; pending = length t.pending; at_end = t.at_end }
+
+-- after a read that reached this position, and ended the shard or did not
+abbrev pub with_read : ℕ → Bool → TenureValue → TenureValue
+with_read reach ended t = record t { reach = reach; pending = t.pending ++ record { reach = reach; end = ended } ∷ [] }
+
+-- after the oldest of its reads that isn't given was given
+abbrev pub given_of : List PendingRead → TenureValue → TenureValue
+given_of [] t = t
+given_of (r ∷ rs) t = record t { delivered = r.reach; pending = rs; at_end = r.end }
+
+abbrev pub with_given : TenureValue → TenureValue
+with_given t = given_of t.pending t

@@ -1,0 +1,116 @@
+//! Lines and commands as text.
+ghost use Rattle.std.specs.Prelude.{◌≡◌, ◌∷◌, ◌++◌, false, OnOk};
+ghost use Rattle.kds_defs.specs.Kinds.{is_service};
+ghost use Rattle.kcl_script.specs.Fields.{worker_text};
+ghost use Rattle.kcl_script.specs.Commands.{target_text, command_text, raw_text};
+ghost use Rattle.kcl_script.specs.Line.{spelling, IsLine};
+
+use crate::line::Line;
+use crate::words::{number_field, with_key, with_number, with_numbers};
+use kds_base::{Memory, Octets, WorkerNo, write_u64};
+use kds_defs::{Command, Target};
+use std::alloc::Global;
+
+fn owner_field(alloc: Global, owner: WorkerNo, to: &mut Octets) -> Result<(), Memory>
+    ensures { OnOk result (to.new ≡ to.old ++ 32 ∷ worker_text owner) }
+{
+    to.extend(b" w".as_slice())?;
+    write_u64(alloc, owner.0 as u64, to)
+}
+
+fn target_field(alloc: Global, target: Target, to: &mut Octets) -> Result<(), Memory>
+    ensures { OnOk result (to.new ≡ to.old ++ 32 ∷ target_text target) }
+{
+    match target {
+        Target::At(q) => number_field(alloc, q.0, to),
+        Target::End => to.extend(b" end".as_slice()),
+    }
+}
+
+/// Adds the one text of a command. Condition: it is a command for leases. After `Memory` a front of the text
+/// may have been added.
+pub fn print_command(alloc: Global, what: &Command, to: &mut Octets) -> Result<(), Memory>
+    requires { is_service what.now ≡ false }
+    ensures { OnOk result (to.new ≡ to.old ++ command_text what.now) }
+{
+    match what {
+        Command::Survey => to.extend(b"survey".as_slice()),
+        Command::MakeLease { key } => with_key(alloc, b"make".as_slice(), *key, to),
+        Command::Take {
+            key,
+            counter,
+            owner,
+        } => {
+            with_key(alloc, b"take".as_slice(), *key, to)?;
+            number_field(alloc, *counter, to)?;
+            owner_field(alloc, *owner, to)
+        }
+        Command::Renew { tenure, counter } => {
+            with_numbers(alloc, b"renew".as_slice(), tenure.0, *counter, to)
+        }
+        Command::Free { tenure, counter } => {
+            with_numbers(alloc, b"free".as_slice(), tenure.0, *counter, to)
+        }
+        Command::OpenShard { tenure } => with_number(alloc, b"open".as_slice(), tenure.0, to),
+        Command::Read {
+            tenure,
+            position,
+            limit,
+        } => {
+            with_numbers(alloc, b"read".as_slice(), tenure.0, *position, to)?;
+            number_field(alloc, *limit as u64, to)
+        }
+        Command::Give { tenure } => with_number(alloc, b"give".as_slice(), tenure.0, to),
+        Command::Mark {
+            tenure,
+            counter,
+            to: target,
+        } => {
+            with_numbers(alloc, b"mark".as_slice(), tenure.0, *counter, to)?;
+            target_field(alloc, *target, to)
+        }
+        Command::CutLease { key, counter } => {
+            with_key(alloc, b"cut".as_slice(), *key, to)?;
+            number_field(alloc, *counter, to)
+        }
+        _ => unreachable!(),
+    }
+}
+
+fn print_raw(alloc: Global, what: &Command, long: bool, to: &mut Octets) -> Result<(), Memory>
+    requires { is_service what.now ≡ false }
+    ensures { OnOk result (to.new ≡ to.old ++ raw_text what.now long) }
+{
+    if long {
+        to.extend(b"rows".as_slice())
+    } else {
+        print_command(alloc, what, to)
+    }
+}
+
+/// Adds the one text of a line, without its line feed. Condition: it is the value of a line of a schedule. After
+/// `Memory` a front of the text may have been added.
+pub fn print_line(alloc: Global, line: &Line, to: &mut Octets) -> Result<(), Memory>
+    requires { IsLine line.now }
+    ensures { OnOk result (to.new ≡ to.old ++ spelling line.now) }
+{
+    match line {
+        Line::Api {
+            at,
+            operation,
+            body,
+        } => {
+            write_u64(alloc, at.ms(), to)?;
+            to.extend(b" api ".as_slice())?;
+            to.extend(operation.as_slice())?;
+            to.extend(b" ".as_slice())?;
+            to.extend(body.as_slice())
+        }
+        Line::Raw { at, by, what, long } => {
+            write_u64(alloc, at.ms(), to)?;
+            with_number(alloc, b" raw".as_slice(), *by as u64, to)?;
+            to.extend(b" ".as_slice())?;
+            print_raw(alloc, what, *long, to)
+        }
+    }
+}

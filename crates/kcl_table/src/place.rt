@@ -1,0 +1,56 @@
+//! Where the row of a key stands.
+ghost use Rattle.std.specs.Prelude.{◌≡◌, ◌≤◌, length, slice_get};
+ghost use Rattle.std.specs.Option.{option_map};
+ghost use Rattle.kds_defs.specs.Keys.{is_before, same_key};
+ghost use Rattle.kcl_table.specs.Rows.{AreInOrder, if_key, place_of, row_of};
+
+use kds_base::ShardRef;
+use kds_defs::Row;
+
+/// Whether a comes before b: by stream, and then by shard.
+fn is_before(a: &ShardRef, b: &ShardRef) -> bool
+    ensures { result ≡ is_before a.now b.now }
+{
+    if a.stream == b.stream {
+        a.shard < b.shard
+    } else {
+        a.stream < b.stream
+    }
+}
+
+/// Whether both name the same shard.
+fn is_same(a: &ShardRef, b: &ShardRef) -> bool
+    ensures { result ≡ same_key a.now b.now }
+{
+    a.stream == b.stream && a.shard == b.shard
+}
+
+/// How many rows come before the key.
+pub fn place_of(rows: &[Row], key: &ShardRef) -> usize
+    requires { AreInOrder rows.now }
+    ensures value { result ≡ place_of key.now rows.now }
+    ensures within { result ≤ length rows.now }
+{
+    rows.partition_point(|row| is_before(&row.key, key))
+}
+
+/// The row at this place, if it is the key's.
+fn row_at<'a>(rows: &'a [Row], place: usize, key: &ShardRef) -> Option<&'a Row>
+    ensures { option_map (λ r. r.now) result ≡ if_key key.now (slice_get rows.now place) }
+{
+    let row = rows.get(place)?;
+    if is_same(&row.key, key) {
+        Some(row)
+    } else {
+        None
+    }
+}
+
+/// The row of the key.
+#[tactic(auto, using(crate::proofs::Places::row_there))]
+pub fn row_of<'a>(rows: &'a [Row], key: &ShardRef) -> Option<&'a Row>
+    requires { AreInOrder rows.now }
+    ensures { option_map (λ r. r.now) result ≡ row_of rows.now key.now }
+{
+    row_at(rows, place_of(rows, key), key)
+}

@@ -1,0 +1,175 @@
+//! The conditions of a write of one row, and the row after it.
+ghost use Rattle.std.specs.Prelude.{◌≡◌, ◌≢◌, ◌<◌, ◌≤◌, ◌-◌, ◌^◌, ℕ, Some, IfErr, IfOk, Result, Err};
+ghost use Rattle.kds_defs.specs.declared.reply.Refusal.{Refusal};
+ghost use Rattle.kds_defs.specs.LeaseCommands.{least};
+ghost use Rattle.kds_defs.specs.Leases.{checkpoint_at, freed_row, is_end, marked_row, renewed_row, taken_row};
+ghost use Rattle.kcl_table.specs.Rows.{AreInOrder, row_of};
+ghost use Rattle.kcl_table.specs.Writes.{counted, held_answer, take_answer, target_answer};
+
+use crate::place::row_of;
+use kds_base::{Checkpoint, Seq, ShardRef, TenureNo, WorkerNo};
+use kds_defs::{Refusal, Row, Target};
+
+/// The counter after one more write.
+fn counted(counter: u64) -> Result<u64, Refusal>
+    ensures { result ≡ counted counter }
+{
+    if counter == u64::MAX {
+        return Err(Refusal::Spent);
+    }
+    Ok(counter + 1)
+}
+
+/// Whether the whole shard is processed.
+fn is_end(checkpoint: &Checkpoint) -> bool
+    ensures { result ≡ is_end checkpoint.now }
+{
+    matches!(checkpoint, Checkpoint::ShardEnd)
+}
+
+/// The counter after a worker took the row at its counter.
+pub fn take_counter(row: &Row, counter: u64) -> Result<u64, Refusal>
+    ensures { result ≡ take_answer (Some row.now) counter }
+{
+    if row.counter != counter {
+        return Err(Refusal::Moved(row.counter));
+    }
+    if is_end(&row.checkpoint) {
+        return Err(Refusal::Ended);
+    }
+    counted(row.counter)
+}
+
+/// The row of the key, where it is the tenure's and has this counter.
+pub fn held(rows: &[Row], key: &ShardRef, tenure: TenureNo, counter: u64) -> Result<Row, Refusal>
+    requires order { AreInOrder rows.now }
+    requires some { tenure ≢ 0 }
+    ensures refused { (next : Result ℕ Refusal) → IfErr result (λ r. held_answer (row_of rows.now key.now) tenure counter next ≡ Err r) }
+    ensures held { (next : Result ℕ Refusal) → IfOk result (λ r. held_answer (row_of rows.now key.now) tenure counter next ≡ next) }
+    ensures row { IfOk result (λ r. row_of rows.now key.now ≡ Some r) }
+{
+    let Some(row) = row_of(rows, key) else {
+        return Err(Refusal::Lost(TenureNo(0)));
+    };
+    if row.tenure != tenure {
+        return Err(Refusal::Lost(row.tenure));
+    }
+    if row.counter != counter {
+        return Err(Refusal::Moved(row.counter));
+    }
+    Ok(*row)
+}
+
+/// The counter after the row was renewed or freed.
+pub fn next_counter(row: &Row) -> Result<u64, Refusal>
+    ensures { result ≡ counted row.now.counter }
+{
+    counted(row.counter)
+}
+
+/// The least number that a checkpoint may be set to.
+fn least(row: &Row) -> Seq
+    ensures { result ≡ least row.now.checkpoint row.now.floor }
+{
+    match row.checkpoint {
+        Checkpoint::At(q) => q,
+        _ => row.floor,
+    }
+}
+
+/// The counter after the checkpoint was set.
+pub fn target_counter(row: &Row, to: &Target, delivered: u64, at_end: bool) -> Result<u64, Refusal>
+    ensures { result ≡ target_answer (Some row.now) to.now delivered at_end }
+{
+    match to {
+        Target::At(q) => {
+            let q = *q;
+            if is_end(&row.checkpoint) {
+                return Err(Refusal::Ended);
+            }
+            if delivered <= q.0 {
+                return Err(Refusal::Beyond(delivered));
+            }
+            let least = least(row);
+            if q < least {
+                return Err(Refusal::Below(least));
+            }
+        }
+        Target::End => {
+            if !at_end {
+                return Err(Refusal::NotAtEnd);
+            }
+        }
+    }
+    counted(row.counter)
+}
+
+/// The row after a worker took it.
+pub fn taken(row: &Row, tenure: TenureNo, owner: WorkerNo) -> Row
+    requires counter { row.now.counter < 2 ^ 64 - 1 }
+    requires switches { row.now.switches ≤ row.now.counter }
+    ensures { result ≡ taken_row tenure owner row.now }
+{
+    let moved = match row.owner {
+        Some(before) => before != owner,
+        None => false,
+    };
+    Row {
+        owner: Some(owner),
+        counter: row.counter + 1,
+        switches: if moved {
+            row.switches + 1
+        } else {
+            row.switches
+        },
+        tenure,
+        ..*row
+    }
+}
+
+/// The row after it was renewed.
+pub fn renewed(row: &Row) -> Row
+    requires { row.now.counter < 2 ^ 64 - 1 }
+    ensures { result ≡ renewed_row row.now }
+{
+    Row {
+        counter: row.counter + 1,
+        ..*row
+    }
+}
+
+/// The row after it was freed.
+pub fn freed(row: &Row) -> Row
+    requires { row.now.counter < 2 ^ 64 - 1 }
+    ensures { result ≡ freed_row row.now }
+{
+    Row {
+        owner: None,
+        counter: row.counter + 1,
+        tenure: TenureNo(0),
+        ..*row
+    }
+}
+
+/// The checkpoint that a target sets.
+fn checkpoint_at(to: &Target) -> Checkpoint
+    ensures { result ≡ checkpoint_at to.now }
+{
+    match to {
+        Target::At(q) => Checkpoint::At(*q),
+        Target::End => Checkpoint::ShardEnd,
+    }
+}
+
+/// The row after its checkpoint was set.
+pub fn marked(row: &Row, to: &Target) -> Row
+    requires { row.now.counter < 2 ^ 64 - 1 }
+    ensures { result ≡ marked_row to.now row.now }
+{
+    Row {
+        counter: row.counter + 1,
+        checkpoint: checkpoint_at(to),
+        switches: 0,
+        ..*row
+    }
+}

@@ -1,0 +1,51 @@
+-- The machine before and after a turn.
+use Rattle.std.proofs.Common.{◌≡◌, ℕ, zero, suc, max, List, [], ◌∷◌, None, refl, ap, subst, ◌∙◌, arith}
+use Rattle.std.specs.Prelude.{Result}
+use Rattle.std.specs.Option.{option_map}
+use Rattle.kds_defs.specs.declared.command.Turn.{Turn}
+use Rattle.kds_defs.specs.declared.reply.Refusal.{Refusal}
+use Rattle.kds_defs.specs.declared.reply.Reply.{Reply}
+use Rattle.kds_defs.specs.declared.reply.Row.{Row}
+use Rattle.kds_defs.specs.Histories.{answer, answer_of, clock as clock_of, decide, journal, lines_of}
+use Rattle.kds_defs.specs.Journal.{Journal, with_lines}
+use Rattle.kds_service.specs.Shown.{ServiceValue, ShowsAll}
+use Rattle.kcl_book.specs.Tenures.{TenureValue, tenure_at}
+use Rattle.kcl_world.proofs.LeaseSteps.{rows_of, stands_of, tenures_of}
+use Rattle.kcl_world.specs.Standing.{Leads, Stands, StandsFor, kept, world}
+
+no_tenure : (t : ℕ) → option_map kept None ≡ tenure_at [] t
+no_tenure zero = refl
+no_tenure (suc n) = refl
+
+-- a machine without streams and leases has answered nothing
+pub stands_new : (s : ServiceValue) → s.clock ≡ 0 → ShowsAll s [] → StandsFor (world s [] []) []
+stands_new s clock shows = record {
+  clock_is = clock;
+  stands = stands_of s [] [] [] shows (record { keys_are = refl; row_is = λ k. refl; distinct = tt; bounded = λ k e. cc })
+      (record { count_is = refl; few = omega arith; tenure_is = no_tenure; given = λ t. tt });
+}
+
+-- at another clock
+pub stands_at : (s s' : ServiceValue) (rs : List Row) (ts : List TenureValue) (log : Journal) → Stands (world s rs ts) log → ShowsAll s' log → Stands (world s' rs ts) log
+stands_at s s' rs ts log st shows = stands_of s' rs ts log shows (rows_of s rs ts log st) (tenures_of s rs ts log st)
+
+-- the services: before the turn, at its clock, after the command, and settled
+pub turn_done : (s at mid last : ServiceValue) (rs rs' : List Row) (ts ts' : List TenureValue) (h : List Turn) (turn : Turn) (gives : Result Reply Refusal) → StandsFor (world s rs ts) h
+    → ShowsAll at (journal h) → at.clock ≡ max s.clock turn.at → Leads (world at rs ts) (world mid rs' ts') turn.by turn.what gives → mid.clock ≡ at.clock
+    → ((log : Journal) → ShowsAll mid log → ShowsAll last log) → last.clock ≡ mid.clock
+    → (gives ≡ answer h turn) × StandsFor (world last rs' ts') (turn ∷ h)
+turn_done s at mid last rs rs' ts ts' h turn gives stood shows at_is led mid_is settles last_is =
+    let c : at.clock ≡ clock_of (turn ∷ h) = at_is ∙ ap (λ n. max n turn.at) stood.clock_is in
+    let l = led (journal h) (stands_at s at rs ts (journal h) stood.stands shows) in
+    let after = subst (λ n. Stands (world mid rs' ts') (with_lines (lines_of (decide (journal h) n turn.by turn.what)) (journal h))) c l.1 in (
+      l.0 ∙ ap (λ n. answer_of (decide (journal h) n turn.by turn.what)) c,
+      record { clock_is = last_is ∙ mid_is ∙ c; stands = stands_at mid last rs' ts' (journal (turn ∷ h)) after (settles (journal (turn ∷ h)) after.shows) },
+    )
+
+-- the same, for some history
+pub turn_stands : (s at mid last : ServiceValue) (rs rs' : List Row) (ts ts' : List TenureValue) (turn : Turn) (gives : Result Reply Refusal) → ((h : List Turn) × StandsFor (world s rs ts) h)
+    → ((log : Journal) → ShowsAll s log → ShowsAll at log) → at.clock ≡ max s.clock turn.at → Leads (world at rs ts) (world mid rs' ts') turn.by turn.what gives → mid.clock ≡ at.clock
+    → ((log : Journal) → ShowsAll mid log → ShowsAll last log) → last.clock ≡ mid.clock
+    → (h : List Turn) × StandsFor (world last rs' ts') h
+turn_stands s at mid last rs rs' ts ts' turn gives stood shows at_is led mid_is settles last_is =
+    (turn ∷ stood.0, (turn_done s at mid last rs rs' ts ts' stood.0 turn gives stood.1 (shows (journal stood.0) stood.1.stands.shows) at_is led mid_is settles last_is).1)

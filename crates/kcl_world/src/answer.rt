@@ -1,0 +1,97 @@
+//! One command, at the service's clock.
+ghost use Rattle.std.specs.Prelude.{◌≡◌, true, false, IfOk, IsOk, OnErr};
+ghost use Rattle.kds_defs.specs.Journal.{Journal};
+ghost use Rattle.kds_defs.specs.Kinds.{is_service};
+ghost use Rattle.kds_defs.specs.Lawful.{IsLawfulCommand};
+ghost use Rattle.kds_defs.specs.Machines.{NeedsNoMemory};
+ghost use Rattle.kcl_world.specs.Standing.{Leads, Stands, world};
+
+use crate::rows::{cut, free, make, renew, survey, take};
+use crate::tenures::{give, mark, open, read};
+use kcl_book::Book;
+use kcl_table::Table;
+use kds_base::Memory;
+use kds_defs::{Answer, Command};
+use kds_service::Service;
+
+/// Whether a command is one of the stream service.
+fn is_service(what: &Command) -> bool
+    ensures { result ≡ is_service what.now }
+{
+    !matches!(
+        what,
+        Command::Survey
+            | Command::MakeLease { .. }
+            | Command::Take { .. }
+            | Command::Renew { .. }
+            | Command::Free { .. }
+            | Command::OpenShard { .. }
+            | Command::Read { .. }
+            | Command::Give { .. }
+            | Command::Mark { .. }
+            | Command::CutLease { .. }
+    )
+}
+
+/// Answers a command on leases.
+fn lease_answer(
+    service: &Service,
+    table: &mut Table,
+    book: &mut Book,
+    by: u32,
+    what: Command,
+) -> Result<Answer, Memory>
+    requires leases { is_service what ≡ false }
+    requires stands { (log : Journal) × Stands (world service.now table.old book.old.tenures) log }
+    ensures leads { IfOk result (Leads (world service.now table.old book.old.tenures) (world service.now table.new book.new.tenures) by what) }
+    ensures kept { OnErr result ((table.new ≡ table.old) × (book.new.tenures ≡ book.old.tenures)) }
+    ensures sure { NeedsNoMemory what → IsOk result }
+{
+    match what {
+        Command::Survey => survey(service, table),
+        Command::MakeLease { key } => make(service, table, &key),
+        Command::Take {
+            key,
+            counter,
+            owner,
+        } => take(table, book, by, &key, counter, owner),
+        Command::Renew { tenure, counter } => Ok(renew(table, book, by, tenure, counter)),
+        Command::Free { tenure, counter } => Ok(free(table, book, by, tenure, counter)),
+        Command::OpenShard { tenure } => Ok(open(service, table, book, by, tenure)),
+        Command::Read {
+            tenure,
+            position,
+            limit,
+        } => read(service, book, by, tenure, position, limit),
+        Command::Give { tenure } => Ok(give(book, by, tenure)),
+        Command::Mark {
+            tenure,
+            counter,
+            to,
+        } => Ok(mark(table, book, by, tenure, counter, to)),
+        Command::CutLease { key, counter } => Ok(cut(service, table, &key, counter)),
+        _ => unreachable!(),
+    }
+}
+
+/// Answers a command. After `Memory`, which is want of memory, all is as before.
+pub fn answer(
+    service: &mut Service,
+    table: &mut Table,
+    book: &mut Book,
+    by: u32,
+    what: Command,
+) -> Result<Answer, Memory>
+    requires lawful { IsLawfulCommand what }
+    requires stands { (log : Journal) × Stands (world service.old table.old book.old.tenures) log }
+    ensures leads { IfOk result (Leads (world service.old table.old book.old.tenures) (world service.new table.new book.new.tenures) by what) }
+    ensures clock { service.new.clock ≡ service.old.clock }
+    ensures kept { OnErr result ((service.new ≡ service.old) × (table.new ≡ table.old) × (book.new.tenures ≡ book.old.tenures)) }
+    ensures sure { NeedsNoMemory what → IsOk result }
+{
+    if is_service(&what) {
+        service.serve(what)
+    } else {
+        lease_answer(service, table, book, by, what)
+    }
+}

@@ -1,0 +1,7 @@
+use Rattle.kds_defs.specs.Histories.{clock, journal}
+use Rattle.std.specs.Prelude.{◌∷◌}
+use Rattle.kds_defs.proofs.KindLemmas.{lease_answers}
+use Rattle.kds_defs.proofs.laws.lease_answers.Goals as goal
+
+pub returns : goal.returns
+returns c = λ h turn lease. lease_answers (journal h) (clock (turn ∷ h)) turn.by turn.what lease

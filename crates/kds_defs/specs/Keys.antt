@@ -1,0 +1,22 @@
+-- The keys of leases: shards of streams.
+use Rattle.std.specs.Prelude.{ℕ, Bool, ◌==◌, ◌&&◌, nat_lt, if◌then◌else◌}
+use Rattle.kds_base.specs.declared.lease_key.ShardRef.{ShardRef}
+use Rattle.kds_defs.specs.Journal.{Journal}
+use Rattle.kds_defs.specs.Shards.{is_listed}
+
+-- a shard of a stream
+abbrev pub ref : ℕ → ℕ → ShardRef
+ref s sh = record { stream = s; shard = sh }
+
+-- both name the same shard
+abbrev pub same_key : ShardRef → ShardRef → Bool
+same_key a b = (a.stream == b.stream) && (a.shard == b.shard)
+
+-- a comes before b: by stream, and then by shard
+abbrev pub is_before : ShardRef → ShardRef → Bool
+is_before a b =
+    if a.stream == b.stream then nat_lt a.shard b.shard else nat_lt a.stream b.stream
+
+-- the shard is listed
+abbrev pub is_listed_key : Journal → ℕ → ShardRef → Bool
+is_listed_key log c key = is_listed log c key.stream key.shard

@@ -1,0 +1,86 @@
+-- Which commands ask the stream service and which the leases, and the answers that each may get.
+use Rattle.std.specs.Prelude.{Bool, true, false, Result, Ok, Err}
+use Rattle.kds_defs.specs.declared.command.Command.{Command}
+use Rattle.kds_defs.specs.declared.command.Command.TheVariants as command
+use Rattle.kds_defs.specs.declared.reply.Refusal.{Refusal}
+use Rattle.kds_defs.specs.declared.reply.Refusal.TheVariants as refusal
+use Rattle.kds_defs.specs.declared.reply.Reply.{Reply}
+use Rattle.kds_defs.specs.declared.reply.Reply.TheVariants as reply
+
+-- the command asks for streams, shards or records, and not for leases
+abbrev pub is_service : Command → Bool
+is_service command.Survey = false
+is_service (command.MakeLease key) = false
+is_service (command.Take key counter owner) = false
+is_service (command.Renew tenure counter) = false
+is_service (command.Free tenure counter) = false
+is_service (command.OpenShard tenure) = false
+is_service (command.Read tenure position limit) = false
+is_service (command.Give tenure) = false
+is_service (command.Mark tenure counter to) = false
+is_service (command.CutLease key counter) = false
+is_service _ = true
+
+abbrev pub is_service_reply : Reply → Bool
+is_service_reply (reply.Survey shards rows) = false
+is_service_reply (reply.Taken tenure counter start) = false
+is_service_reply (reply.Counter counter) = false
+is_service_reply (reply.Read batch reach ended) = false
+is_service_reply (reply.Given delivered) = false
+is_service_reply _ = true
+
+abbrev pub is_service_refusal : Refusal → Bool
+is_service_refusal refusal.NoStream = true
+is_service_refusal refusal.StreamThere = true
+is_service_refusal refusal.NoShard = true
+is_service_refusal refusal.ShardClosed = true
+is_service_refusal refusal.NotAdjacent = true
+is_service_refusal refusal.BadSplit = true
+is_service_refusal refusal.BadNumber = true
+is_service_refusal refusal.Expired = true
+is_service_refusal refusal.PageExpired = true
+is_service_refusal refusal.BadRetention = true
+is_service_refusal refusal.Full = true
+is_service_refusal refusal.Spent = true
+is_service_refusal _ = false
+
+-- an answer that a command to the service may get
+abbrev pub is_service_answer : Result Reply Refusal → Bool
+is_service_answer (Ok r) = is_service_reply r
+is_service_answer (Err r) = is_service_refusal r
+
+abbrev pub is_lease_reply : Reply → Bool
+is_lease_reply reply.Done = true
+is_lease_reply (reply.Survey shards rows) = true
+is_lease_reply (reply.Taken tenure counter start) = true
+is_lease_reply (reply.Counter counter) = true
+is_lease_reply (reply.Read batch reach ended) = true
+is_lease_reply (reply.Given delivered) = true
+is_lease_reply _ = false
+
+abbrev pub is_lease_refusal : Refusal → Bool
+is_lease_refusal refusal.NoLease = true
+is_lease_refusal refusal.NoTenure = true
+is_lease_refusal refusal.NotYours = true
+is_lease_refusal (refusal.Lost tenure) = true
+is_lease_refusal (refusal.Moved counter) = true
+is_lease_refusal refusal.Ended = true
+is_lease_refusal (refusal.Beyond delivered) = true
+is_lease_refusal (refusal.Below least) = true
+is_lease_refusal refusal.NotAtEnd = true
+is_lease_refusal (refusal.ParentsOpen key) = true
+is_lease_refusal refusal.NotOpened = true
+is_lease_refusal refusal.OpenedBefore = true
+is_lease_refusal refusal.NothingPending = true
+is_lease_refusal refusal.TooManyPending = true
+is_lease_refusal (refusal.OutOfPlace reach) = true
+is_lease_refusal refusal.ShardGone = true
+is_lease_refusal refusal.LeaseThere = true
+is_lease_refusal refusal.ShardListed = true
+is_lease_refusal refusal.Spent = true
+is_lease_refusal _ = false
+
+-- an answer that a command for leases may get
+abbrev pub is_lease_answer : Result Reply Refusal → Bool
+is_lease_answer (Ok r) = is_lease_reply r
+is_lease_answer (Err r) = is_lease_refusal r

@@ -1,0 +1,74 @@
+//! Shards by their keys, over streams that all stand at the clock.
+ghost use Rattle.std.specs.Prelude.{◌≡◌, ◌-◌, ◌^◌, ◌<◌, ℕ, map, true, IfOk};
+ghost use Rattle.std.specs.List.{AllByRecursion};
+ghost use Rattle.std.specs.Option.{option_map};
+ghost use Rattle.indexmap.specs.IndexMap.{values};
+ghost use Rattle.kds_defs.specs.Journal.{Journal};
+ghost use Rattle.kds_defs.specs.Listings.{ends_at};
+ghost use Rattle.kds_defs.specs.Records.{batch, numbers_of, place_after, stored};
+ghost use Rattle.kds_defs.specs.Shards.{shown};
+ghost use Rattle.kds_service.specs.Keyed.{is_listed_in, listed_keys, state_in, stream_at};
+ghost use Rattle.kds_service.specs.Shown.{ShowsAll, service};
+
+use crate::places::{Streams, find_number};
+use kds_base::{Items, Memory, ShardRef, StreamNo};
+use kds_defs::{Shard, Stored};
+use kds_stream::Stream;
+use std::alloc::Global;
+
+/// The stream of a number, if there is one.
+#[tactic(auto, using(crate::proofs::KeyedShards::stream_found, crate::proofs::KeyedShards::none_found))]
+fn find(streams: &Streams, no: StreamNo) -> Option<&Stream>
+    ensures { option_map (λ v. v.now) result ≡ stream_at (values streams.now) no }
+{
+    let i = find_number(streams, no)?;
+    Some(&streams[i])
+}
+
+/// Whether the shard of a key is listed.
+pub fn is_listed(streams: &Streams, key: &ShardRef) -> bool
+    ensures { result ≡ is_listed_in (values streams.now) key.now }
+{
+    match find(streams, key.stream) {
+        Some(stream) => stream.is_listed(key.shard),
+        None => false,
+    }
+}
+
+/// The shard of a key.
+pub fn shard<'a>(streams: &'a Streams, key: &ShardRef) -> Option<&'a Shard>
+    ensures { option_map (λ x. x.now) result ≡ option_map shown (state_in (values streams.now) key.now) }
+{
+    let stream = find(streams, key.stream)?;
+    stream.tree().shard(key.shard)
+}
+
+/// The keys of all listed shards, in order.
+pub fn listed(alloc: Global, streams: &Streams) -> Result<Items<ShardRef>, Memory>
+    ensures { IfOk result (λ keys. keys ≡ listed_keys (values streams.now)) }
+{
+    let mut keys = Items::new(alloc);
+    for i in 0..streams.len() {
+        streams[i].add_listed(&mut keys)?;
+    }
+    Ok(keys)
+}
+
+/// A batch of a listed shard at a position, and whether the shard ends after it.
+pub fn read(
+    alloc: Global,
+    streams: &Streams,
+    key: &ShardRef,
+    position: u64,
+    limit: u32,
+) -> Result<(Items<Stored>, bool), Memory>
+    requires { is_listed_in (values streams.now) key.now ≡ true }
+    ensures batch { (c b n : ℕ) (log : Journal) → ShowsAll (service c b n (values streams.now)) log → IfOk result (λ r. r.0 ≡ map stored (batch log c key.now.stream key.now.shard position limit)) }
+    ensures numbers { IfOk result (λ r. AllByRecursion (λ x. x.seq < 2 ^ 64 - 1) r.0) }
+    ensures end { (c b n : ℕ) (log : Journal) → ShowsAll (service c b n (values streams.now)) log → IfOk result (λ r. r.1 ≡ ends_at log c key.now.stream key.now.shard (place_after position (numbers_of (batch log c key.now.stream key.now.shard position limit)))) }
+{
+    match find(streams, key.stream) {
+        Some(stream) => stream.read(alloc, key.shard, position, limit),
+        None => Ok((Items::new(alloc), false)),
+    }
+}
