@@ -1,13 +1,18 @@
 //! What is true of every history: functions without parameters, whose contracts are the laws.
 #![tactic(auto)]
 
-ghost use Rattle.std.specs.Prelude.{ℕ, List, [], ◌∷◌, ◌≤◌};
+ghost use Rattle.std.specs.Prelude.{ℕ, List, [], ◌∷◌, ◌≤◌, ◌≡◌, Option, Some, None, Err};
+ghost use Rattle.kcl_laws.specs.Acting.{acting};
+ghost use Rattle.kcl_laws.specs.RowLines.{IsToldRow, last_bound, making};
+ghost use Rattle.kds_base.specs.declared.lease_key.ShardRef.{ShardRef};
 ghost use Rattle.kds_defs.specs.declared.command.Turn.{Turn};
-ghost use Rattle.kds_defs.specs.Histories.{journal, clock};
+ghost use Rattle.kds_defs.specs.declared.reply.Refusal.{Refusal};
+ghost use Rattle.kds_defs.specs.Histories.{journal, clock, answer};
 ghost use Rattle.kds_defs.specs.Journal.{Line, Journal};
 ghost use Rattle.kds_defs.specs.Lawful.{IsHistory};
+ghost use Rattle.kds_defs.specs.Leases.{row};
 ghost use Rattle.kds_defs.specs.Legal.{IsGood, IsLegal, IsReached};
-ghost use Rattle.kds_defs.specs.Safe.{HasPartitions, ArePlaced, AreCovered, AreInLine, AreFenced, IsSafe};
+ghost use Rattle.kds_defs.specs.Safe.{HasPartitions, ArePlaced, AreCovered, AreInLine, HoldsRow, AreFenced, IsSafe};
 
 /// The open shards of each stream partition the keys.
 pub fn partition()
@@ -29,17 +34,30 @@ pub fn lineage()
     ensures { (h : List Turn) → IsHistory h → AreInLine (journal h) }
 {}
 
-/// Each write of a row is by its tenure's actor, while the tenure is the row's.
+/// Each write of a row is by its tenure's actor, while the tenure is the row's: what another tenure asks for
+/// adds no line.
 pub fn fence()
-    ensures { (h : List Turn) → IsHistory h → AreFenced (journal h) }
+    ensures fenced { (h : List Turn) → IsHistory h → AreFenced (journal h) }
+    ensures stale { (h : List Turn) (turn : Turn) (t : ℕ) → acting turn.what ≡ Some t → (HoldsRow (journal h) turn.by t → ⊥) → journal (turn ∷ h) ≡ journal h }
 {}
 
 /// The invariant behind these laws: no line meets it, each good line and each later clock keeps it, each
-/// history meets it, and it implies them all.
+/// history meets it, and it implies them all. A refused turn adds no line.
 pub fn step()
     ensures empty { (c : ℕ) → IsReached [] c }
     ensures line { (log : Journal) (line : Line) → IsLegal log → IsGood log line → IsReached (line ∷ log) line.clock }
     ensures later { (log : Journal) (c d : ℕ) → IsReached log c → c ≤ d → IsReached log d }
     ensures history { (h : List Turn) → IsHistory h → IsReached (journal h) (clock h) }
+    ensures refused { (h : List Turn) (turn : Turn) (r : Refusal) → answer h turn ≡ Err r → journal (turn ∷ h) ≡ journal h }
     ensures safe { (log : Journal) (c : ℕ) → IsReached log c → IsSafe log c }
+{}
+
+/// What a row reads, told by the lines of any journal. A row is there where its last making has no later
+/// removal. Since its making: its counter counts its takings, renewals, freeings and markings; its checkpoint
+/// is the last marking's target; its owner and its tenure are the last taking's, unless a freeing follows; its
+/// switches are the takings from another owner since the last marking. Its parents and its first number
+/// are the shard's (Kinesis Client Library, leases).
+pub fn rows()
+    ensures removed { (log : Journal) (key : ShardRef) → making (last_bound log key) ≡ None → row log key ≡ None }
+    ensures made { (log : Journal) (key : ShardRef) (before : Journal) → making (last_bound log key) ≡ Some before → IsToldRow log key before }
 {}
