@@ -1,9 +1,10 @@
 -- Parts of a text, which a byte parts.
-use Rattle.std.proofs.Common.{◌≡◌, ℕ, ◌+◌, List, [], ◌∷◌, ◌++◌, take, drop, Bool, true, false, Option, Some, None, refl, ap, ◌∙◌, inl, inr, subst}
+use Rattle.std.proofs.Common.{◌≡◌, ℕ, zero, suc, ◌+◌, ◌<◌, List, length, [], ◌∷◌, ◌++◌, take, drop, Bool, true, false, Option, Some, None, refl, ap, ◌∙◌, inl, inr, subst, arith}
 use Rattle.std.proofs.lemmas.Bool.{cases_Bool, eqb-true, eq-eqb}
 use Rattle.std.specs.Prelude.{◌==◌, ◌&&◌, if◌then◌else◌, option_map}
 use Rattle.std.specs.List.{list_all}
-use Rattle.kcl_script.specs.Fields.{◌>>=◌, parted, Lacks, IsFirst}
+use Rattle.memchr.specs.Find.{NoneBefore, Passes, is_byte}
+use Rattle.kcl_script.specs.Fields.{◌>>=◌, parted, Lacks}
 
 pub lacks-append : (sep : ℕ) (a b : List ℕ) → Lacks sep a → Lacks sep b → Lacks sep (a ++ b)
 lacks-append sep [] b n m = m
@@ -13,12 +14,29 @@ pub parted_at : (sep : ℕ) (a b : List ℕ) → Lacks sep a → (sep == sep) �
 parted_at sep [] b n e = rw e refl
 parted_at sep (x ∷ a) b n e = rw (n.0, parted_at sep a b n.1 e) refl
 
-pub parted_none : (sep : ℕ) (a : List ℕ) → Lacks sep a → parted sep a ≡ None
-parted_none sep [] n = refl
-parted_none sep (x ∷ a) n = rw (n.0, parted_none sep a n.1) refl
+other_byte : (sep b : ℕ) → ((b == sep) ≡ true → ⊥) → (b == sep) ≡ false
+other_byte sep b differs = elim (cases_Bool (b == sep)) [
+  | inl same ↦ absurd (differs same)
+  | inr other ↦ other
+]
 
-pub parted_first : (sep : ℕ) (text : List ℕ) (at : ℕ) → IsFirst sep text at → parted sep text ≡ Some (take at text, drop (at + 1) text)
-parted_first sep text at f = ap (parted sep) f.parts ∙ parted_at sep (take at text) (drop (at + 1) text) f.before (eq-eqb sep sep refl)
+-- where a search finds the byte
+found_at : (sep : ℕ) (text : List ℕ) (at : ℕ) → at < length text → ((k : ℕ) → k < at → Passes (is_byte sep) text k → ⊥) → Passes (is_byte sep) text at → parted sep text ≡ Some (take at text, drop (suc at) text)
+found_at sep [] at within before here = absurd (omega (arith, within))
+found_at sep (b ∷ bs) zero within before here = rw here refl
+found_at sep (b ∷ bs) (suc at) within before here =
+    rw (other_byte sep b (before 0 (omega arith)), found_at sep bs at (omega (arith, within)) (λ k lt. before (suc k) (omega (arith, lt))) here) refl
+
+pub parted_found : (sep : ℕ) (text : List ℕ) (at : ℕ) → NoneBefore (Passes (is_byte sep) text) 0 (length text) at × Passes (is_byte sep) text at → parted sep text ≡ Some (take at text, drop (at + 1) text)
+parted_found sep text at found =
+    let next : suc at ≡ at + 1 = omega arith in
+    found_at sep text at found.0.high (λ k lt. found.0.before k (omega arith) lt) found.1 ∙ ap (λ n. Some (take at text, drop n text)) next
+
+-- where it finds none
+pub parted_nowhere : (sep : ℕ) (text : List ℕ) → ((k : ℕ) → k < length text → Passes (is_byte sep) text k → ⊥) → parted sep text ≡ None
+parted_nowhere sep [] nowhere = refl
+parted_nowhere sep (b ∷ bs) nowhere =
+    rw (other_byte sep b (nowhere 0 (omega arith)), parted_nowhere sep bs (λ k lt. nowhere (suc k) (omega (arith, lt)))) refl
 
 abbrev pub IsParted : ℕ → List ℕ → List ℕ × List ℕ → Type 0
 IsParted sep text p = (text ≡ p.0 ++ sep ∷ p.1) × Lacks sep p.0

@@ -22,12 +22,6 @@ abbrev pub Lacks : ℕ → List ℕ → Type 0
 Lacks sep [] = Unit {0}
 Lacks sep (b ∷ bs) = ((b == sep) ≡ false) × Lacks sep bs
 
--- the first such byte stands here
-pub record IsFirst (sep : ℕ) (text : List ℕ) (at : ℕ) : Type 0 where
-  pub within : at < length text
-  pub before : Lacks sep (take at text)
-  pub parts : text ≡ take at text ++ sep ∷ drop (at + 1) text
-
 -- two parts, each of its form
 unfoldable pub two : {A B : Type 0} → ℕ → (List ℕ → Option A) → (List ℕ → Option B) → List ℕ → Option (A × B)
 two sep f g text = do

@@ -1,25 +1,15 @@
 //! Fields of a line, and the numbers, workers and keys in them.
-ghost use Rattle.std.specs.Prelude.{◌≡◌, ◌∷◌, MatchOption, option_map};
-ghost use Rattle.kcl_script.specs.Fields.{parted, field, Lacks, IsFirst, two, moment_of, number, from_one_to, count_of, worker_of, key_of};
+ghost use Rattle.std.specs.Prelude.{◌≡◌, ◌∷◌, option_map};
+ghost use Rattle.kcl_script.specs.Fields.{parted, field, two, moment_of, number, from_one_to, count_of, worker_of, key_of};
 
 use kds_base::{Moment, ShardNo, ShardRef, StreamNo, WorkerNo, read_u64};
-
-fn first_at(text: &[u8], sep: u8) -> Option<usize>
-    ensures { MatchOption result (Lacks sep text.now) (IsFirst sep text.now) }
-{
-    for (at, b) in text.iter().enumerate() {
-        if *b == sep {
-            return Some(at);
-        }
-    }
-    None
-}
+use memchr::memchr;
 
 /// The part before the first such byte, and what follows that byte.
 pub fn part(text: &[u8], sep: u8) -> Option<(&[u8], &[u8])>
     ensures { option_map (λ p. (p.0.now, p.1.now)) result ≡ parted sep text.now }
 {
-    match first_at(text, sep) {
+    match memchr(sep, text) {
         Some(at) => {
             let (front, _) = text.split_at(at);
             let (_, back) = text.split_at(at + 1);
