@@ -14,6 +14,10 @@ ghost use Rattle.kds_defs.specs.Leases.{row};
 ghost use Rattle.kds_defs.specs.Legal.{IsGood, IsLegal, IsReached};
 ghost use Rattle.kds_defs.specs.Safe.{HasPartitions, ArePlaced, AreCovered, AreInLine, HoldsRow, AreFenced, IsSafe};
 
+mod limits;
+
+pub use limits::{input_limits, lease_limits, service_limits};
+
 /// The open shards of each stream partition the keys.
 pub fn partition()
     ensures { (h : List Turn) → IsHistory h → HasPartitions (journal h) }
