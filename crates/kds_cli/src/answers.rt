@@ -66,7 +66,7 @@ const CUT: &str = "input ended inside a message\n";
 const REFUSED: &str = "message refused\n";
 
 /// Parts one after another.
-fn joined(alloc: Global, parts: [&str; 3]) -> Result<Octets, Fail> {
+pub fn joined(alloc: Global, parts: [&str; 3]) -> Result<Octets, Fail> {
     let mut all = Octets::new(alloc);
     for part in parts {
         all.extend(part.as_bytes())?;

@@ -1,7 +1,6 @@
 //! Worked rows of leases in schedules, and what each writes.
+use crate::answers::joined;
 use crate::tests::run_on;
-use kds_base::{Memory, Octets};
-use std::alloc::Global;
 use std::test::Fail;
 
 /// No lines.
@@ -203,12 +202,6 @@ refused TooManyPending
 "#,
 );
 
-fn joined(alloc: Global, front: &str, rest: &str) -> Result<Octets, Memory> {
-    let mut all = Octets::of(alloc, front.as_bytes())?;
-    all.extend(rest.as_bytes())?;
-    Ok(all)
-}
-
 #[test]
 fn worked_rows_of_leases(rt: HostRuntime) -> Result<(), Fail> {
     let alloc = rt.alloc();
@@ -220,8 +213,8 @@ fn worked_rows_of_leases(rt: HostRuntime) -> Result<(), Fail> {
         (NO_ROWS, READS),
     ];
     for (front, rest) in rows {
-        let text = joined(alloc, front.0, rest.0)?;
-        let out = joined(alloc, front.1, rest.1)?;
+        let text = joined(alloc, [front.0, rest.0, ""])?;
+        let out = joined(alloc, [front.1, rest.1, ""])?;
         let left = run_on(&rt, &["replay"], text.as_slice(), 4096, &[], &[])?;
         assert_eq!(rt; left.code, 0);
         assert_eq!(rt; left.out.held(), out.as_slice());
