@@ -1,14 +1,19 @@
 -- A plain text of digits is ASCII, and `parse` reads it.
-use Rattle.std.proofs.Common.{decimal, sym, ap, ◌∙◌, subst, get_or, Some, zero, suc, inl, inr, ◌⊎◌, ◌≡◌, ℕ, ◌^◌, ◌<◌, List, length, true, Result, Ok, Err, arith, rules}
+use Rattle.std.proofs.Common.{decimal, sym, ap, ◌∙◌, subst, get_or, Some, zero, suc, inl, inr, ◌⊎◌, ◌≡◌, ℕ, ◌+◌, ◌*◌, ◌/◌, ◌%◌, ◌^◌, ◌<◌, ◌≤◌, List, [], ◌∷◌, ◌++◌, length, true, Result, Ok, Err, arith, rules}
 use Rattle.std.proofs.lemmas.Grind.{common_steps}
 use Rattle.std.proofs.lemmas.Str.Parse.{IsNumeralModel, numerals_by_value, parse_digits}
-use Rattle.std.proofs.lemmas.Fmt.{IsAscii-from_digits, decimal-digits_value, decimal_nonempty, first_decimal, decimal_digit, digits_decimal, digits_value-decimal}
-use Rattle.std.specs.Char.{is_ascii_digit}
+use Rattle.std.proofs.lemmas.Fmt.{IsAscii-from_digits, decimal_digit, decimal_step_wide, decimal_by_steps_wide, decimal_is_IsNumeral_wide}
+use Rattle.std.proofs.lemmas.List.{append_assoc, append-nil, length-append}
+use Rattle.std.proofs.lemmas.Str.{digit_value_digit}
+use Rattle.std.proofs.lemmas.Str.Parse.{digit_from_value}
+use Rattle.std.proofs.Math.ListN.{get_or-append}
+use Rattle.std.proofs.Math.Pow.{pow_mono}
+use Rattle.std.specs.Char.{digit_value, is_ascii_digit}
 use Rattle.std.specs.List.{list_all}
 use Rattle.std.specs.Result.{result_ok, OkIff}
 use Rattle.std.specs.Str.{IsAscii}
-use Rattle.std.specs.Str.Parse.{digits_value, ParsesUnsigned}
-use Rattle.kds_base.specs.NumberText.{is_plain, number_of}
+use Rattle.std.specs.Str.Parse.{AllDigits, digits_value, digits_value_after, ParsesUnsigned}
+use Rattle.kds_base.specs.NumberText.{are_digits, digits_of, is_plain, number_of}
 
 -- a text of digits, as a fact
 abbrev pub IsDigits : List ℕ → Type 0
@@ -35,25 +40,94 @@ plain_ascii text p = IsAscii-from_digits text (own.to text (plain_digits text p)
 pub plain_first : (text : List ℕ) → is_plain text ≡ true → get_or text 0 0 ≡ 48 → length text ≡ 1
 plain_first text p z = grind (arith, common_steps)
 
-pub decimal_of_number : (text : List ℕ) (n : ℕ) → number_of 64 text ≡ Some n → (text ≡ decimal n) × (n < 2 ^ 64)
-decimal_of_number text n h =
+-- the numbers whose texts are spoken of: those of at most 128 bits have fewer than 64 digits
+pub few_digits : (bits n : ℕ) → bits ≤ 128 → n < 2 ^ bits → n < 10 ^ 64
+few_digits bits n few small = let most : 2 ^ bits ≤ 2 ^ 128 = pow_mono few in omega (arith, most, small)
+
+le_value_after : (n : ℕ) (ds : List ℕ) → n ≤ digits_value_after 10 n ds
+le_value_after n [] = omega arith
+le_value_after n (c ∷ cs) = omega (arith, le_value_after (n * 10 + digit_value c) cs)
+
+value_after : (n : ℕ) (ds : List ℕ) → 0 < n → AllDigits 10 ds → digits_value_after 10 n ds < 10 ^ 64 → decimal (digits_value_after 10 n ds) ≡ decimal n ++ ds
+value_after n [] some d small = sym (append-nil (decimal n))
+value_after n (c ∷ cs) some d small =
+    let m : ℕ = n * 10 + digit_value c in
+    let k = digit_value_digit c (digit_from_value c d.0) in
+    let front : m / 10 ≡ n = omega (arith, d.0) in
+    let end : 48 + m % 10 ≡ c = omega (arith, d.0) in
+    value_after m cs (omega arith) d.1 small
+    ∙ ap (λ x. x ++ cs) (decimal_step_wide m (omega arith) (omega (arith, le_value_after m cs)) ∙ (λ i. decimal (front i) ++ (end i ∷ [])))
+    ∙ append_assoc (decimal n) (c ∷ []) cs
+
+-- digits are the text of their value
+value_digits : (ds : List ℕ) → AllDigits 10 ds → 0 < length ds → (get_or ds 0 0 ≡ 48 → length ds ≡ 1) → digits_value 10 ds < 10 ^ 64 → decimal (digits_value 10 ds) ≡ ds
+value_digits [] d some lead small = absurd (omega arith)
+value_digits (c ∷ []) d some lead small =
+    let k = digit_value_digit c (digit_from_value c d.0) in
+    decimal_digit (0 * 10 + digit_value c) (omega (arith, d.0)) ∙ ap (λ x. x ∷ []) (omega arith)
+value_digits (c ∷ e ∷ cs) d some lead small =
+    let k = digit_value_digit c (digit_from_value c d.0) in
+    let other : c ≡ 48 → ⊥ = λ z. omega (arith, lead z) in
+    let is : 48 + (0 * 10 + digit_value c) ≡ c = omega arith in
+    value_after (0 * 10 + digit_value c) (e ∷ cs) (omega arith) d.1 small
+    ∙ ap (λ x. x ++ (e ∷ cs)) (decimal_digit (0 * 10 + digit_value c) (omega (arith, d.0)) ∙ ap (λ x. x ∷ []) is)
+
+pub fits : (bits n : ℕ) (text : List ℕ) → number_of bits text ≡ Some n → n < 2 ^ bits
+fits bits n text h =
+    let small : digits_value 10 text < 2 ^ bits = grind (arith, common_steps) in
+    let v : digits_value 10 text ≡ n = grind (arith, common_steps) in
+    subst (λ (z : ℕ). z < 2 ^ bits) v small
+
+pub spells : (bits n : ℕ) (text : List ℕ) → bits ≤ 128 → number_of bits text ≡ Some n → text ≡ decimal n
+spells bits n text few h =
     let p : is_plain text ≡ true = grind (arith, common_steps) in
-    let small : digits_value 10 text < 2 ^ 64 = grind (arith, common_steps) in
+    let small : digits_value 10 text < 2 ^ bits = grind (arith, common_steps) in
     let v : digits_value 10 text ≡ n = grind (arith, common_steps) in
     let d = plain_digits text p in
-    (sym (ap decimal (sym v) ∙ decimal-digits_value own text d.0 d.1 (plain_first text p) small), subst (λ (z : ℕ). z < 2 ^ 64) v small)
+    sym (ap decimal (sym v) ∙ value_digits text (own.to text d.0) d.1 (plain_first text p) (few_digits bits _ few small))
 
 -- what makes a text plain
 plain_from : (text : List ℕ) → 0 < length text → IsDigits text → (48 < get_or text 0 0) ⊎ (length text ≡ 1) → is_plain text ≡ true
 plain_from text some digits (inl big) = grind (arith, common_steps)
 plain_from text some digits (inr one) = grind (arith, common_steps)
 
-pub decimal_plain : (n : ℕ) → n < 2 ^ 64 → is_plain (decimal n) ≡ true
-decimal_plain zero small = plain_from (decimal 0) (decimal_nonempty 0 small) (digits_decimal own 0 small) (inr (ap length (decimal_digit 0 (omega arith))))
-decimal_plain (suc n) small = plain_from (decimal (suc n)) (decimal_nonempty (suc n) small) (digits_decimal own (suc n) small) (inl (first_decimal (suc n) (omega arith) small))
+first_digit : (n : ℕ) → 0 < n → n < 10 ^ 64 → 48 < get_or (decimal n) 0 0
+first_digit n some small = (decimal_by_steps_wide (λ m ds. (0 < length ds) × (0 < m → 48 < get_or ds 0 0)) (λ m l. (omega arith, λ a. omega arith))
+    (λ m ds l h. (omega (arith, length-append ds ((48 + m % 10) ∷ [])), λ a. omega (arith, get_or-append ds ((48 + m % 10) ∷ []) 0 0 h.0, h.1 (omega arith)))) n small).1 some
 
-number_from : (text : List ℕ) (n : ℕ) → is_plain text ≡ true → digits_value 10 text ≡ n → n < 2 ^ 64 → number_of 64 text ≡ Some n
-number_from text n p v small = grind (arith, common_steps)
+decimal_digits : (n : ℕ) → n < 10 ^ 64 → IsDigits (decimal n)
+decimal_digits n small = own.from (decimal n) (decimal_is_IsNumeral_wide n small).0.1
+
+pub decimal_plain : (n : ℕ) → n < 10 ^ 64 → is_plain (decimal n) ≡ true
+decimal_plain zero small = plain_from (decimal 0) (decimal_is_IsNumeral_wide 0 small).0.0 (decimal_digits 0 small) (inr (ap length (decimal_digit 0 (omega arith))))
+decimal_plain (suc n) small = plain_from (decimal (suc n)) (decimal_is_IsNumeral_wide (suc n) small).0.0 (decimal_digits (suc n) small) (inl (first_digit (suc n) (omega arith) small))
+
+number_from : (bits n : ℕ) (text : List ℕ) → is_plain text ≡ true → digits_value 10 text ≡ n → n < 2 ^ bits → number_of bits text ≡ Some n
+number_from bits n text p v small = grind (arith, common_steps)
+
+pub reads : (bits n : ℕ) → bits ≤ 128 → n < 2 ^ bits → number_of bits (decimal n) ≡ Some n
+reads bits n few small =
+    let short = few_digits bits n few small in
+    number_from bits n (decimal n) (decimal_plain n short) (decimal_is_IsNumeral_wide n short).1 small
+
+-- the same of 64 bits
+pub decimal_of_number : (text : List ℕ) (n : ℕ) → number_of 64 text ≡ Some n → (text ≡ decimal n) × (n < 2 ^ 64)
+decimal_of_number text n h = (spells 64 n text (omega arith) h, fits 64 n text h)
 
 pub number_of_decimal : (n : ℕ) → n < 2 ^ 64 → number_of 64 (decimal n) ≡ Some n
-number_of_decimal n small = number_from (decimal n) n (decimal_plain n small) (digits_value-decimal own n small) small
+number_of_decimal n small = reads 64 n (omega arith) small
+
+-- ---- digits, whatever zeros stand in front
+
+pub some_digits : (text : List ℕ) → are_digits text ≡ true → IsDigits text × (0 < length text)
+some_digits text p = (grind (arith, common_steps), grind (arith, common_steps))
+
+digits_parsed : {E : Type 0} (bits : ℕ) (bs : List ℕ) (r : Result ℕ E) → are_digits bs ≡ true → OkIff r ((0 < length bs) × (digits_value 10 bs < 2 ^ bits)) (digits_value 10 bs) → result_ok r ≡ digits_of bits bs
+digits_parsed bits bs (Ok x) p h = grind (arith, common_steps, h.0.1, h.1)
+digits_parsed bits bs (Err e) p h = let n = some_digits bs p in grind (arith, common_steps, n.1)
+
+pub digits_from_parse : {E : Type 0} (bits : ℕ) (bs : List ℕ) (r : Result ℕ E) → are_digits bs ≡ true → ParsesUnsigned bits 10 bs r → result_ok r ≡ digits_of bits bs
+digits_from_parse bits bs r p h = digits_parsed bits bs r p (parse_digits own bits bs r h (some_digits bs p).0)
+
+pub digits_ascii : (text : List ℕ) → are_digits text ≡ true → IsAscii text
+digits_ascii text p = IsAscii-from_digits text (own.to text (some_digits text p).0)

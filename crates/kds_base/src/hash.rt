@@ -1,3 +1,4 @@
+//! The hash keys of partition keys.
 ghost use Rattle.std.specs.Prelude.{◌≡◌};
 ghost use Rattle.kds_base.specs.Hashes.{key_hash};
 

@@ -1,4 +1,7 @@
 //! Keys and checkpoints of leases.
+ghost use Rattle.std.specs.Prelude.{◌≡◌};
+ghost use Rattle.kds_base.specs.Checkpoints.{is_end};
+
 use crate::numbers::{Seq, ShardNo, StreamNo};
 
 /// A shard of a stream, which is the key of its lease. Ordered by stream, then by shard
@@ -16,4 +19,13 @@ pub enum Checkpoint {
     TrimHorizon,
     At(Seq),
     ShardEnd,
+}
+
+impl Checkpoint {
+    /// Whether the whole shard is processed.
+    pub fn is_end(self) -> bool
+        ensures { result ≡ is_end self }
+    {
+        matches!(self, Checkpoint::ShardEnd)
+    }
 }

@@ -1,4 +1,5 @@
-ghost use Rattle.std.specs.Prelude.{◌≡◌, ◌<◌, ◌^◌, SomeIff};
+//! Moments.
+ghost use Rattle.std.specs.Prelude.{◌≡◌, ◌<◌, ◌^◌, max, SomeIff};
 
 use std::marker::Model;
 
@@ -40,6 +41,13 @@ impl Moment {
         ensures { result ≡ 0 }
     {
         Moment { ms: 0 }
+    }
+
+    /// The later of the two.
+    pub fn later(self, other: Moment) -> Moment
+        ensures { result ≡ max self other }
+    {
+        if self.ms < other.ms { other } else { self }
     }
 
     /// The milliseconds.

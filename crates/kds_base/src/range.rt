@@ -1,3 +1,4 @@
+//! Ranges of hash keys.
 ghost use Rattle.std.specs.Prelude.{◌≡◌, ◌==◌, ◌+◌, ◌-◌, ◌*◌, ◌/◌, ◌^◌, ◌<◌, ◌≤◌, ◌↔◌, IsTrue, SomeIff, IfOk, if◌then◌else◌};
 ghost use Rattle.kds_base.specs.Span.{Covers, follows, last_key, parts, union, uniform};
 
@@ -98,8 +99,7 @@ impl Range {
     /// The ranges of a new stream of `n` shards: the i-th starts at `i * floor(2^128 / n)`, and the last
     /// ends at the greatest key.
     pub fn uniform(alloc: Global, n: u32) -> Result<Items<Range>, Memory>
-        requires least { 1 ≤ n }
-        requires most { n ≤ 500 }
+        requires { 1 ≤ n }
         ensures { IfOk result (λ ranges. ranges ≡ uniform n) }
     {
         let mut ranges = Items::new(alloc);
