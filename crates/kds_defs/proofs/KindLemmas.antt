@@ -8,14 +8,12 @@ use Rattle.kds_defs.specs.declared.command.Target.TheVariants as target
 use Rattle.kds_defs.specs.declared.entry.Entry.TheVariants as entry
 use Rattle.kds_defs.specs.declared.reply.Iter.{Iter}
 use Rattle.kds_defs.specs.declared.reply.Refusal.{Refusal}
-use Rattle.kds_defs.specs.declared.reply.Refusal.TheVariants as refusal
-use Rattle.kds_defs.specs.declared.reply.Reply.{Reply}
 use Rattle.kds_defs.specs.declared.reply.Reply.TheVariants as reply
 use Rattle.kds_defs.specs.declared.reply.Shard.{Shard}
 use Rattle.kds_defs.specs.declared.reply.Stored.{Stored}
-use Rattle.kds_defs.specs.Decision.{Decision, Accepted, Refused, refuse◌if◌else◌, with◌or◌then◌}
+use Rattle.kds_defs.specs.Decision.{Decision, Accepted, refuse◌if◌else◌, with◌or◌then◌}
 use Rattle.kds_defs.specs.Histories.{answer_of, decide}
-use Rattle.kds_defs.specs.Journal.{Journal, Line, plain_line}
+use Rattle.kds_defs.specs.Journal.{Journal, plain_line}
 use Rattle.kds_defs.specs.Kinds.{is_lease_answer, is_lease_refusal, is_service, is_service_answer, is_service_refusal, is_service_reply}
 use Rattle.kds_defs.specs.LeaseCommands.{past_parent, past_parents, past_target, with_held, with_tenure}
 use Rattle.kds_defs.specs.Leases.{TenureState}

@@ -1,5 +1,5 @@
 -- Which commands ask the stream service and which the leases, and the answers that each may get.
-use Rattle.std.specs.Prelude.{Bool, true, false, Result, Ok, Err}
+use Rattle.std.specs.Prelude.{Bool, true, false, ◌&&◌, not, Result, Ok, Err}
 use Rattle.kds_defs.specs.declared.command.Command.{Command}
 use Rattle.kds_defs.specs.declared.command.Command.TheVariants as command
 use Rattle.kds_defs.specs.declared.reply.Refusal.{Refusal}
@@ -20,6 +20,29 @@ is_service (command.Give tenure) = false
 is_service (command.Mark tenure counter to) = false
 is_service (command.CutLease key counter) = false
 is_service _ = true
+
+-- it changes streams, shards or records
+abbrev pub is_change : Command → Bool
+is_change (command.Create name count) = true
+is_change (command.Delete name) = true
+is_change (command.Put name item) = true
+is_change (command.PutMany name items) = true
+is_change (command.Split name sh at) = true
+is_change (command.Merge name sh other) = true
+is_change (command.Keep name hours raise) = true
+is_change _ = false
+
+-- it reads them
+abbrev pub is_query : Command → Bool
+is_query what = is_service what && not (is_change what)
+
+-- it is one for leases that names a tenure, and a counter or a place
+abbrev pub is_counted : Command → Bool
+is_counted (command.Renew tenure counter) = true
+is_counted (command.Free tenure counter) = true
+is_counted (command.Read tenure position limit) = true
+is_counted (command.Mark tenure counter to) = true
+is_counted _ = false
 
 abbrev pub is_service_reply : Reply → Bool
 is_service_reply (reply.Survey shards rows) = false

@@ -16,3 +16,4 @@ pub mod Machines
 pub mod Legal
 pub mod Safe
 pub mod Tiled
+pub mod Requests

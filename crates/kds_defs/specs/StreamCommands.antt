@@ -70,15 +70,19 @@ put_many log c by s items =
     refuse refusal.Spent if nat_lt last_number (next_number log s + length items) else
     Accepted (put_lines log c by s (next_number log s) items) (reply.PutMany (put_places log s (next_number log s) items))
 
--- SplitShard, in a live stream
-abbrev pub split : Journal → ℕ → ℕ → ℕ → ℕ → ℕ → Decision
-split log c by s sh at =
+-- SplitShard, in a live stream, where `full` tells that no further shard may be open
+abbrev pub split_where : Bool → Journal → ℕ → ℕ → ℕ → ℕ → ℕ → Decision
+split_where full log c by s sh at =
     refuse refusal.NoShard if not (is_listed log c s sh) else
     refuse refusal.ShardClosed if not (is_open_at (shard_at log s sh)) else
     refuse refusal.BadSplit if not (is_inside (range_of (shard_at log s sh)) at) else
-    refuse refusal.Full if nat_le OPEN_SHARDS (open_count log) else
+    refuse refusal.Full if full else
     refuse refusal.Spent if nat_lt last_number (length (shards log s) + 1) || next_number log s == last_number else
     Accepted (plain_line c by (entry.Split s sh at (next_number log s) (length (shards log s)) (length (shards log s) + 1)) ∷ []) reply.Done
+
+-- SplitShard, in a live stream
+abbrev pub split : Journal → ℕ → ℕ → ℕ → ℕ → ℕ → Decision
+split log c by s sh at = split_where (nat_le OPEN_SHARDS (open_count log)) log c by s sh at
 
 -- MergeShards, in a live stream
 abbrev pub merge : Journal → ℕ → ℕ → ℕ → ℕ → ℕ → Decision

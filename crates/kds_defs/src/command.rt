@@ -1,9 +1,11 @@
 //! What can be asked of the machine.
-ghost use Rattle.std.specs.Prelude.{◌≡◌, IfOk};
+ghost use Rattle.std.specs.Prelude.{◌≡◌};
+ghost use Rattle.kds_defs.specs.Kinds.{is_change, is_service};
+ghost use Rattle.kds_defs.specs.Requests.{request_turn};
 
+use crate::limits::API_ACTOR;
 use crate::reply::{Iter, Page};
-use kds_base::{Items, Memory, Moment, Name, Octets, Seq, ShardNo, ShardRef, TenureNo, WorkerNo};
-use std::alloc::Global;
+use kds_base::{Items, Moment, Name, Octets, Seq, ShardNo, ShardRef, TenureNo, WorkerNo};
 
 /// One event: who acts, when, and what is asked.
 #[derive(Drop)]
@@ -166,197 +168,52 @@ pub struct NewItem {
     pub payload: Octets,
 }
 
-impl NewItem {
-    /// An equal item.
-    pub fn copy(&self, alloc: Global) -> Result<NewItem, Memory>
-        ensures { IfOk result (λ i. i ≡ self.now) }
-    {
-        let key = self.key.copy(alloc)?;
-        let payload = self.payload.copy(alloc)?;
-        Ok(NewItem {
-            key,
-            hash: self.hash,
-            payload,
-        })
-    }
-}
-
-/// Equal items, in their order.
-fn copy_items(alloc: Global, items: &[NewItem]) -> Result<Items<NewItem>, Memory>
-    ensures { IfOk result (λ c. c ≡ items.now) }
-{
-    let mut copies = Items::new(alloc);
-    for item in items {
-        let copy = item.copy(alloc)?;
-        copies.push(copy)?;
-    }
-    Ok(copies)
-}
-
-/// An equal name, where there is one.
-fn copy_name(alloc: Global, name: &Option<Name>) -> Result<Option<Name>, Memory>
-    ensures { IfOk result (λ c. c ≡ name.now) }
-{
-    match name {
-        Some(name) => {
-            let copy = name.copy(alloc)?;
-            Ok(Some(copy))
-        }
-        None => Ok(None),
-    }
-}
-
 impl Command {
-    /// An equal command.
-    pub fn copy(&self, alloc: Global) -> Result<Command, Memory>
-        ensures { IfOk result (λ c. c ≡ self.now) }
+    /// Whether it asks the stream service, and not the leases.
+    pub fn is_service(&self) -> bool
+        ensures { result ≡ is_service self.now }
     {
-        match self {
-            Command::Create { name, shards } => {
-                let name = name.copy(alloc)?;
-                Ok(Command::Create {
-                    name,
-                    shards: *shards,
-                })
-            }
-            Command::Delete { name } => {
-                let name = name.copy(alloc)?;
-                Ok(Command::Delete { name })
-            }
-            Command::Streams { after, limit } => {
-                let after = copy_name(alloc, after)?;
-                Ok(Command::Streams {
-                    after,
-                    limit: *limit,
-                })
-            }
-            Command::Describe { name, after, limit } => {
-                let name = name.copy(alloc)?;
-                Ok(Command::Describe {
-                    name,
-                    after: *after,
-                    limit: *limit,
-                })
-            }
-            Command::Summary { name } => {
-                let name = name.copy(alloc)?;
-                Ok(Command::Summary { name })
-            }
-            Command::PutMany { name, items } => {
-                let name = name.copy(alloc)?;
-                let items = copy_items(alloc, items.as_slice())?;
-                Ok(Command::PutMany { name, items })
-            }
-            Command::Keep { name, hours, raise } => {
-                let name = name.copy(alloc)?;
-                Ok(Command::Keep {
-                    name,
-                    hours: *hours,
-                    raise: *raise,
-                })
-            }
-            Command::Put { name, item } => {
-                let name = name.copy(alloc)?;
-                let item = item.copy(alloc)?;
-                Ok(Command::Put { name, item })
-            }
-            Command::GetIterator { name, shard, from } => {
-                let name = name.copy(alloc)?;
-                Ok(Command::GetIterator {
-                    name,
-                    shard: *shard,
-                    from: *from,
-                })
-            }
-            Command::Records { iter, limit } => Ok(Command::Records {
-                iter: *iter,
-                limit: *limit,
-            }),
-            Command::Split { name, shard, at } => {
-                let name = name.copy(alloc)?;
-                Ok(Command::Split {
-                    name,
-                    shard: *shard,
-                    at: *at,
-                })
-            }
-            Command::Merge { name, shard, other } => {
-                let name = name.copy(alloc)?;
-                Ok(Command::Merge {
-                    name,
-                    shard: *shard,
-                    other: *other,
-                })
-            }
-            Command::Shards { name, after, limit } => {
-                let name = name.copy(alloc)?;
-                Ok(Command::Shards {
-                    name,
-                    after: *after,
-                    limit: *limit,
-                })
-            }
-            Command::More { page, limit } => Ok(Command::More {
-                page: *page,
-                limit: *limit,
-            }),
-            Command::Survey => Ok(Command::Survey),
-            Command::MakeLease { key } => Ok(Command::MakeLease { key: *key }),
-            Command::Take {
-                key,
-                counter,
-                owner,
-            } => Ok(Command::Take {
-                key: *key,
-                counter: *counter,
-                owner: *owner,
-            }),
-            Command::Renew { tenure, counter } => Ok(Command::Renew {
-                tenure: *tenure,
-                counter: *counter,
-            }),
-            Command::Free { tenure, counter } => Ok(Command::Free {
-                tenure: *tenure,
-                counter: *counter,
-            }),
-            Command::OpenShard { tenure } => Ok(Command::OpenShard { tenure: *tenure }),
-            Command::Read {
-                tenure,
-                position,
-                limit,
-            } => Ok(Command::Read {
-                tenure: *tenure,
-                position: *position,
-                limit: *limit,
-            }),
-            Command::Give { tenure } => Ok(Command::Give { tenure: *tenure }),
-            Command::Mark {
-                tenure,
-                counter,
-                to,
-            } => Ok(Command::Mark {
-                tenure: *tenure,
-                counter: *counter,
-                to: *to,
-            }),
-            Command::CutLease { key, counter } => Ok(Command::CutLease {
-                key: *key,
-                counter: *counter,
-            }),
-        }
+        !matches!(
+            self,
+            Command::Survey
+                | Command::MakeLease { .. }
+                | Command::Take { .. }
+                | Command::Renew { .. }
+                | Command::Free { .. }
+                | Command::OpenShard { .. }
+                | Command::Read { .. }
+                | Command::Give { .. }
+                | Command::Mark { .. }
+                | Command::CutLease { .. }
+        )
+    }
+
+    /// Whether it changes streams, shards or records.
+    pub fn is_change(&self) -> bool
+        ensures { result ≡ is_change self.now }
+    {
+        matches!(
+            self,
+            Command::Create { .. }
+                | Command::Delete { .. }
+                | Command::Put { .. }
+                | Command::PutMany { .. }
+                | Command::Split { .. }
+                | Command::Merge { .. }
+                | Command::Keep { .. }
+        )
     }
 }
 
 impl Turn {
-    /// An equal turn.
-    pub fn copy(&self, alloc: Global) -> Result<Turn, Memory>
-        ensures { IfOk result (λ t. t ≡ self.now) }
+    /// The turn of a request to the service at this moment.
+    pub fn request(at: Moment, what: Command) -> Turn
+        ensures { result ≡ request_turn at what }
     {
-        let what = self.what.copy(alloc)?;
-        Ok(Turn {
-            by: self.by,
-            at: self.at,
+        Turn {
+            by: API_ACTOR,
+            at,
             what,
-        })
+        }
     }
 }

@@ -3,8 +3,10 @@
 #![tactic(auto)]
 
 pub mod command;
+mod copy;
 pub mod entry;
 mod laws;
+mod limit_laws;
 pub mod limits;
 pub mod machine;
 pub mod reply;
@@ -12,5 +14,6 @@ pub mod reply;
 pub use command::{Command, NewItem, Start, Target, Turn};
 pub use entry::Entry;
 pub use laws::{lease_answers, service_answers};
+pub use limit_laws::{lease_limits, request_limits, schedule_limits, service_limits};
 pub use machine::{Answer, Machine};
 pub use reply::{About, Iter, Page, Place, Refusal, Reply, Row, Shard, Stored};

@@ -49,6 +49,32 @@ pub const MOST: u32 = 10_000;
 /// The reads that a tenure may have that aren't given.
 pub const PENDING_READS: u64 = 8;
 
+/// The most records that GetRecords gives where it has no Limit (Kinesis API Reference, GetRecords, Limit).
+pub const RECORDS_LIMIT: u32 = 10_000;
+
+/// The most shards that ListShards gives where it has no MaxResults
+/// (Kinesis API Reference, ListShards, MaxResults).
+pub const SHARDS_LIMIT: u32 = 1_000;
+
+/// The most shards that DescribeStream gives where it has no Limit
+/// (Kinesis API Reference, DescribeStream, Limit).
+pub const DESCRIBED_LIMIT: u32 = 100;
+
+/// The most names that ListStreams gives where it has no Limit (Kinesis API Reference, ListStreams, Limit).
+pub const NAMES_LIMIT: u32 = 100;
+
+/// The greatest moment that a request may name, in seconds (Kinesis API Reference, GetShardIterator, Timestamp).
+pub const MOST_SECONDS: u64 = 4_611_686_018_427_387;
+
+/// The actor of a request to the service.
+pub const API_ACTOR: u32 = 0;
+
+/// The greatest actor of a raw line of a schedule.
+pub const MOST_ACTOR: u32 = 999;
+
+/// The most characters of an operation's name in a schedule.
+pub const OPERATION_BYTES: usize = 64;
+
 /// The bytes that a line of a schedule may have before its line feed.
 pub const LINE_BYTES: u64 = 8_388_608;
 

@@ -1,5 +1,5 @@
 use Rattle.std.proofs.Common.{◌≡◌, take}
-use Rattle.kds_defs.proofs.command.copy_items.Given as goal
+use Rattle.kds_defs.proofs.copy.copy_items.Given as goal
 
 -- the copies so far are the items so far
 abbrev pub invariant-loop-item : goal.invariant-loop-item
