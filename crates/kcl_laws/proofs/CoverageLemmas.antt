@@ -1,6 +1,6 @@
 -- Each record at or below a checkpoint was delivered or is trimmed.
 use Rattle.std.proofs.Common.{◌≡◌, ℕ, zero, suc, ◌+◌, ◌-◌, ◌<◌, ◌≤◌, Bool, true, false, List, [], ◌∷◌, ◌++◌, length, take, Option, Some, None, refl, sym, ap, subst, ◌∙◌, arith, inl, inr, length-append}
-use Rattle.std.specs.Prelude.{◌==◌, ◌||◌, ◌⊎◌, not, nat_lt, nat_le}
+use Rattle.std.specs.Prelude.{◌==◌, ◌||◌, ◌⊎◌, not, nat_le}
 use Rattle.std.specs.List.{AllByRecursion}
 use Rattle.std.proofs.lemmas.Bool.Decides.{nat_tests}
 use Rattle.kds_base.specs.declared.lease_key.Checkpoint.{Checkpoint}
@@ -20,7 +20,7 @@ use Rattle.kds_defs.specs.Legal.{told, IsLegal, last_clock}
 use Rattle.kds_defs.specs.Listings.{is_closed_at, ends_at}
 use Rattle.kds_defs.specs.Records.{Logged, records, next_number, batch, numbers_of, place_after}
 use Rattle.kds_defs.specs.Safe.{IsAmong, IsRead, IsSettled, SettledBelow, IsCovered, all_numbers, RiseFrom, AreCovered}
-use Rattle.kds_defs.specs.Shards.{ShardState, Closing, shard_at, is_open, is_closed_below, is_listed_state}
+use Rattle.kds_defs.specs.Shards.{ShardState, shard_at, is_open, is_closed_below, is_listed_state}
 use Rattle.kds_defs.specs.Streams.{was_made, is_live, is_trimmed, trim_floor}
 use Rattle.kcl_laws.proofs.Batches.{all_map, all_both, all_push, RecordsStep, SameRecords, NewRecord, records_step, RisesTo, rises_append, rises_from, IsTaken, IsBatch, batch_is, end_is}
 use Rattle.kds_defs.proofs.Decisions.{passes, found, holds_so}

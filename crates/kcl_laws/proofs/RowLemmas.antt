@@ -1,19 +1,19 @@
 -- What a row reads is what the lines of the journal tell.
 use Rattle.std.proofs.Common.{◌≡◌, ℕ, ◌+◌, Bool, true, false, List, [], ◌∷◌, length, Option, Some, None, refl, sym, ap, subst, ◌∙◌, arith}
-use Rattle.std.specs.Prelude.{cond, not, if◌then◌else◌}
+use Rattle.std.specs.Prelude.{cond, if◌then◌else◌}
 use Rattle.std.specs.Option.{option_map}
-use Rattle.std.specs.List.{filter, find}
+use Rattle.std.specs.List.{find}
 use Rattle.kds_base.specs.declared.lease_key.ShardRef.{ShardRef}
 use Rattle.kds_base.specs.declared.lease_key.Checkpoint.TheVariants.{TrimHorizon}
 use Rattle.kds_defs.specs.declared.command.Target.{Target}
 use Rattle.kds_defs.specs.declared.entry.Entry.{Entry}
 use Rattle.kds_defs.specs.declared.entry.Entry.TheVariants as entry
 use Rattle.kds_defs.specs.declared.reply.Row.{Row}
-use Rattle.kds_defs.specs.Journal.{Line, Journal}
+use Rattle.kds_defs.specs.Journal.{Journal}
 use Rattle.kds_defs.specs.Leases.{new_row, taken_count, taken_row, renewed_row, freed_row, marked_row, checkpoint_at, key_of, is_key, is_other, row, row_after}
 use Rattle.kds_defs.specs.Keys.{same_key}
 use Rattle.kds_defs.specs.Shards.{ShardState, shard_at}
-use Rattle.kcl_laws.specs.RowLines.{Said, said, is_of, row_lines, newer, makes_or_removes, last_bound, since_bound, making, last_hold, holder, held_tenure, last_mark, last_checkpoint, marks, owner_in, takes_from_another, switches_in, start_of, parent_of, adjacent_of, IsToldRow}
+use Rattle.kcl_laws.specs.RowLines.{Said, is_of, row_lines, newer, makes_or_removes, last_bound, since_bound, making, last_hold, holder, held_tenure, last_mark, last_checkpoint, owner_in, switches_in, start_of, parent_of, adjacent_of, IsToldRow}
 
 -- the row that these lines tell, the row having been made after the lines before it
 abbrev told_row : ShardRef → List Said → Journal → Row

@@ -1,7 +1,10 @@
 -- The commands that only the tenure of a row may give.
-use Rattle.std.specs.Prelude.{ℕ, Option, Some, None}
+use Rattle.std.specs.Prelude.{ℕ, ◌≡◌, Option, Some, None}
 use Rattle.kds_defs.specs.declared.command.Command.{Command}
 use Rattle.kds_defs.specs.declared.command.Command.TheVariants as command
+use Rattle.kds_defs.specs.declared.command.Turn.{Turn}
+use Rattle.kds_defs.specs.Journal.{Journal}
+use Rattle.kds_defs.specs.Leases.{TenureState, row, tenure, tenure_in}
 
 -- the tenure by which a command opens a shard, or writes a row
 abbrev pub acting : Command → Option ℕ
@@ -10,3 +13,12 @@ acting (command.Free t counter) = Some t
 acting (command.OpenShard t) = Some t
 acting (command.Mark t counter to) = Some t
 acting _ = None
+
+-- the turn acts by this tenure, which is there
+pub record ActsBy (log : Journal) (turn : Turn) (t : ℕ) (T : TenureState) : Type 0 where
+  pub asks : acting turn.what ≡ Some t
+  pub begun : tenure log t ≡ Some T
+
+-- the tenure of the row of this tenure's key
+abbrev pub row_tenure : Journal → TenureState → ℕ
+row_tenure log T = tenure_in (row log T.key)

@@ -7,7 +7,7 @@ use Rattle.kds_base.specs.declared.lease_key.Checkpoint.TheVariants.{TrimHorizon
 use Rattle.kds_defs.specs.declared.entry.Entry.{Entry}
 use Rattle.kds_defs.specs.declared.entry.Entry.TheVariants as entry
 use Rattle.kds_defs.specs.declared.reply.Row.{Row}
-use Rattle.kds_defs.specs.Journal.{Line, Journal}
+use Rattle.kds_defs.specs.Journal.{Journal}
 use Rattle.kds_defs.specs.Keys.{same_key}
 use Rattle.kds_defs.specs.Leases.{taken_count, key_of, is_key, is_other, checkpoint_at, row}
 use Rattle.kds_defs.specs.Shards.{ShardState, shard_at}

@@ -2,21 +2,19 @@
 #![tactic(auto)]
 
 ghost use Rattle.std.specs.Prelude.{ℕ, List, [], ◌∷◌, ◌≤◌, ◌≡◌, Option, Some, None, Err};
-ghost use Rattle.kcl_laws.specs.Acting.{acting};
+ghost use Rattle.kcl_laws.specs.Acting.{acting, row_tenure, ActsBy};
 ghost use Rattle.kcl_laws.specs.RowLines.{IsToldRow, last_bound, making};
+ghost use Rattle.kcl_laws.specs.TenureLines.{IsToldTenure, Told, taking};
 ghost use Rattle.kds_base.specs.declared.lease_key.ShardRef.{ShardRef};
 ghost use Rattle.kds_defs.specs.declared.command.Turn.{Turn};
 ghost use Rattle.kds_defs.specs.declared.reply.Refusal.{Refusal};
+ghost use Rattle.kds_defs.specs.declared.reply.Refusal.TheVariants as refusal;
 ghost use Rattle.kds_defs.specs.Histories.{journal, clock, answer};
 ghost use Rattle.kds_defs.specs.Journal.{Line, Journal};
 ghost use Rattle.kds_defs.specs.Lawful.{IsHistory};
-ghost use Rattle.kds_defs.specs.Leases.{row};
+ghost use Rattle.kds_defs.specs.Leases.{TenureState, row, tenure};
 ghost use Rattle.kds_defs.specs.Legal.{IsGood, IsLegal, IsReached};
 ghost use Rattle.kds_defs.specs.Safe.{HasPartitions, ArePlaced, AreCovered, AreInLine, HoldsRow, AreFenced, IsSafe};
-
-mod limits;
-
-pub use limits::{input_limits, lease_limits, service_limits};
 
 /// The open shards of each stream partition the keys.
 pub fn partition()
@@ -38,11 +36,18 @@ pub fn lineage()
     ensures { (h : List Turn) → IsHistory h → AreInLine (journal h) }
 {}
 
-/// Each write of a row is by its tenure's actor, while the tenure is the row's: what another tenure asks for
-/// adds no line.
+/// Each write of a row is by its tenure's actor, while the tenure is the row's. A mark, a renewal, a freeing or an
+/// opening by a tenure that isn't the row's is refused: with the row's tenure for its own actor, as not theirs for any
+/// other; and it adds no line.
 pub fn fence()
     ensures fenced { (h : List Turn) → IsHistory h → AreFenced (journal h) }
-    ensures stale { (h : List Turn) (turn : Turn) (t : ℕ) → acting turn.what ≡ Some t → (HoldsRow (journal h) turn.by t → ⊥) → journal (turn ∷ h) ≡ journal h }
+    ensures stale { (h : List Turn) (turn : Turn) (t : ℕ) → acting turn.what ≡ Some t
+        → (HoldsRow (journal h) turn.by t → ⊥) → journal (turn ∷ h) ≡ journal h }
+    ensures lost { (h : List Turn) (turn : Turn) (t : ℕ) (T : TenureState) → ActsBy (journal h) turn t T
+        → T.by ≡ turn.by → (row_tenure (journal h) T ≡ t → ⊥)
+        → answer h turn ≡ Err (refusal.Lost (row_tenure (journal h) T)) }
+    ensures not_yours { (h : List Turn) (turn : Turn) (t : ℕ) (T : TenureState) → ActsBy (journal h) turn t T
+        → (T.by ≡ turn.by → ⊥) → answer h turn ≡ Err refusal.NotYours }
 {}
 
 /// The invariant behind these laws: no line meets it, each good line and each later clock keeps it, each
@@ -64,4 +69,12 @@ pub fn step()
 pub fn rows()
     ensures removed { (log : Journal) (key : ShardRef) → making (last_bound log key) ≡ None → row log key ≡ None }
     ensures made { (log : Journal) (key : ShardRef) (before : Journal) → making (last_bound log key) ≡ Some before → IsToldRow log key before }
+{}
+
+/// What a tenure is, told by the lines of any journal. The n-th taking is tenure n: its actor and its key are those of
+/// that line, and it begins at the checkpoint that the row had before. Since then: it is opened where an opening
+/// follows, its reads are those that follow, in their order, and as many of the first of them are given as givings follow.
+pub fn tenures()
+    ensures never { (log : Journal) (t : ℕ) → taking log t ≡ None → tenure log t ≡ None }
+    ensures begun { (log : Journal) (t : ℕ) (begun : Told) → taking log t ≡ Some begun → IsToldTenure log t begun }
 {}

@@ -1,0 +1,97 @@
+-- What a tenure is is what the lines of the journal tell.
+use Rattle.std.proofs.Common.{◌≡◌, ℕ, ◌+◌, Bool, true, false, List, [], ◌∷◌, ◌++◌, length, Option, Some, None, refl, ap, ◌∙◌, arith}
+use Rattle.std.specs.Prelude.{◌==◌, ◌||◌, cond, if◌then◌else◌}
+use Rattle.std.specs.Option.{option_map}
+use Rattle.std.specs.List.{find}
+use Rattle.kds_base.specs.declared.lease_key.ShardRef.{ShardRef}
+use Rattle.kds_defs.specs.declared.entry.Entry.{Entry}
+use Rattle.kds_defs.specs.declared.entry.Entry.TheVariants as entry
+use Rattle.kds_defs.specs.Journal.{Line, Journal}
+use Rattle.kds_defs.specs.Leases.{TenureState, checkpoint_in, new_tenure, row, taken_count, tenure, tenure_after, with_given, with_opened, with_read}
+use Rattle.kcl_laws.specs.TenureLines.{Told, all_told, begins, givings, newer_than, reads_told, since_taking, taken_key, taking, was_opened, IsToldTenure}
+
+-- the tenure that these lines tell, which began by this line
+abbrev told_by : ℕ → List Told → Told → TenureState
+told_by t ls begun =
+    record {
+      by = begun.by;
+      key = taken_key begun.what;
+      start = checkpoint_in (row begun.before (taken_key begun.what));
+      opened = was_opened t ls;
+      reads = reads_told t ls;
+      given = length (givings t ls);
+    }
+
+abbrev told : ℕ → List Told → Option TenureState
+told t ls = option_map (told_by t (newer_than t ls)) (find (begins t) ls)
+
+abbrev here : ℕ → Journal → Entry → Told
+here by log e = record { by = by; what = e; before = log }
+
+-- ---- one line more, where it is the tenure's and where it isn't
+
+began : (t by : ℕ) (log : Journal) (k : ShardRef) (n c owner : ℕ) (ls : List Told) (b : Bool) (before : Option TenureState) → before ≡ told t ls
+    → (if b then Some (new_tenure by k (checkpoint_in (row log k))) else before)
+    ≡ option_map (told_by t (if b then [] else here by log (entry.Taken k n c owner) ∷ newer_than t ls)) (cond b (Some (here by log (entry.Taken k n c owner))) (find (begins t) ls))
+began t by log k n c owner ls true before is = refl
+began t by log k n c owner ls false before is = is
+
+opened : (t : ℕ) (ls : List Told) (b : Bool) (o : Option Told)
+    → (if b then option_map with_opened (option_map (told_by t ls) o) else option_map (told_by t ls) o)
+    ≡ option_map (λ x. record (told_by t ls x) { opened = b || was_opened t ls }) o
+opened t ls true None = refl
+opened t ls false None = refl
+opened t ls true (Some x) = refl
+opened t ls false (Some x) = refl
+
+read : (t : ℕ) (ls : List Told) (numbers : List ℕ) (ended : Bool) (b : Bool) (o : Option Told)
+    → (if b then option_map (with_read numbers ended) (option_map (told_by t ls) o) else option_map (told_by t ls) o)
+    ≡ option_map (λ x. record (told_by t ls x) { reads = if b then reads_told t ls ++ (record { numbers = numbers; ended = ended } ∷ []) else reads_told t ls }) o
+read t ls numbers ended true None = refl
+read t ls numbers ended false None = refl
+read t ls numbers ended true (Some x) = refl
+read t ls numbers ended false (Some x) = refl
+
+gave : (t : ℕ) (ls : List Told) (l : Told) (b : Bool) (o : Option Told)
+    → (if b then option_map with_given (option_map (told_by t ls) o) else option_map (told_by t ls) o)
+    ≡ option_map (λ x. record (told_by t ls x) { given = length (cond b (l ∷ givings t ls) (givings t ls)) }) o
+gave t ls l true None = refl
+gave t ls l false None = refl
+gave t ls l true (Some x) =
+    let one : length (givings t ls) + 1 ≡ length (l ∷ givings t ls) = omega arith in
+    ap (λ n. Some (record (told_by t ls x) { given = n })) one
+gave t ls l false (Some x) = refl
+
+told_line : (t by : ℕ) (log : Journal) (line : Line) (e : Entry) (ls : List Told) → line.by ≡ by → tenure log t ≡ told t ls → tenure_after log line e t (tenure log t) ≡ told t (here by log e ∷ ls)
+told_line t by log line (entry.Taken k n c owner) ls same is =
+    ap (λ w. if t == taken_count log + 1 then Some (new_tenure w k (checkpoint_in (row log k))) else tenure log t) same
+    ∙ began t by log k n c owner ls (t == taken_count log + 1) (tenure log t) is
+told_line t by log line (entry.Opened u) ls same is =
+    ap (λ o. if u == t then option_map with_opened o else o) is ∙ opened t (newer_than t ls) (u == t) (find (begins t) ls)
+told_line t by log line (entry.Read u limit ended numbers) ls same is =
+    ap (λ o. if u == t then option_map (with_read numbers ended) o else o) is ∙ read t (newer_than t ls) numbers ended (u == t) (find (begins t) ls)
+told_line t by log line (entry.Given u) ls same is =
+    ap (λ o. if u == t then option_map with_given o else o) is ∙ gave t (newer_than t ls) (here by log (entry.Given u)) (u == t) (find (begins t) ls)
+told_line t by log line _ ls same is = is
+
+-- ---- all lines
+
+all : (log : Journal) (t : ℕ) → tenure log t ≡ told t (all_told log)
+all [] t = refl
+all (line ∷ log) t = told_line t line.by log line line.what (all_told log) refl (all log t)
+
+pub never : (log : Journal) (t : ℕ) → taking log t ≡ None → tenure log t ≡ None
+never log t is = all log t ∙ ap (λ o. option_map (told_by t (since_taking log t)) o) is
+
+pub begun : (log : Journal) (t : ℕ) (l : Told) → taking log t ≡ Some l → IsToldTenure log t l
+begun log t l is =
+    record {
+      told = told_by t (since_taking log t) l;
+      there = all log t ∙ ap (λ o. option_map (told_by t (since_taking log t)) o) is;
+      by = refl;
+      key = refl;
+      start = refl;
+      opened = refl;
+      reads = refl;
+      given = refl;
+    }

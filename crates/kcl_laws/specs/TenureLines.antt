@@ -1,0 +1,89 @@
+-- What a tenure is, told by the lines of the journal that speak of it (Kinesis Client Library, leases).
+use Rattle.std.specs.Prelude.{ℕ, ◌+◌, ◌≡◌, Bool, false, ◌==◌, if◌then◌else◌, List, [], ◌∷◌, ◌++◌, length, Option, Some}
+use Rattle.std.specs.List.{filter, find, list_any}
+use Rattle.kds_base.specs.declared.lease_key.ShardRef.{ShardRef}
+use Rattle.kds_defs.specs.declared.entry.Entry.{Entry}
+use Rattle.kds_defs.specs.declared.entry.Entry.TheVariants as entry
+use Rattle.kds_defs.specs.Journal.{Journal}
+use Rattle.kds_defs.specs.Keys.{ref}
+use Rattle.kds_defs.specs.Leases.{ReadDone, TenureState, checkpoint_in, row, taken_count, tenure}
+
+-- who wrote a line, what it says, and the lines before it
+pub record Told : Type 0 where
+  pub by : ℕ
+  pub what : Entry
+  pub before : Journal
+
+-- every line of the journal, the newest first
+abbrev pub all_told : Journal → List Told
+all_told [] = []
+all_told (line ∷ log) = record { by = line.by; what = line.what; before = log } ∷ all_told log
+
+-- ---- its taking
+
+-- the line takes a row, as the t-th that does
+abbrev pub is_taking : ℕ → Journal → Entry → Bool
+is_taking t before (entry.Taken key tenure counter owner) = t == taken_count before + 1
+is_taking t before _ = false
+
+abbrev pub begins : ℕ → Told → Bool
+begins t l = is_taking t l.before l.what
+
+-- the line by which the tenure began
+abbrev pub taking : Journal → ℕ → Option Told
+taking log t = find (begins t) (all_told log)
+
+-- the lines newer than that
+abbrev pub newer_than : ℕ → List Told → List Told
+newer_than t [] = []
+newer_than t (l ∷ ls) = if begins t l then [] else l ∷ newer_than t ls
+
+abbrev pub since_taking : Journal → ℕ → List Told
+since_taking log t = newer_than t (all_told log)
+
+-- the key that a taking takes
+abbrev pub taken_key : Entry → ShardRef
+taken_key (entry.Taken key tenure counter owner) = key
+taken_key _ = ref 0 0
+
+-- ---- what followed
+
+abbrev pub is_opening : ℕ → Entry → Bool
+is_opening t (entry.Opened tenure) = tenure == t
+is_opening t _ = false
+
+-- an opening of the tenure stands among the lines
+abbrev pub was_opened : ℕ → List Told → Bool
+was_opened t ls = list_any (λ l. is_opening t l.what) ls
+
+abbrev pub is_giving : ℕ → Entry → Bool
+is_giving t (entry.Given tenure) = tenure == t
+is_giving t _ = false
+
+-- the givings of the tenure among the lines
+abbrev pub givings : ℕ → List Told → List Told
+givings t ls = filter (λ l. is_giving t l.what) ls
+
+-- the reads so far and the one that a line tells, where it is the tenure's
+abbrev pub with_read_told : ℕ → Entry → List ReadDone → List ReadDone
+with_read_told t (entry.Read tenure limit ended numbers) older =
+    if tenure == t then older ++ (record { numbers = numbers; ended = ended } ∷ []) else older
+with_read_told t _ older = older
+
+-- the reads of the tenure among the lines, in their order
+abbrev pub reads_told : ℕ → List Told → List ReadDone
+reads_told t [] = []
+reads_told t (l ∷ ls) = with_read_told t l.what (reads_told t ls)
+
+-- ---- the tenure
+
+-- this tenure is told by its taking and by the lines since
+pub record IsToldTenure (log : Journal) (t : ℕ) (begun : Told) : Type 0 where
+  pub told : TenureState
+  pub there : tenure log t ≡ Some told
+  pub by : told.by ≡ begun.by
+  pub key : told.key ≡ taken_key begun.what
+  pub start : told.start ≡ checkpoint_in (row begun.before told.key)
+  pub opened : told.opened ≡ was_opened t (since_taking log t)
+  pub reads : told.reads ≡ reads_told t (since_taking log t)
+  pub given : told.given ≡ length (givings t (since_taking log t))
