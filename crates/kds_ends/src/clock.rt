@@ -1,4 +1,5 @@
-ghost use Rattle.std.specs.Prelude.{◌≡◌, ◌∷◌, [], ◌<◌, List, ℕ, None, Some, length};
+//! What tells the time.
+ghost use Rattle.std.specs.Prelude.{◌≡◌, ◌∷◌, [], ◌<◌, List, ℕ, None, Some, length, unwrap_or};
 ghost use Rattle.std.specs.declared.option.Option.{Option};
 ghost use Rattle.kds_ends.specs.Moments.{Gives, current, later};
 
@@ -76,8 +77,17 @@ fn read_clock<R: Timer>(rt: &R) -> Option<Moment> {
     Moment::new(u64::try_from(since.as_millis()).ok()?)
 }
 
+/// What a clock answers that read this moment: where it read none, its last answer again.
+fn moment_after(last: Moment, read: Option<Moment>) -> Moment
+    ensures { result ≡ unwrap_or read last }
+{
+    read.unwrap_or(last)
+}
+
 impl<R: Timer> SystemClock<R> {
-    pub fn new(rt: R) -> SystemClock<R> {
+    pub fn new(rt: R) -> SystemClock<R>
+        ensures { result.last ≡ 0 }
+    {
         SystemClock {
             rt,
             last: Moment::start(),
@@ -88,10 +98,11 @@ impl<R: Timer> SystemClock<R> {
 impl<R: Timer> Clock for SystemClock<R> {
     ghost moments = { λ _. None };
 
-    fn now(&mut self) -> Moment {
-        if let Some(moment) = read_clock(&self.rt) {
-            self.last = moment;
-        }
+    fn now(&mut self) -> Moment
+        ensures last { result ≡ self.new.last }
+        ensures gives { Gives None (result ∷ []) None }
+    {
+        self.last = moment_after(self.last, read_clock(&self.rt));
         self.last
     }
 }

@@ -1,3 +1,4 @@
+//! Bytes in memory, as a source.
 ghost use Rattle.std.specs.Prelude.{◌≡◌, ◌≤◌, ◌<◌, ◌↔◌, ◌+◌, ◌^◌, List, ℕ, length, take, drop, Some, Contains, IsErr, IfOk, min};
 ghost use Rattle.std.specs.Io.{ReadsAtMost};
 ghost use Rattle.std.specs.Io.KnownBytes.{ReadConsumes};
@@ -30,7 +31,7 @@ impl Model for MemSource {
 }
 
 /// Copies a front of the bytes into the room, at most `step` of them.
-fn copy_front(bytes: &[u8], room: &mut [u8], step: usize) -> usize
+pub fn copy_front(bytes: &[u8], room: &mut [u8], step: usize) -> usize
     ensures count { result ≡ min (min (length bytes.now) (length room.old)) step }
     ensures copied { take result room.new ≡ take result bytes.now }
     ensures length { length room.new ≡ length room.old }

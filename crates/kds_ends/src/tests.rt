@@ -1,0 +1,92 @@
+//! What no clause says of the ends over the machine.
+use crate::{Door, Sink, Source, StdSink, StdSource, TcpDoor, write_all};
+use std::io;
+use std::io::{Read, Write};
+use std::net::{TcpListener, TcpStream};
+use std::test::Fail;
+
+/// A port that is free.
+fn free_port(rt: &HostRuntime) -> Result<u16, Fail> {
+    let listener = TcpListener::bind(rt, "127.0.0.1:0")?;
+    Ok(listener.local_addr()?.port())
+}
+
+/// Bytes go through a connection both ways, in one process.
+#[test]
+fn tcp(rt: HostRuntime) -> Result<(), Fail> {
+    let port = free_port(&rt)?;
+    let mut door = TcpDoor::new(rt);
+    assert!(rt; door.accept().is_err());
+    door.listen(port).ok().ok_or("listen")?;
+    let mut client = TcpStream::connect(&rt, ("127.0.0.1", port))?;
+    let (mut input, mut output) = door.accept().ok().ok_or("accept")?;
+    client.write_all(b"question")?;
+    let mut room = [0u8; 16];
+    let count = input.read(&mut room).ok().ok_or("read")?;
+    assert_eq!(rt; room[..count], *b"question".as_slice());
+    write_all(&mut output, b"answer").ok().ok_or("write")?;
+    let count = client.read(&mut room)?;
+    assert_eq!(rt; room[..count], *b"answer".as_slice());
+    drop(client);
+    assert_eq!(rt; input.read(&mut room).ok(), Some(0));
+    Ok(())
+}
+
+/// A reader that gives a byte, and fails from its second call on.
+#[derive(Drop)]
+struct FailingReader {
+    calls: u32,
+}
+
+impl Read for FailingReader {
+    fn read(&mut self, buf: &mut [u8]) -> io::Result<usize> {
+        self.calls = self.calls.saturating_add(1);
+        if self.calls > 1 || buf.is_empty() {
+            return Err(io::Error::from(io::ErrorKind::Other));
+        }
+        buf[0] = b'a';
+        Ok(1)
+    }
+}
+
+/// A reader that fails is no end of input.
+#[test]
+fn failing_reader(rt: HostRuntime) -> Result<(), Fail> {
+    let mut source = StdSource::new(FailingReader { calls: 0 });
+    let mut room = [0u8; 4];
+    assert_eq!(rt; source.read(&mut room).ok(), Some(1));
+    assert!(rt; source.read(&mut room).is_err());
+    assert!(rt; source.read(&mut room).is_err());
+    Ok(())
+}
+
+/// A writer that takes two bytes at its first call, none at its second, and fails at its third.
+#[derive(Drop)]
+struct FailingWriter {
+    calls: u32,
+}
+
+impl Write for FailingWriter {
+    fn write(&mut self, buf: &[u8]) -> io::Result<usize> {
+        self.calls = self.calls.saturating_add(1);
+        match self.calls {
+            1 => Ok(buf.len().min(2)),
+            2 => Ok(0),
+            _ => Err(io::Error::from(io::ErrorKind::Other)),
+        }
+    }
+
+    fn flush(&mut self) -> io::Result<()> {
+        Ok(())
+    }
+}
+
+/// A writer that takes nothing, or fails, has failed.
+#[test]
+fn failing_writer(rt: HostRuntime) -> Result<(), Fail> {
+    let mut sink = StdSink::new(FailingWriter { calls: 0 });
+    assert_eq!(rt; sink.write(b"abc").ok(), Some(2));
+    assert!(rt; sink.write(b"c").is_err());
+    assert!(rt; write_all(&mut sink, b"c").is_err());
+    Ok(())
+}
