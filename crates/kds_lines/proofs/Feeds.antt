@@ -1,0 +1,481 @@
+-- What stands after a line, and where it stopped.
+use Rattle.std.proofs.Common.{◌≡◌, ℕ, ◌+◌, List, [], ◌∷◌, ◌++◌, length, Bool, true, false, Option, Some, None, refl, sym, ap, ◌∙◌, subst, ◌<◌, ◌≤◌, ◌⊎◌, arith, inl, inr}
+use Rattle.std.proofs.lemmas.Grind.{common_steps}
+use Rattle.std.proofs.lemmas.List.{append_assoc, append-nil, length-append}
+use Rattle.std.specs.Io.KnownBytes.{Appends, Consumes, IsAtEnd, Keeps}
+use Rattle.std.specs.Option.{IfSome}
+use Rattle.std.specs.Prelude.{◌==◌, if◌then◌else◌, OnOk, OnErr, IfErr, Result, Ok, Err}
+use Rattle.kds_ends.specs.Causes.{AppendsFront}
+use Rattle.kds_defs.specs.declared.limits.TheConstants.{LINE_BYTES, INPUT_BYTES}
+use Rattle.kds_lines.specs.declared.outcome.Outcome.{Outcome}
+use Rattle.kds_lines.specs.declared.outcome.Outcome.TheVariants.{Whole, Unfinished, Stopped, TooLong, Read, Write, Memory}
+use Rattle.kds_lines.specs.declared.reading.Reading.{Reading}
+use Rattle.kds_lines.specs.Lines.{unfinished, too_long, is_over, lined, last_of, preceded_by, Fed, Begins, IsTooLong, NoFeed}
+use Rattle.kds_lines.specs.Writing.{Wrote, Loses}
+use Rattle.kds_lines.specs.Reading.{Stands, Stops, Halted, FedLines, Running, HaltedAfter, HoldStops, IsOwnStop, IsFeedStop, IsStop}
+use Rattle.kds_lines.specs.Taking.{Goes, Breaks}
+use Rattle.kds_lines.specs.Telling.{Because, Unwritten, Told}
+use Rattle.kds_lines.proofs.Pieces.{fed_nothing, line_fed, line_over, more_fed, more_over, at_end, lines_so_far, fed_begins, begins_more, too_long_more}
+
+-- ---- what is written
+
+appends_nothing : (held : Option (List ℕ)) → Appends held held []
+appends_nothing None = tt
+appends_nothing (Some xs) = sym (append-nil xs)
+
+appends_more : (a b c : Option (List ℕ)) (xs ys : List ℕ) → Appends a b xs → Appends b c ys → Appends a c (xs ++ ys)
+appends_more None b c xs ys h k = tt
+appends_more (Some us) None c xs ys h k = absurd h
+appends_more (Some us) (Some vs) None xs ys h k = absurd k
+appends_more (Some us) (Some vs) (Some ws) xs ys h k = k ∙ ap (λ z. z ++ ys) h ∙ append_assoc us xs ys
+
+-- what waited is written
+pub flushed : (start before now : Option (List ℕ)) (output waits missing : List ℕ) → Wrote start before output waits missing → Appends before now waits → Wrote start now output [] missing
+flushed start before now output waits missing w a = record {
+  front = w.front ++ waits;
+  parts = w.parts ∙ sym (append_assoc w.front waits missing);
+  written = appends_more start before now w.front waits w.written a;
+}
+
+-- a front of it is
+pub lost : (start before now : Option (List ℕ)) (output waits missing : List ℕ) → Wrote start before output waits missing → AppendsFront before now waits → Loses start now output
+lost start before now output waits missing w a = (
+  a.1 ++ missing,
+  record {
+    front = w.front ++ a.0;
+    parts = w.parts ∙ ap (λ z. w.front ++ (z ++ missing)) a.2 ∙ ap (λ z. w.front ++ z) (append_assoc a.0 a.1 missing) ∙ sym (append_assoc w.front a.0 (a.1 ++ missing));
+    written = appends_more start before now w.front a.0 w.written a.3;
+  },
+)
+
+pub flush_ok : {E : Type 0} (r : Result (Unit {0}) E) (before now : Option (List ℕ)) (piece waits : List ℕ) → piece ≡ waits → OnOk r (Appends before now piece)
+    → OnOk r ((start : Option (List ℕ)) (whole missing : List ℕ) → Wrote start before whole waits missing → Wrote start now whole [] missing)
+flush_ok (Ok x) before now piece waits e h = λ start whole missing w. flushed start before now whole waits missing w (subst (λ (z : List ℕ). Appends before now z) e h)
+flush_ok (Err x) before now piece waits e h = tt
+
+pub flush_err : {E : Type 0} (r : Result (Unit {0}) E) (before now : Option (List ℕ)) (piece waits : List ℕ) → piece ≡ waits → OnErr r (AppendsFront before now piece)
+    → OnErr r ((start : Option (List ℕ)) (whole missing : List ℕ) → Wrote start before whole waits missing → Loses start now whole)
+flush_err (Ok x) before now piece waits e h = tt
+flush_err (Err x) before now piece waits e h = λ start whole missing w. lost start before now whole waits missing w (subst (λ (z : List ℕ). AppendsFront before now z) e h)
+
+-- ---- the end of a line
+
+at_length : (len used : ℕ) (w : List ℕ) {b : Bool} → len ≡ length w → is_over len (used + len + 1) ≡ b → is_over (length w) (used + length w + 1) ≡ b
+at_length len used w {b} el h = subst (λ (z : ℕ). is_over z (used + z + 1) ≡ b) el h
+
+-- a line within the limits
+pub within_limits : (len used : ℕ) → is_over len (used + len + 1) ≡ false → (len ≤ LINE_BYTES) × (used + len + 1 ≤ INPUT_BYTES)
+within_limits len used h = (grind (arith, common_steps), grind (arith, common_steps))
+
+module _ (before took : List (List ℕ) → Type 0) (refuses : List (List ℕ) → List ℕ → Type 0) (output : List (List ℕ) → List ℕ) where
+  pub line_taken : (y a : List ℕ) (len : ℕ) (old new : Reading) (start now : Option (List ℕ)) → len ≡ length (old.held ++ a)
+      → (st : Stands before output y old start now) → NoFeed a → is_over len (old.used + len + 1) ≡ false
+      → ((lines : List (List ℕ)) → before lines → Goes took output lines (old.held ++ a) old.output new.output)
+      → new.held ≡ [] → new.used ≡ old.used + len + 1 → new.count ≡ old.count + 1
+      → Stands took output (y ++ (a ++ 10 ∷ [])) new start now
+  line_taken y a len old new start now el st n short goes eh eu ec =
+      let g = goes st.texts st.taken in
+      let fed = line_fed y a st.texts old.used old.held st.bytes n (at_length len old.used (old.held ++ a) el short) in
+      let used : new.used ≡ old.used + length (old.held ++ a) + 1 = eu ∙ ap (λ z. old.used + z + 1) el in
+      record {
+        texts = st.texts ++ (old.held ++ a) ∷ [];
+        bytes = rw (eh, used) fed;
+        count = ec ∙ ap (λ z. z + 1) st.count ∙ sym (length-append st.texts ((old.held ++ a) ∷ []));
+        taken = g.taken;
+        wrote = record {
+          front = st.wrote.front;
+          parts = g.grows ∙ ap (λ z. z ++ g.added) st.wrote.parts ∙ append_assoc st.wrote.front (old.output ++ []) g.added
+              ∙ ap (λ z. st.wrote.front ++ (z ++ g.added)) (append-nil old.output) ∙ ap (λ z. st.wrote.front ++ z) (sym g.wrote ∙ sym (append-nil new.output));
+          written = st.wrote.written;
+        };
+      }
+
+  -- a line stops it
+  pub line_stops : (o : Outcome) (y a : List ℕ) (ts : List (List ℕ)) (used : ℕ) (held waits : List ℕ) (start now : Option (List ℕ)) → Fed y ts used held → NoFeed a
+      → took ts → Stops o refuses (y ++ (a ++ 10 ∷ [])) ts → Unwritten o [] → Wrote start now (output ts) waits []
+      → Halted o took refuses output (y ++ (a ++ 10 ∷ [])) waits start now
+  line_stops o y a ts used held waits start now f n taken stops all w = record {
+    texts = ts;
+    begins = begins_more y (a ++ 10 ∷ []) ts (fed_begins y ts used held f);
+    taken = taken;
+    stops = stops;
+    missing = [];
+    wrote = w;
+    unwritten = all;
+  }
+
+  -- after its own line memory ran out
+  line_breaks : (y a held waits : List ℕ) (ts : List (List ℕ)) (used : ℕ) (start now : Option (List ℕ)) → Fed y ts used held → NoFeed a
+      → is_over (length (held ++ a)) (used + length (held ++ a) + 1) ≡ false → Wrote start now (output ts) waits []
+      → Breaks took output ts (held ++ a) → Halted Memory took refuses output (y ++ (a ++ 10 ∷ [])) waits start now
+  line_breaks y a held waits ts used start now f n short w (inl taken) = line_stops Memory y a ts used held waits start now f n taken tt tt w
+  line_breaks y a held waits ts used start now f n short w (inr more) = record {
+    texts = ts ++ (held ++ a) ∷ [];
+    begins = fed_begins _ _ _ _ (line_fed y a ts used held f n short);
+    taken = more.0;
+    stops = tt;
+    missing = more.1.0;
+    wrote = record {
+      front = w.front;
+      parts = more.1.1 ∙ ap (λ z. z ++ more.1.0) w.parts ∙ append_assoc w.front (waits ++ []) more.1.0 ∙ ap (λ z. w.front ++ (z ++ more.1.0)) (append-nil waits);
+      written = w.written;
+    };
+    unwritten = tt;
+  }
+
+  pub stands_over : (y a : List ℕ) (len : ℕ) (old : Reading) (start now : Option (List ℕ)) → len ≡ length (old.held ++ a)
+      → Stands took output y old start now → NoFeed a → is_over len (old.used + len + 1) ≡ true
+      → Halted TooLong took refuses output (y ++ (a ++ 10 ∷ [])) old.output start now
+  stands_over y a len old start now el st n over =
+      line_stops TooLong y a st.texts old.used old.held old.output start now st.bytes n st.taken
+      (line_over y a st.texts old.used old.held st.bytes n (at_length len old.used (old.held ++ a) el over)) refl st.wrote
+
+  pub stands_stops : (y a waits : List ℕ) (len : ℕ) (old : Reading) (start now : Option (List ℕ)) → len ≡ length (old.held ++ a)
+      → (st : Stands before output y old start now) → NoFeed a → is_over len (old.used + len + 1) ≡ false → waits ≡ old.output
+      → ((lines : List (List ℕ)) → before lines → took lines × refuses lines (old.held ++ a))
+      → Halted (Stopped (old.count + 1)) took refuses output (y ++ (a ++ 10 ∷ [])) waits start now
+  stands_stops y a waits len old start now el st n short same stops =
+      let s = stops st.texts st.taken in
+      let fed = line_fed y a st.texts old.used old.held st.bytes n (at_length len old.used (old.held ++ a) el short) in
+      line_stops (Stopped (old.count + 1)) y a st.texts old.used old.held waits start now st.bytes n s.0
+      (old.held ++ a, fed_begins _ _ _ _ fed, s.1, ap (λ z. z + 1) st.count) refl (rw same st.wrote)
+
+  pub stands_breaks : (y a waits : List ℕ) (len : ℕ) (old : Reading) (start now : Option (List ℕ)) → len ≡ length (old.held ++ a)
+      → (st : Stands before output y old start now) → NoFeed a → is_over len (old.used + len + 1) ≡ false → waits ≡ old.output
+      → ((lines : List (List ℕ)) → before lines → Breaks took output lines (old.held ++ a))
+      → Halted Memory took refuses output (y ++ (a ++ 10 ∷ [])) waits start now
+  stands_breaks y a waits len old start now el st n short same breaks =
+      line_breaks y a old.held waits st.texts old.used start now st.bytes n (at_length len old.used (old.held ++ a) el short) (rw same st.wrote) (breaks st.texts st.taken)
+
+  -- ---- what is written
+
+  -- the output was written, or waits on
+  pub stands_written : (y : List ℕ) (old new : Reading) (start mid now : Option (List ℕ)) → new.held ≡ old.held → new.count ≡ old.count → new.used ≡ old.used
+      → (st : Stands took output y old start mid)
+      → ((whole missing : List ℕ) → Wrote start mid whole old.output missing → Wrote start now whole new.output missing)
+      → Stands took output y new start now
+  stands_written y old new start mid now eh ec eu st writes = record {
+    texts = st.texts;
+    bytes = rw (eh, eu) st.bytes;
+    count = ec ∙ st.count;
+    taken = st.taken;
+    wrote = writes (output st.texts) [] st.wrote;
+  }
+
+  pub stands_lost : (y waits : List ℕ) (old : Reading) (start mid now : Option (List ℕ)) → waits ≡ []
+      → (st : Stands took output y old start mid) → ((whole missing : List ℕ) → Wrote start mid whole old.output missing → Loses start now whole)
+      → Halted Write took refuses output y waits start now
+  stands_lost y waits old start mid now none st loses =
+      let l = loses (output st.texts) [] st.wrote in record {
+        texts = st.texts;
+        begins = fed_begins _ _ _ _ st.bytes;
+        taken = st.taken;
+        stops = tt;
+        missing = l.0;
+        wrote = rw none l.1;
+        unwritten = tt;
+      }
+
+  pub halted_written : (o : Outcome) (y waits : List ℕ) (start mid now : Option (List ℕ)) → Halted o took refuses output y waits start mid
+      → ((whole missing : List ℕ) → Wrote start mid whole waits missing → Wrote start now whole [] missing) → Halted o took refuses output y [] start now
+  halted_written o y waits start mid now h writes = record {
+    texts = h.texts;
+    begins = h.begins;
+    taken = h.taken;
+    stops = h.stops;
+    missing = h.missing;
+    wrote = writes (output h.texts) h.missing h.wrote;
+    unwritten = h.unwritten;
+  }
+
+  pub halted_lost : (o : Outcome) (y waits : List ℕ) (start mid now : Option (List ℕ)) → Halted o took refuses output y waits start mid
+      → ((whole missing : List ℕ) → Wrote start mid whole waits missing → Loses start now whole) → Halted Write took refuses output y [] start now
+  halted_lost o y waits start mid now h loses =
+      let l = loses (output h.texts) h.missing h.wrote in record {
+        texts = h.texts;
+        begins = h.begins;
+        taken = h.taken;
+        stops = tt;
+        missing = l.0;
+        wrote = l.1;
+        unwritten = tt;
+      }
+
+  pub fed_lost : (r : Result (Unit {0}) Outcome) (piece : List ℕ) (old new : Reading) (held mid now : Option (List ℕ))
+      → OnOk r ((fed : List ℕ) (start : Option (List ℕ)) → Stands before output fed old start held → Stands took output (fed ++ piece) new start mid)
+      → IfErr r (λ o. (fed : List ℕ) (start : Option (List ℕ)) → Stands before output fed old start held → Halted o took refuses output (fed ++ piece) new.output start mid)
+      → (fed : List ℕ) (start : Option (List ℕ)) → Stands before output fed old start held
+      → ((whole missing : List ℕ) → Wrote start mid whole new.output missing → Loses start now whole)
+      → Halted Write took refuses output (fed ++ piece) [] start now
+  fed_lost (Ok x) piece old new held mid now ok err fed start st loses = stands_lost (fed ++ piece) [] new start mid now refl (ok fed start st) loses
+  fed_lost (Err o) piece old new held mid now ok err fed start st loses = halted_lost o (fed ++ piece) new.output start mid now (err fed start st) loses
+
+  -- ---- one after another
+
+  stops_more : (o : Outcome) (y z : List ℕ) (ts : List (List ℕ)) → IsFeedStop o → Stops o refuses y ts → Stops o refuses (y ++ z) ts
+  stops_more TooLong y z ts k s = too_long_more y z ts s
+  stops_more (Stopped n) y z ts k s = (s.0, begins_more y z _ s.1, s.2, s.3)
+  stops_more Write y z ts k s = tt
+  stops_more Memory y z ts k s = tt
+  stops_more Read y z ts k s = absurd k
+  stops_more Whole y z ts k s = absurd k
+  stops_more (Unfinished n) y z ts k s = absurd k
+
+  -- where it stopped, more bytes change nothing
+  pub halted_more : (o : Outcome) (y z waits : List ℕ) (start now : Option (List ℕ)) → IsFeedStop o → Halted o took refuses output y waits start now
+      → Halted o took refuses output (y ++ z) waits start now
+  halted_more o y z waits start now k h = record {
+    texts = h.texts;
+    begins = begins_more y z h.texts h.begins;
+    taken = h.taken;
+    stops = stops_more o y z h.texts k h.stops;
+    missing = h.missing;
+    wrote = h.wrote;
+    unwritten = h.unwritten;
+  }
+
+  pub lines_begin : (fed piece : List ℕ) (reading : Reading) (start now : Option (List ℕ)) → Stands took output fed reading start now → FedLines took output fed piece piece reading start now
+  lines_begin fed piece reading start now st = record {
+    front = [];
+    parts = refl;
+    stands = subst (λ (z : List ℕ). Stands took output z reading start now) (sym (append-nil fed)) st;
+  }
+
+  -- one more line
+  pub lines_go : (fed piece rest line next : List ℕ) (old new : Reading) (start mid now : Option (List ℕ))
+      → (f : FedLines before output fed piece rest old start mid) → rest ≡ line ++ next
+      → Stands took output ((fed ++ f.front) ++ line) new start now → FedLines took output fed piece next new start now
+  lines_go fed piece rest line next old new start mid now f parts st = record {
+    front = f.front ++ line;
+    parts = f.parts ∙ ap (λ z. f.front ++ z) parts ∙ sym (append_assoc f.front line next);
+    stands = subst (λ (z : List ℕ). Stands took output z new start now) (append_assoc fed f.front line) st;
+  }
+
+  pub lines_stop : (fed piece rest line next waits : List ℕ) (old : Reading) (start mid now : Option (List ℕ)) (o : Outcome) → IsFeedStop o
+      → (f : FedLines before output fed piece rest old start mid) → rest ≡ line ++ next
+      → Halted o took refuses output ((fed ++ f.front) ++ line) waits start now → Halted o took refuses output (fed ++ piece) waits start now
+  lines_stop fed piece rest line next waits old start mid now o k f parts h =
+      let e : ((fed ++ f.front) ++ line) ++ next ≡ fed ++ piece =
+      append_assoc (fed ++ f.front) line next ∙ append_assoc fed f.front (line ++ next) ∙ ap (λ z. fed ++ (f.front ++ z)) (sym parts) ∙ ap (λ z. fed ++ z) (sym f.parts) in
+      subst (λ (z : List ℕ). Halted o took refuses output z waits start now) e (halted_more o ((fed ++ f.front) ++ line) next waits start now k h)
+
+  -- ---- a whole piece
+
+  pub piece_held : (fed piece rest : List ℕ) (old new : Reading) (start now : Option (List ℕ)) → (f : FedLines took output fed piece rest old start now) → NoFeed rest
+      → new.output ≡ old.output → new.count ≡ old.count
+      → ((y : List ℕ) (ts : List (List ℕ)) → Fed y ts old.used old.held → NoFeed rest → Fed (y ++ rest) ts new.used new.held)
+      → Stands took output (fed ++ piece) new start now
+  piece_held fed piece rest old new start now f n eo ec holds =
+      let e : (fed ++ f.front) ++ rest ≡ fed ++ piece = append_assoc fed f.front rest ∙ ap (λ z. fed ++ z) (sym f.parts) in
+      subst (λ (z : List ℕ). Stands took output z new start now) e (record {
+        texts = f.stands.texts;
+        bytes = holds (fed ++ f.front) f.stands.texts f.stands.bytes n;
+        count = ec ∙ f.stands.count;
+        taken = f.stands.taken;
+        wrote = rw eo f.stands.wrote;
+      })
+
+  held_stops : (o : Outcome) (y : List ℕ) (ts : List (List ℕ)) → HoldStops o y ts → Stops o refuses y ts × Unwritten o []
+  held_stops TooLong y ts h = (h, refl)
+  held_stops Memory y ts h = (tt, tt)
+  held_stops (Stopped n) y ts h = absurd h
+  held_stops Read y ts h = absurd h
+  held_stops Write y ts h = absurd h
+  held_stops Whole y ts h = absurd h
+  held_stops (Unfinished n) y ts h = absurd h
+
+  pub piece_stops : (fed piece rest waits : List ℕ) (old : Reading) (start now : Option (List ℕ)) (o : Outcome) → (f : FedLines took output fed piece rest old start now) → NoFeed rest
+      → waits ≡ old.output → ((y : List ℕ) (ts : List (List ℕ)) → Fed y ts old.used old.held → NoFeed rest → HoldStops o (y ++ rest) ts)
+      → Halted o took refuses output (fed ++ piece) waits start now
+  piece_stops fed piece rest waits old start now o f n eo holds =
+      let e : (fed ++ f.front) ++ rest ≡ fed ++ piece = append_assoc fed f.front rest ∙ ap (λ z. fed ++ z) (sym f.parts) in
+      let s = held_stops o ((fed ++ f.front) ++ rest) f.stands.texts (holds (fed ++ f.front) f.stands.texts f.stands.bytes n) in
+      subst (λ (z : List ℕ). Halted o took refuses output z waits start now) e (record {
+        texts = f.stands.texts;
+        begins = begins_more (fed ++ f.front) rest f.stands.texts (fed_begins _ _ _ _ f.stands.bytes);
+        taken = f.stands.taken;
+        stops = s.0;
+        missing = [];
+        wrote = rw eo f.stands.wrote;
+        unwritten = s.1;
+      })
+
+-- ---- bytes that are held
+
+some_over : (used : ℕ) (w : List ℕ) → used ≤ INPUT_BYTES → is_over (length w) (used + length w) ≡ true → (0 < length w) × ((LINE_BYTES < length w) ⊎ (INPUT_BYTES < used + length w))
+some_over used w h over = (grind (arith, common_steps), grind (arith, common_steps))
+
+pub hold_over : (y a : List ℕ) (len used : ℕ) (held : List ℕ) (ts : List (List ℕ)) → len ≡ length (held ++ a) → used ≤ INPUT_BYTES → Fed y ts used held → NoFeed a
+    → is_over len (used + len) ≡ true → IsTooLong (y ++ a) ts
+hold_over y a len used held ts el small f n over =
+    let over' : is_over (length (held ++ a)) (used + length (held ++ a)) ≡ true = subst (λ (z : ℕ). is_over z (used + z) ≡ true) el over in
+    let o = some_over used (held ++ a) small over' in
+    more_over y a ts used held f n o.0 o.1
+
+pub hold_fed : (y a : List ℕ) (used : ℕ) (held now : List ℕ) (ts : List (List ℕ)) → now ≡ held ++ a → Fed y ts used held → NoFeed a → Fed (y ++ a) ts used now
+hold_fed y a used held now ts e f n = rw e (more_fed y a ts used held f n)
+
+-- why a line stops it is why a piece does
+pub own_is_feed : (o : Outcome) → IsOwnStop o → IsFeedStop o
+own_is_feed (Stopped n) h = tt
+own_is_feed TooLong h = tt
+own_is_feed Memory h = tt
+own_is_feed Write h = tt
+own_is_feed Read h = absurd h
+own_is_feed Whole h = absurd h
+own_is_feed (Unfinished n) h = absurd h
+
+pub own_is_no_write : (o : Outcome) → IsOwnStop o → o ≡ Write → ⊥
+own_is_no_write o h e = let bad : IsOwnStop Write = subst (λ (z : Outcome). IsOwnStop z) e h in bad
+
+pub feed_is_stop : (o : Outcome) → IsFeedStop o → IsStop o
+feed_is_stop (Stopped n) h = tt
+feed_is_stop TooLong h = tt
+feed_is_stop Memory h = tt
+feed_is_stop Write h = tt
+feed_is_stop Read h = absurd h
+feed_is_stop Whole h = absurd h
+feed_is_stop (Unfinished n) h = absurd h
+
+pub feed_is_no_read : (o : Outcome) → IsFeedStop o → o ≡ Read → ⊥
+feed_is_no_read o h e = let bad : IsFeedStop Read = subst (λ (z : Outcome). IsFeedStop z) e h in bad
+
+-- ---- the source
+
+consumes_nothing : (a : Option (List ℕ)) → Consumes a a []
+consumes_nothing None = tt
+consumes_nothing (Some xs) = refl
+
+pub consumes_more : (a b c : Option (List ℕ)) (xs ys : List ℕ) → Consumes a b xs → Consumes b c ys → Consumes a c (xs ++ ys)
+consumes_more None b c xs ys h k = tt
+consumes_more (Some us) None c xs ys h k = absurd h
+consumes_more (Some us) (Some vs) None xs ys h k = absurd k
+consumes_more (Some us) (Some vs) (Some ws) xs ys h k = h ∙ ap (λ z. xs ++ z) k ∙ sym (append_assoc xs ys ws)
+
+consumes_and_keeps : (a b c : Option (List ℕ)) (xs : List ℕ) → Consumes a b xs → Keeps b c → Consumes a c xs
+consumes_and_keeps None b c xs h k = tt
+consumes_and_keeps (Some us) None c xs h k = absurd h
+consumes_and_keeps (Some us) (Some vs) None xs h k = absurd k
+consumes_and_keeps (Some us) (Some vs) (Some ws) xs h k = h ∙ ap (λ z. xs ++ z) (sym k)
+
+not_over : (len used : ℕ) → len ≤ LINE_BYTES → used + len ≤ INPUT_BYTES → is_over len (used + len) ≡ false
+not_over len used a b = grind (arith, common_steps)
+
+-- ---- what is told
+
+module _ (took : List (List ℕ) → Type 0) (refuses : List (List ℕ) → List ℕ → Type 0) (output : List (List ℕ) → List ℕ) where
+  pub runs_from : (left start : Option (List ℕ)) (reading : Reading) → reading.held ≡ [] → reading.output ≡ [] → reading.count ≡ 0 → reading.used ≡ 0 → took []
+      → output [] ≡ [] → Running took output left left reading start start
+  runs_from left start reading eh eo ec eu t none = record {
+    fed = [];
+    consumed = consumes_nothing left;
+    stands = record {
+      texts = [];
+      bytes = rw (eh, eu) fed_nothing;
+      count = ec;
+      taken = t;
+      wrote = rw eo (record { front = []; parts = none; written = appends_nothing start });
+    };
+    flushed = eo;
+  }
+
+  -- the source fails
+  pub halted_read : (all left after start now : Option (List ℕ)) (reading : Reading) → Running took output all left reading start now → Keeps left after
+      → HaltedAfter Read took refuses output all after start now
+  halted_read all left after start now reading r keeps =
+      let st = r.stands in record {
+        fed = r.fed;
+        consumed = consumes_and_keeps all left after r.fed r.consumed keeps;
+        halted = record {
+          texts = st.texts;
+          begins = fed_begins _ _ _ _ st.bytes;
+          taken = st.taken;
+          stops = sym (lines_so_far _ _ _ _ st.bytes);
+          missing = [];
+          wrote = subst (λ (z : List ℕ). Wrote start now (output st.texts) z []) r.flushed st.wrote;
+          unwritten = refl;
+        };
+      }
+
+  told_with : (o : Outcome) (x fed : List ℕ) (left start now : Option (List ℕ)) (h : Halted o took refuses output fed [] start now) (rest : List (List ℕ))
+      → (lined x).texts ≡ h.texts ++ rest → Because o refuses x left h.texts rest → Told o took refuses output x left start now
+  told_with o x fed left start now h rest parts because = record {
+    texts = h.texts;
+    rest = rest;
+    parts = parts;
+    taken = h.taken;
+    because = because;
+    front = h.wrote.front;
+    back = h.missing;
+    output_is = h.wrote.parts;
+    written = h.wrote.written;
+    unwritten = h.unwritten;
+  }
+
+  -- of the first lines, in all the bytes
+  begun : (x fed ys : List ℕ) (ts : List (List ℕ)) → x ≡ fed ++ ys → (b : Begins fed ts) → (lined x).texts ≡ ts ++ (b ys).0
+  begun x fed ys ts e b = ap (λ z. (lined z).texts) e ∙ (b ys).1
+
+  told_at : (o : Outcome) (x fed ys : List ℕ) (start now : Option (List ℕ)) → IsStop o → x ≡ fed ++ ys → Halted o took refuses output fed [] start now
+      → Told o took refuses output x (Some ys) start now
+  told_at TooLong x fed ys start now k e h =
+      let d : lined x ≡ record { texts = h.texts; end = too_long } = ap lined e ∙ h.stops ys in
+      told_with TooLong x fed (Some ys) start now h [] (ap (λ l. l.texts) d ∙ sym (append-nil h.texts)) (ap (λ l. l.end) d, refl)
+  told_at (Stopped n) x fed ys start now k e h =
+      let s = h.stops in
+      let later = (s.1 ys).0 in
+      told_with (Stopped n) x fed (Some ys) start now h (s.0 ∷ later) (begun x fed ys _ e s.1 ∙ append_assoc h.texts (s.0 ∷ []) later) (s.0, later, refl, s.2, s.3)
+  told_at Read x fed ys start now k e h = told_with Read x fed (Some ys) start now h (h.begins ys).0 (begun x fed ys _ e h.begins) (fed, ys, e, refl, h.stops)
+  told_at Write x fed ys start now k e h = told_with Write x fed (Some ys) start now h (h.begins ys).0 (begun x fed ys _ e h.begins) tt
+  told_at Memory x fed ys start now k e h = told_with Memory x fed (Some ys) start now h (h.begins ys).0 (begun x fed ys _ e h.begins) tt
+  told_at Whole x fed ys start now k e h = absurd k
+  told_at (Unfinished n) x fed ys start now k e h = absurd k
+
+  pub told_halt : (o : Outcome) (all left start now : Option (List ℕ)) → IsStop o → HaltedAfter o took refuses output all left start now
+      → IfSome all (λ bytes. Told o took refuses output bytes left start now)
+  told_halt o None left start now k h = tt
+  told_halt o (Some x) None start now k h = absurd h.consumed
+  told_halt o (Some x) (Some ys) start now k h = told_at o x h.fed ys start now k h.consumed h.halted
+
+  told_last : (x : List ℕ) (count used : ℕ) (held : List ℕ) (ts : List (List ℕ)) (left start now : Option (List ℕ)) → length held ≤ LINE_BYTES → used + length held ≤ INPUT_BYTES
+      → lined x ≡ preceded_by ts (last_of used held) → count ≡ length ts → took ts → Wrote start now (output ts) [] []
+      → Told (if length held == 0 then Whole else Unfinished (count + 1)) took refuses output x left start now
+  told_last x count used [] ts left start now a b e c t w = record {
+    texts = ts;
+    rest = [];
+    parts = ap (λ l. l.texts) e;
+    taken = t;
+    because = (ap (λ l. l.end) e, refl);
+    front = w.front;
+    back = [];
+    output_is = w.parts;
+    written = w.written;
+    unwritten = refl;
+  }
+  told_last x count used (d ∷ held) ts left start now a b e c t w =
+      let short : is_over (length (d ∷ held)) (used + length (d ∷ held)) ≡ false = not_over _ _ a b in
+      let open_end : (lined x).end ≡ unfinished = ap (λ l. l.end) e ∙ ap (λ z. if z then too_long else unfinished) short in
+      let some : (length (d ∷ held) == 0) ≡ false = grind (arith, common_steps) in
+      rw some (record {
+        texts = ts;
+        rest = [];
+        parts = ap (λ l. l.texts) e;
+        taken = t;
+        because = (open_end, refl, ap (λ z. z + 1) c);
+        front = w.front;
+        back = [];
+        output_is = w.parts;
+        written = w.written;
+        unwritten = refl;
+      })
+
+  pub told_end : (all left start now : Option (List ℕ)) (reading : Reading) → Running took output all left reading start now → IsAtEnd left
+      → length reading.held ≤ LINE_BYTES → reading.used + length reading.held ≤ INPUT_BYTES
+      → IfSome all (λ bytes. Told (if length reading.held == 0 then Whole else Unfinished (reading.count + 1)) took refuses output bytes left start now)
+  told_end None left start now reading r e a b = tt
+  told_end (Some x) None start now reading r e a b = absurd r.consumed
+  told_end (Some x) (Some ys) start now reading r e a b =
+      let same : r.fed ≡ x = sym (r.consumed ∙ ap (λ z. r.fed ++ z) e ∙ append-nil r.fed) in
+      let st = r.stands in
+      let last : lined x ≡ preceded_by st.texts (last_of reading.used reading.held) = ap lined (sym same) ∙ at_end r.fed st.texts reading.used reading.held st.bytes in
+      told_last x reading.count reading.used reading.held st.texts (Some ys) start now a b last st.count st.taken (subst (λ (z : List ℕ). Wrote start now (output st.texts) z []) r.flushed st.wrote)

@@ -1,0 +1,83 @@
+-- What stands while an input is read.
+use Rattle.std.specs.Prelude.{◌≡◌, ℕ, ◌+◌, List, [], ◌∷◌, ◌++◌, length}
+use Rattle.std.specs.declared.option.Option.{Option}
+use Rattle.std.specs.Io.KnownBytes.{Consumes}
+use Rattle.kds_lines.specs.Lines.{Fed, Begins, IsTooLong, lined}
+use Rattle.kds_lines.specs.Telling.{Unwritten}
+use Rattle.kds_lines.specs.Writing.{Wrote}
+use Rattle.kds_lines.specs.declared.outcome.Outcome.{Outcome}
+use Rattle.kds_lines.specs.declared.outcome.Outcome.TheVariants.{Stopped, TooLong, Read, Write, Memory}
+use Rattle.kds_lines.specs.declared.reading.Reading.{Reading}
+
+-- these bytes were fed: their whole lines were taken, and their output was written or waits
+pub record Stands (took : List (List ℕ) → Type 0) (output : List (List ℕ) → List ℕ) (fed : List ℕ) (reading : Reading) (start now : Option (List ℕ)) : Type 0 where
+  pub texts : List (List ℕ)
+  pub bytes : Fed fed texts reading.used reading.held
+  pub count : reading.count ≡ length texts
+  pub taken : took texts
+  pub wrote : Wrote start now (output texts) reading.output []
+
+-- why it stopped so after these lines of the bytes that were fed
+abbrev pub Stops : Outcome → (List (List ℕ) → List ℕ → Type 0) → List ℕ → List (List ℕ) → Type 0
+Stops TooLong refuses fed texts = IsTooLong fed texts
+Stops (Stopped n) refuses fed texts = (text : List ℕ) × Begins fed (texts ++ text ∷ []) × refuses texts text × (n ≡ length texts + 1)
+Stops Read refuses fed texts = texts ≡ (lined fed).texts
+Stops Write refuses fed texts = Unit {0}
+Stops Memory refuses fed texts = Unit {0}
+Stops _ refuses fed texts = ⊥
+
+-- These bytes were fed when it stopped so: the lines that were taken are their first ones.
+pub record Halted (outcome : Outcome) (took : List (List ℕ) → Type 0) (refuses : List (List ℕ) → List ℕ → Type 0) (output : List (List ℕ) → List ℕ) (fed waits : List ℕ) (start now : Option (List ℕ)) : Type 0 where
+  pub texts : List (List ℕ)
+  pub begins : Begins fed texts
+  pub taken : took texts
+  pub stops : Stops outcome refuses fed texts
+  pub missing : List ℕ
+  pub wrote : Wrote start now (output texts) waits missing
+  pub unwritten : Unwritten outcome missing
+
+-- A front of the piece was fed, and this is the rest.
+pub record FedLines (took : List (List ℕ) → Type 0) (output : List (List ℕ) → List ℕ) (fed piece rest : List ℕ) (reading : Reading) (start now : Option (List ℕ)) : Type 0 where
+  pub front : List ℕ
+  pub parts : piece ≡ front ++ rest
+  pub stands : Stands took output (fed ++ front) reading start now
+
+-- how many bytes were fed
+abbrev pub fed_count : Reading → ℕ
+fed_count reading = reading.used + length reading.held
+
+-- Some bytes were taken from the source and fed, and no output waits.
+pub record Running (took : List (List ℕ) → Type 0) (output : List (List ℕ) → List ℕ) (all left : Option (List ℕ)) (reading : Reading) (start now : Option (List ℕ)) : Type 0 where
+  pub fed : List ℕ
+  pub consumed : Consumes all left fed
+  pub stands : Stands took output fed reading start now
+  pub flushed : reading.output ≡ []
+
+-- It stopped so after some bytes were taken from the source.
+pub record HaltedAfter (outcome : Outcome) (took : List (List ℕ) → Type 0) (refuses : List (List ℕ) → List ℕ → Type 0) (output : List (List ℕ) → List ℕ) (all left start now : Option (List ℕ)) : Type 0 where
+  pub fed : List ℕ
+  pub consumed : Consumes all left fed
+  pub halted : Halted outcome took refuses output fed [] start now
+
+-- why bytes that end no line are not held
+abbrev pub HoldStops : Outcome → List ℕ → List (List ℕ) → Type 0
+HoldStops TooLong fed texts = IsTooLong fed texts
+HoldStops Memory fed texts = Unit {0}
+HoldStops _ fed texts = ⊥
+
+-- why a line may stop the reading
+abbrev pub IsOwnStop : Outcome → Type 0
+IsOwnStop (Stopped n) = Unit {0}
+IsOwnStop TooLong = Unit {0}
+IsOwnStop Memory = Unit {0}
+IsOwnStop _ = ⊥
+
+-- why a piece may
+abbrev pub IsFeedStop : Outcome → Type 0
+IsFeedStop Write = Unit {0}
+IsFeedStop o = IsOwnStop o
+
+-- why it may stop before the input's end
+abbrev pub IsStop : Outcome → Type 0
+IsStop Read = Unit {0}
+IsStop o = IsFeedStop o

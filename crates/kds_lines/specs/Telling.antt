@@ -1,0 +1,40 @@
+-- How the reading of an input ends, by its bytes.
+use Rattle.std.specs.Prelude.{◌≡◌, ℕ, ◌+◌, List, [], ◌∷◌, ◌++◌, length, Some}
+use Rattle.std.specs.declared.option.Option.{Option}
+use Rattle.std.specs.Io.KnownBytes.{Appends}
+use Rattle.kds_lines.specs.Lines.{whole, unfinished, too_long, lined}
+use Rattle.kds_lines.specs.declared.outcome.Outcome.{Outcome}
+use Rattle.kds_lines.specs.declared.outcome.Outcome.TheVariants.{Whole, Unfinished, Stopped, TooLong, Read, Write, Memory}
+
+-- Why it ended so after these lines of the bytes, where these lines were left, and of the source these bytes. With
+-- Read these are the lines of the bytes that were read.
+abbrev pub Because : Outcome → (List (List ℕ) → List ℕ → Type 0) → List ℕ → Option (List ℕ) → List (List ℕ) → List (List ℕ) → Type 0
+Because Whole refuses bytes left texts rest = ((lined bytes).end ≡ whole) × (rest ≡ [])
+Because (Unfinished n) refuses bytes left texts rest = ((lined bytes).end ≡ unfinished) × (rest ≡ []) × (n ≡ length texts + 1)
+Because TooLong refuses bytes left texts rest = ((lined bytes).end ≡ too_long) × (rest ≡ [])
+Because (Stopped n) refuses bytes left texts rest =
+    (text : List ℕ) × (later : List (List ℕ)) × (rest ≡ text ∷ later) × refuses texts text × (n ≡ length texts + 1)
+Because Read refuses bytes left texts rest =
+    (fed : List ℕ) × (unread : List ℕ) × (bytes ≡ fed ++ unread) × (left ≡ Some unread) × (texts ≡ (lined fed).texts)
+Because Write refuses bytes left texts rest = Unit {0}
+Because Memory refuses bytes left texts rest = Unit {0}
+
+-- how much of the output was not written: all was, unless the sink failed or memory ran out
+abbrev pub Unwritten : Outcome → List ℕ → Type 0
+Unwritten Write back = Unit {0}
+Unwritten Memory back = Unit {0}
+Unwritten _ back = back ≡ []
+
+-- The reading of these bytes ended so: the lines that were taken are the first ones of the bytes, and a front of their
+-- output was written.
+pub record Told (outcome : Outcome) (took : List (List ℕ) → Type 0) (refuses : List (List ℕ) → List ℕ → Type 0) (output : List (List ℕ) → List ℕ) (bytes : List ℕ) (left before after : Option (List ℕ)) : Type 0 where
+  pub texts : List (List ℕ)
+  pub rest : List (List ℕ)
+  pub parts : (lined bytes).texts ≡ texts ++ rest
+  pub taken : took texts
+  pub because : Because outcome refuses bytes left texts rest
+  pub front : List ℕ
+  pub back : List ℕ
+  pub output_is : output texts ≡ front ++ back
+  pub written : Appends before after front
+  pub unwritten : Unwritten outcome back

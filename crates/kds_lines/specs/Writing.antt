@@ -1,0 +1,14 @@
+-- What is written of an output.
+use Rattle.std.specs.Prelude.{◌≡◌, ℕ, List, [], ◌++◌}
+use Rattle.std.specs.declared.option.Option.{Option}
+use Rattle.std.specs.Io.KnownBytes.{Appends}
+
+-- Of the whole output a front was written, this much waits, and this much is missing.
+pub record Wrote (start now : Option (List ℕ)) (output waits missing : List ℕ) : Type 0 where
+  pub front : List ℕ
+  pub parts : output ≡ front ++ (waits ++ missing)
+  pub written : Appends start now front
+
+-- a front of the output was written, and the rest of it is lost
+abbrev pub Loses : Option (List ℕ) → Option (List ℕ) → List ℕ → Type 0
+Loses start now output = (missing : List ℕ) × Wrote start now output [] missing

@@ -1,0 +1,195 @@
+//! Feeds a piece of the input.
+ghost use Rattle.std.specs.Prelude.{◌≡◌, [], ◌∷◌, ◌++◌, ◌+◌, ◌≤◌, List, ℕ, length, true, false, OnOk, OnErr, IfOk, IfErr, IsErrOf, MatchOption};
+ghost use Rattle.std.specs.declared.option.Option.{Option};
+ghost use Rattle.kds_ends.specs.Causes.{Rose};
+ghost use Rattle.kds_defs.specs.declared.limits.TheConstants.{LINE_BYTES};
+ghost use Rattle.kds_lines.specs.Lines.{NoFeed, HasFeedAt, Fed, is_over};
+ghost use Rattle.kds_lines.specs.Reading.{Stands, Halted, FedLines, HoldStops, IsOwnStop, IsFeedStop, fed_count};
+ghost use Rattle.kds_lines.specs.Taking.{Goes, Breaks};
+
+use crate::outcome::Outcome;
+use crate::reading::Reading;
+use crate::taker::Taker;
+use kds_base::{Memory, Octets};
+use kds_defs::limits::{INPUT_BYTES, LINE_BYTES};
+use kds_ends::Sink;
+use memchr::memchr;
+use std::alloc::Global;
+
+/// The place of the first line feed.
+fn first_feed(bytes: &[u8]) -> Option<usize>
+    ensures { MatchOption result (NoFeed bytes.now) (HasFeedAt bytes.now) }
+{
+    memchr(b'\n', bytes)
+}
+
+/// Whether a line of this length, or the input with it, is too long.
+fn over(len: usize, total: u64) -> bool
+    ensures { result ≡ is_over len total }
+{
+    len as u64 > LINE_BYTES || total > INPUT_BYTES
+}
+
+/// The length of what is held with these bytes.
+fn joined_length(held: &Octets, tail: &[u8]) -> usize
+    requires { length held.now ≤ LINE_BYTES }
+    ensures { result ≡ length (held.now ++ tail.now) }
+{
+    held.as_slice().len() + tail.len()
+}
+
+/// Hands over the line that is held and this tail. A line that lies whole in the tail isn't copied.
+fn take_joined<T: Taker>(
+    alloc: Global,
+    taker: &mut T,
+    held: &mut Octets,
+    tail: &[u8],
+    output: &mut Octets,
+) -> Result<bool, Memory>
+    ensures goes { IfOk result (λ more. more ≡ true → (lines : List (List ℕ)) → T.took taker.old lines
+        → Goes (T.took taker.new) T.output lines (held.old ++ tail.now) output.old output.new) }
+    ensures stops { IfOk result (λ more. more ≡ false → (lines : List (List ℕ)) → T.took taker.old lines
+        → T.took taker.new lines × T.refuses lines (held.old ++ tail.now)) }
+    ensures silent { IfOk result (λ more. more ≡ false → output.new ≡ output.old) }
+    ensures breaks { OnErr result ((lines : List (List ℕ)) → T.took taker.old lines
+        → Breaks (T.took taker.new) T.output lines (held.old ++ tail.now)) }
+    ensures same { OnErr result (output.new ≡ output.old) }
+    ensures size { length held.new ≤ length held.old + length tail.now }
+{
+    if held.as_slice().is_empty() {
+        return taker.take(alloc, tail, output);
+    }
+    held.extend(tail)?;
+    taker.take(alloc, held.as_slice(), output)
+}
+
+/// The line that is held comes to its end by these bytes and a line feed.
+fn end_line<T: Taker>(
+    alloc: Global,
+    taker: &mut T,
+    reading: &mut Reading,
+    tail: &[u8],
+) -> Result<(), Outcome>
+    ensures ok { OnOk result ((fed : List ℕ) (start now : Option (List ℕ)) → Stands (T.took taker.old) T.output fed reading.old start now
+        → NoFeed tail.now → Stands (T.took taker.new) T.output (fed ++ (tail.now ++ 10 ∷ [])) reading.new start now) }
+    ensures err { IfErr result (λ o. (fed : List ℕ) (start now : Option (List ℕ)) → Stands (T.took taker.old) T.output fed reading.old start now
+        → NoFeed tail.now → Halted o (T.took taker.new) T.refuses T.output (fed ++ (tail.now ++ 10 ∷ [])) reading.new.output start now) }
+    ensures count { OnOk result (fed_count reading.new ≡ fed_count reading.old + length tail.now + 1) }
+    ensures kinds { IfErr result IsOwnStop }
+{
+    let len = joined_length(&reading.held, tail);
+    let total = reading.used + len as u64 + 1;
+    if over(len, total) {
+        return Err(Outcome::TooLong);
+    }
+    let number = reading.count + 1;
+    match take_joined(alloc, taker, &mut reading.held, tail, &mut reading.output) {
+        Ok(true) => {
+            reading.held.clear();
+            reading.used = total;
+            reading.count = number;
+            Ok(())
+        }
+        Ok(false) => Err(Outcome::Stopped(number)),
+        Err(_) => Err(Outcome::Memory),
+    }
+}
+
+/// The same, and writes the output that waits where it is long.
+fn next_line<T: Taker, K: Sink>(
+    alloc: Global,
+    taker: &mut T,
+    reading: &mut Reading,
+    tail: &[u8],
+    out: &mut K,
+) -> Result<(), Outcome>
+    ensures ok { OnOk result ((fed : List ℕ) (start : Option (List ℕ)) → Stands (T.took taker.old) T.output fed reading.old start (K.held out.old)
+        → NoFeed tail.now → Stands (T.took taker.new) T.output (fed ++ (tail.now ++ 10 ∷ [])) reading.new start (K.held out.new)) }
+    ensures err { IfErr result (λ o. (fed : List ℕ) (start : Option (List ℕ)) → Stands (T.took taker.old) T.output fed reading.old start (K.held out.old)
+        → NoFeed tail.now → Halted o (T.took taker.new) T.refuses T.output (fed ++ (tail.now ++ 10 ∷ [])) reading.new.output start (K.held out.new)) }
+    ensures count { OnOk result (fed_count reading.new ≡ fed_count reading.old + length tail.now + 1) }
+    ensures later { K.faults out.old ≤ K.faults out.new }
+    ensures write { IsErrOf result Outcome.Write → Rose (K.faults out.old) (K.faults out.new) }
+    ensures kinds { IfErr result IsFeedStop }
+{
+    end_line(alloc, taker, reading, tail)?;
+    match reading.spill(out) {
+        Ok(()) => Ok(()),
+        Err(_) => Err(Outcome::Write),
+    }
+}
+
+/// Ends each line that the piece ends, and gives the rest.
+fn feed_lines<'a, T: Taker, K: Sink>(
+    alloc: Global,
+    taker: &mut T,
+    reading: &mut Reading,
+    piece: &'a [u8],
+    out: &mut K,
+) -> Result<&'a [u8], Outcome>
+    ensures ok { IfOk result (λ rest. (fed : List ℕ) (start : Option (List ℕ)) → Stands (T.took taker.old) T.output fed reading.old start (K.held out.old)
+        → FedLines (T.took taker.new) T.output fed piece.entry.now rest.now reading.new start (K.held out.new)) }
+    ensures rest { IfOk result (λ rest. NoFeed rest.now) }
+    ensures count { IfOk result (λ rest. fed_count reading.new + length rest.now ≡ fed_count reading.old + length piece.entry.now) }
+    ensures err { IfErr result (λ o. (fed : List ℕ) (start : Option (List ℕ)) → Stands (T.took taker.old) T.output fed reading.old start (K.held out.old)
+        → Halted o (T.took taker.new) T.refuses T.output (fed ++ piece.entry.now) reading.new.output start (K.held out.new)) }
+    ensures later { K.faults out.old ≤ K.faults out.new }
+    ensures write { IsErrOf result Outcome.Write → Rose (K.faults out.old) (K.faults out.new) }
+    ensures kinds { IfErr result IsFeedStop }
+{
+    let mut rest = piece;
+    while let Some(at) = first_feed(rest) {
+        let (tail, after) = rest.split_at(at);
+        if let Err(outcome) = next_line(alloc, taker, reading, tail, out) {
+            return Err(outcome);
+        }
+        let (_, next) = after.split_at(1);
+        rest = next;
+    }
+    Ok(rest)
+}
+
+/// Keeps bytes that end no line.
+fn hold(reading: &mut Reading, rest: &[u8]) -> Result<(), Outcome>
+    ensures ok { OnOk result ((fed : List ℕ) (texts : List (List ℕ)) → Fed fed texts reading.old.used reading.old.held → NoFeed rest.now
+        → Fed (fed ++ rest.now) texts reading.new.used reading.new.held) }
+    ensures output { reading.new.output ≡ reading.old.output }
+    ensures lines { reading.new.count ≡ reading.old.count }
+    ensures count { OnOk result (fed_count reading.new ≡ fed_count reading.old + length rest.now) }
+    ensures err { IfErr result (λ o. (fed : List ℕ) (texts : List (List ℕ)) → Fed fed texts reading.old.used reading.old.held → NoFeed rest.now
+        → HoldStops o (fed ++ rest.now) texts) }
+    ensures kinds { IfErr result IsOwnStop }
+{
+    let len = joined_length(&reading.held, rest);
+    if over(len, reading.used + len as u64) {
+        return Err(Outcome::TooLong);
+    }
+    match reading.held.extend(rest) {
+        Ok(()) => Ok(()),
+        Err(_) => Err(Outcome::Memory),
+    }
+}
+
+/// Feeds the next piece of the input.
+pub fn feed<T: Taker, K: Sink>(
+    alloc: Global,
+    taker: &mut T,
+    reading: &mut Reading,
+    piece: &[u8],
+    out: &mut K,
+) -> Result<(), Outcome>
+    ensures ok { OnOk result ((fed : List ℕ) (start : Option (List ℕ)) → Stands (T.took taker.old) T.output fed reading.old start (K.held out.old)
+        → Stands (T.took taker.new) T.output (fed ++ piece.now) reading.new start (K.held out.new)) }
+    ensures count { OnOk result (fed_count reading.new ≡ fed_count reading.old + length piece.now) }
+    ensures err { IfErr result (λ o. (fed : List ℕ) (start : Option (List ℕ)) → Stands (T.took taker.old) T.output fed reading.old start (K.held out.old)
+        → Halted o (T.took taker.new) T.refuses T.output (fed ++ piece.now) reading.new.output start (K.held out.new)) }
+    ensures later { K.faults out.old ≤ K.faults out.new }
+    ensures write { IsErrOf result Outcome.Write → Rose (K.faults out.old) (K.faults out.new) }
+    ensures kinds { IfErr result IsFeedStop }
+{
+    let rest = feed_lines(alloc, taker, reading, piece, out)?;
+    match hold(reading, rest) {
+        Ok(()) => Ok(()),
+        Err(outcome) => Err(outcome),
+    }
+}

@@ -1,0 +1,12 @@
+//! Reads the lines of an input, under limits, and writes their output.
+#![tactic(auto)]
+
+mod feed;
+mod outcome;
+mod read;
+mod reading;
+mod taker;
+
+pub use outcome::Outcome;
+pub use read::read_lines;
+pub use taker::Taker;

@@ -1,0 +1,97 @@
+//! Reads an input to its end.
+ghost use Rattle.std.specs.Prelude.{◌≡◌, ◌<◌, ◌≤◌, [], List, ℕ, true, false, IfOk, IfErr, IsErrOf, IfSome, if◌then◌else◌, length, ◌==◌, ◌+◌};
+ghost use Rattle.std.specs.declared.option.Option.{Option};
+ghost use Rattle.std.specs.Io.KnownBytes.{IsAtEnd};
+ghost use Rattle.kds_ends.specs.Causes.{Rose};
+ghost use Rattle.kds_lines.specs.Reading.{Running, HaltedAfter, IsStop, fed_count};
+ghost use Rattle.kds_lines.specs.Telling.{Told};
+
+use crate::feed::feed;
+use crate::outcome::Outcome;
+use crate::reading::Reading;
+use crate::taker::Taker;
+use kds_ends::{Sink, Source};
+use std::alloc::Global;
+
+/// The bytes of one read.
+const PIECE_BYTES: usize = 65_536;
+
+/// Reads a piece, feeds it, and writes the output of its lines. The answer is whether there was one.
+fn step<T: Taker, S: Source, K: Sink>(
+    alloc: Global,
+    taker: &mut T,
+    reading: &mut Reading,
+    input: &mut S,
+    room: &mut [u8],
+    out: &mut K,
+) -> Result<bool, Outcome>
+    requires { 0 < length room.old }
+    ensures goes_on { IfOk result (λ more. (all start : Option (List ℕ))
+        → Running (T.took taker.old) T.output all (S.left input.old) reading.old start (K.held out.old)
+        → Running (T.took taker.new) T.output all (S.left input.new) reading.new start (K.held out.new)) }
+    ensures grows { IfOk result (λ more. more ≡ true → fed_count reading.old < fed_count reading.new) }
+    ensures ends { IfOk result (λ more. more ≡ false → IsAtEnd (S.left input.new)) }
+    ensures err { IfErr result (λ o. (all start : Option (List ℕ))
+        → Running (T.took taker.old) T.output all (S.left input.old) reading.old start (K.held out.old)
+        → HaltedAfter o (T.took taker.new) T.refuses T.output all (S.left input.new) start (K.held out.new)) }
+    ensures source_later { S.faults input.old ≤ S.faults input.new }
+    ensures sink_later { K.faults out.old ≤ K.faults out.new }
+    ensures read { IsErrOf result Outcome.Read → Rose (S.faults input.old) (S.faults input.new) }
+    ensures write { IsErrOf result Outcome.Write → Rose (K.faults out.old) (K.faults out.new) }
+    ensures kinds { IfErr result IsStop }
+{
+    match input.read(room) {
+        Ok(0) => Ok(false),
+        Ok(count) => {
+            let (piece, _) = room.split_at(count);
+            let fed = feed(alloc, taker, reading, piece, out);
+            match reading.flush(out) {
+                Ok(()) => {}
+                Err(_) => return Err(Outcome::Write),
+            }
+            match fed {
+                Ok(()) => Ok(true),
+                Err(outcome) => Err(outcome),
+            }
+        }
+        Err(_) => Err(Outcome::Read),
+    }
+}
+
+/// How the reading ends at the end of the input: a line that is held has no line feed.
+fn last(reading: &Reading) -> Outcome
+    ensures { result ≡ (if length reading.now.held == 0 then Outcome.Whole else Outcome.Unfinished (reading.now.count + 1)) }
+{
+    if reading.held.as_slice().is_empty() {
+        Outcome::Whole
+    } else {
+        Outcome::Unfinished(reading.count + 1)
+    }
+}
+
+/// Hands the lines of the input, one after another, to what takes them, and writes their output: that of all lines of
+/// a piece at once, before it reads on. A line's length is judged first, then the input's, and then the line is taken;
+/// the first line that decides ends it. Condition: no line was taken before. Read, Write: the source or the sink
+/// failed. Memory: want of memory.
+pub fn read_lines<T: Taker, S: Source, K: Sink>(
+    alloc: Global,
+    taker: &mut T,
+    input: &mut S,
+    out: &mut K,
+) -> Outcome
+    requires { T.took taker.old [] }
+    ensures told { IfSome (S.left input.old) (λ bytes.
+        Told result (T.took taker.new) T.refuses T.output bytes (S.left input.new) (K.held out.old) (K.held out.new)) }
+    ensures read { result ≡ Outcome.Read → Rose (S.faults input.old) (S.faults input.new) }
+    ensures write { result ≡ Outcome.Write → Rose (K.faults out.old) (K.faults out.new) }
+{
+    let mut room = [0u8; PIECE_BYTES];
+    let mut reading = Reading::new(alloc);
+    loop {
+        match step(alloc, taker, &mut reading, input, &mut room, out) {
+            Ok(true) => {}
+            Ok(false) => return last(&reading),
+            Err(outcome) => return outcome,
+        }
+    }
+}

@@ -1,0 +1,78 @@
+//! An input that comes in pieces.
+ghost use Rattle.std.specs.Prelude.{◌≡◌, ℕ, List, [], ◌≤◌, ◌+◌, length, OnOk, OnErr};
+ghost use Rattle.std.specs.declared.option.Option.{Option};
+ghost use Rattle.kds_defs.specs.declared.limits.TheConstants.{LINE_BYTES, INPUT_BYTES};
+ghost use Rattle.kds_ends.specs.Causes.{HasCause};
+ghost use Rattle.kds_lines.specs.Writing.{Wrote, Loses};
+
+use kds_base::Octets;
+use kds_ends::{Failed, Sink, write_all};
+use std::alloc::Global;
+
+/// How many bytes of output may wait.
+const OUTPUT_BYTES: usize = 65_536;
+
+/// The line that is not yet whole, and the output that waits.
+#[derive(Drop)]
+pub struct Reading {
+    pub held: Octets,
+    pub output: Octets,
+    /// How many lines were whole, and how many bytes they took.
+    pub count: u64,
+    pub used: u64,
+    ghost short: { length held ≤ LINE_BYTES },
+    ghost within: { used + length held ≤ INPUT_BYTES },
+    ghost counted: { count ≤ used },
+}
+
+impl Reading {
+    /// Nothing was read.
+    pub fn new(alloc: Global) -> Reading
+        ensures held { result.held ≡ [] }
+        ensures output { result.output ≡ [] }
+        ensures count { result.count ≡ 0 }
+        ensures used { result.used ≡ 0 }
+    {
+        Reading {
+            held: Octets::new(alloc),
+            output: Octets::new(alloc),
+            count: 0,
+            used: 0,
+        }
+    }
+
+    /// Writes the output that waits. After a fault what was not written is lost.
+    pub fn flush<K: Sink>(&mut self, out: &mut K) -> Result<(), Failed>
+        ensures held { self.new.held ≡ self.old.held }
+        ensures output { self.new.output ≡ [] }
+        ensures count { self.new.count ≡ self.old.count }
+        ensures used { self.new.used ≡ self.old.used }
+        ensures ok { OnOk result ((start : Option (List ℕ)) (whole missing : List ℕ)
+            → Wrote start (K.held out.old) whole self.old.output missing → Wrote start (K.held out.new) whole [] missing) }
+        ensures err { OnErr result ((start : Option (List ℕ)) (whole missing : List ℕ)
+            → Wrote start (K.held out.old) whole self.old.output missing → Loses start (K.held out.new) whole) }
+        ensures cause { HasCause (K.faults out.old) (K.faults out.new) result }
+    {
+        let written = write_all(out, self.output.as_slice());
+        self.output.clear();
+        written
+    }
+
+    /// Writes the output that waits where it is long. After a fault what was not written is lost.
+    pub fn spill<K: Sink>(&mut self, out: &mut K) -> Result<(), Failed>
+        ensures held { self.new.held ≡ self.old.held }
+        ensures count { self.new.count ≡ self.old.count }
+        ensures used { self.new.used ≡ self.old.used }
+        ensures ok { OnOk result ((start : Option (List ℕ)) (whole missing : List ℕ)
+            → Wrote start (K.held out.old) whole self.old.output missing → Wrote start (K.held out.new) whole self.new.output missing) }
+        ensures err { OnErr result ((start : Option (List ℕ)) (whole missing : List ℕ)
+            → Wrote start (K.held out.old) whole self.old.output missing → Loses start (K.held out.new) whole) }
+        ensures lost { OnErr result (self.new.output ≡ []) }
+        ensures cause { HasCause (K.faults out.old) (K.faults out.new) result }
+    {
+        if self.output.as_slice().len() < OUTPUT_BYTES {
+            return Ok(());
+        }
+        self.flush(out)
+    }
+}
