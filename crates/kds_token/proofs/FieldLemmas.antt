@@ -1,5 +1,5 @@
 -- A text and its fields.
-use Rattle.std.proofs.Common.{◌≡◌, ℕ, ◌+◌, ◌<◌, ◌^◌, List, [], ◌∷◌, ◌++◌, take, drop, Bool, true, false, Option, Some, None, refl, ap, ◌∙◌, arith, decimal, inl, inr, subst}
+use Rattle.std.proofs.Common.{◌≡◌, ℕ, zero, suc, ◌+◌, ◌<◌, ◌^◌, List, length, [], ◌∷◌, ◌++◌, take, drop, Bool, true, false, Option, Some, None, refl, ap, ◌∙◌, arith, decimal, inl, inr, subst}
 use Rattle.std.proofs.lemmas.Grind.{common_steps}
 use Rattle.std.proofs.lemmas.Bool.{cases_Bool, eqb-true}
 use Rattle.std.proofs.lemmas.Fmt.{digits_decimal}
@@ -8,7 +8,8 @@ use Rattle.std.specs.List.{list_all}
 use Rattle.std.specs.Char.{is_ascii_digit}
 use Rattle.kds_base.specs.NumberText.{number_of}
 use Rattle.kds_base.proofs.NumberLemmas.{own, decimal_of_number, number_of_decimal}
-use Rattle.kds_token.specs.Fields.{◌>>=◌, field, HasNoColon, IsFirstColon, in_time, moment_of}
+use Rattle.memchr.specs.Find.{NoneBefore, Passes, is_byte}
+use Rattle.kds_token.specs.Fields.{◌>>=◌, field, HasNoColon, in_time, moment_of}
 
 pub no_colon-append : (a b : List ℕ) → HasNoColon a → HasNoColon b → HasNoColon (a ++ b)
 no_colon-append [] b n m = m
@@ -18,12 +19,30 @@ pub field_at : (a b : List ℕ) → HasNoColon a → field (a ++ 58 ∷ b) ≡ S
 field_at [] b n = refl
 field_at (x ∷ a) b n = rw (n.0, field_at a b n.1) refl
 
-pub field_none : (a : List ℕ) → HasNoColon a → field a ≡ None
-field_none [] n = refl
-field_none (x ∷ a) n = rw (n.0, field_none a n.1) refl
+-- ---- where a search finds a colon
 
-pub field_first : (text : List ℕ) (at : ℕ) → IsFirstColon text at → field text ≡ Some (take at text, drop (at + 1) text)
-field_first text at f = ap field f.parts ∙ field_at (take at text) (drop (at + 1) text) f.before
+other_byte : (b : ℕ) → ((b == 58) ≡ true → ⊥) → (b == 58) ≡ false
+other_byte b differs = elim (cases_Bool (b == 58)) [
+  | inl same ↦ absurd (differs same)
+  | inr other ↦ other
+]
+
+found_at : (text : List ℕ) (at : ℕ) → at < length text → ((k : ℕ) → k < at → Passes (is_byte 58) text k → ⊥) → Passes (is_byte 58) text at → field text ≡ Some (take at text, drop (suc at) text)
+found_at [] at within before here = absurd (omega (arith, within))
+found_at (b ∷ bs) zero within before here = rw here refl
+found_at (b ∷ bs) (suc at) within before here =
+    rw (other_byte b (before 0 (omega arith)), found_at bs at (omega (arith, within)) (λ k lt. before (suc k) (omega (arith, lt))) here) refl
+
+pub field_found : (text : List ℕ) (at : ℕ) → NoneBefore (Passes (is_byte 58) text) 0 (length text) at × Passes (is_byte 58) text at → field text ≡ Some (take at text, drop (at + 1) text)
+field_found text at found =
+    let next : suc at ≡ at + 1 = omega arith in
+    found_at text at found.0.high (λ k lt. found.0.before k (omega arith) lt) found.1 ∙ ap (λ n. Some (take at text, drop n text)) next
+
+-- where it finds none
+pub field_nowhere : (text : List ℕ) → ((k : ℕ) → k < length text → Passes (is_byte 58) text k → ⊥) → field text ≡ None
+field_nowhere [] nowhere = refl
+field_nowhere (b ∷ bs) nowhere =
+    rw (other_byte b (nowhere 0 (omega arith)), field_nowhere bs (λ k lt. nowhere (suc k) (omega (arith, lt)))) refl
 
 -- ---- a field and the rest spell the text
 

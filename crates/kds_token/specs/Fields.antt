@@ -1,5 +1,5 @@
 -- Fields of a text, which colons part.
-use Rattle.std.specs.Prelude.{◌≡◌, ℕ, ◌+◌, ◌^◌, ◌<◌, List, [], ◌∷◌, ◌++◌, length, take, drop, ◌==◌, false, nat_lt, if◌then◌else◌, Option, Some, None, option_map, option_and_then}
+use Rattle.std.specs.Prelude.{◌≡◌, ℕ, ◌^◌, List, [], ◌∷◌, ◌==◌, false, nat_lt, if◌then◌else◌, Option, Some, None, option_map, option_and_then}
 use Rattle.kds_base.specs.NumberText.{number_of}
 
 infixl 10 ◌>>=◌
@@ -16,12 +16,6 @@ field (b ∷ bs) = if b == 58 then Some ([], bs) else option_map (λ p. (b ∷ p
 abbrev pub HasNoColon : List ℕ → Type 0
 HasNoColon [] = Unit {0}
 HasNoColon (b ∷ bs) = ((b == 58) ≡ false) × HasNoColon bs
-
--- the first colon stands here
-pub record IsFirstColon (text : List ℕ) (at : ℕ) : Type 0 where
-  pub within : at < length text
-  pub before : HasNoColon (take at text)
-  pub parts : text ≡ take at text ++ 58 ∷ drop (at + 1) text
 
 -- a moment is below 2 ^ 62
 abbrev pub in_time : ℕ → Option ℕ

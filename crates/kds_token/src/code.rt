@@ -1,5 +1,5 @@
 //! Bytes in standard base64 with padding.
-ghost use Rattle.std.specs.Prelude.{◌≡◌, ℕ, List, Some, IfOk};
+ghost use Rattle.std.specs.Prelude.{◌≡◌, option_map, IfOk};
 ghost use Rattle.base64.specs.Engines.{standard};
 ghost use Rattle.base64.specs.GeneralPurpose.{decoded_of, encode_of};
 
@@ -13,16 +13,26 @@ pub fn encoded(alloc: Global, bytes: &[u8]) -> Result<Octets, Memory>
     ensures { IfOk result (λ o. o ≡ encode_of standard bytes.now) }
 {
     let text = STANDARD.encode(alloc, bytes)?;
-    Ok(Octets::from_vec(text.into_bytes()))
+    Ok(Octets::unshared(text.into_bytes()))
+}
+
+/// The bytes of a text in a vector (RFC 4648, section 4). `None` exactly where it is the text of no bytes.
+pub fn bytes_of(alloc: Global, text: &[u8]) -> Result<Option<Vec<u8>>, Memory>
+    ensures { IfOk result (λ o. option_map (λ v. v.items) o ≡ decoded_of standard text.now) }
+{
+    match STANDARD.decode(alloc, text) {
+        Ok(bytes) => Ok(Some(bytes)),
+        Err(DecodeAllocError::OutOfMemory) => Err(Memory),
+        Err(DecodeAllocError::DecodeError(_)) => Ok(None),
+    }
 }
 
 /// The bytes of a text (RFC 4648, section 4). `None` exactly where it is the text of no bytes.
 pub fn decoded(alloc: Global, text: &[u8]) -> Result<Option<Octets>, Memory>
     ensures { IfOk result (λ o. o ≡ decoded_of standard text.now) }
 {
-    match STANDARD.decode(alloc, text) {
-        Ok(bytes) => Ok(Some(Octets::from_vec(bytes))),
-        Err(DecodeAllocError::OutOfMemory) => Err(Memory),
-        Err(DecodeAllocError::DecodeError(_)) => Ok(None),
+    match bytes_of(alloc, text)? {
+        Some(bytes) => Ok(Some(Octets::from_vec(bytes))),
+        None => Ok(None),
     }
 }

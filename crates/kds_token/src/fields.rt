@@ -1,25 +1,18 @@
 //! The fields of a token, which colons part.
-ghost use Rattle.std.specs.Prelude.{◌≡◌, MatchOption, option_map};
-ghost use Rattle.kds_token.specs.Fields.{field, HasNoColon, IsFirstColon, moment_of};
+ghost use Rattle.std.specs.Prelude.{◌≡◌, ◌≤◌, ◌+◌, ◌++◌, decimal, option_map};
+ghost use Rattle.arrayvec.specs.ArrayString.{array_string_len};
+ghost use Rattle.kds_token.specs.Fields.{field, moment_of};
 
+use arrayvec::ArrayString;
+use itoa::Buffer;
 use kds_base::{Moment, read_u64};
-
-fn first_colon(text: &[u8]) -> Option<usize>
-    ensures { MatchOption result (HasNoColon text.now) (IsFirstColon text.now) }
-{
-    for (at, b) in text.iter().enumerate() {
-        if *b == b':' {
-            return Some(at);
-        }
-    }
-    None
-}
+use memchr::memchr;
 
 /// The part before the first colon, and what follows that colon.
 pub fn cut(text: &[u8]) -> Option<(&[u8], &[u8])>
     ensures { option_map (λ p. (p.0.now, p.1.now)) result ≡ field text.now }
 {
-    match first_colon(text) {
+    match memchr(b':', text) {
         Some(at) => {
             let (front, _) = text.split_at(at);
             let (_, back) = text.split_at(at + 1);
@@ -27,6 +20,16 @@ pub fn cut(text: &[u8]) -> Option<(&[u8], &[u8])>
         }
         None => None,
     }
+}
+
+/// Adds a number. Condition: there is room for 20 digits.
+pub fn put_number(text: &mut ArrayString<96>, n: u64)
+    requires { array_string_len text.old ≤ 76 }
+    ensures bytes { text.new.bytes ≡ text.old.bytes ++ decimal n }
+    ensures len { array_string_len text.new ≤ array_string_len text.old + 20 }
+{
+    let mut digits = Buffer::new();
+    text.push_str(digits.format(n));
 }
 
 /// The moment of a number text.

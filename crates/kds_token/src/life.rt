@@ -28,39 +28,3 @@ pub fn page_expired(page: &Page, clock: Moment) -> bool
 {
     expired(page.issued, clock)
 }
-
-#[cfg(test)]
-mod tests {
-    use super::*;
-    use kds_base::{ShardNo, StreamNo};
-
-    fn ages(clock: u64) -> Option<(bool, bool)> {
-        let issued = Moment::new(2000)?;
-        let clock = Moment::new(clock)?;
-        let iter = Iter {
-            stream: StreamNo(1),
-            shard: ShardNo(0),
-            position: 0,
-            issued,
-        };
-        let page = Page {
-            stream: StreamNo(1),
-            after: ShardNo(0),
-            issued,
-        };
-        Some((iter_expired(&iter, clock), page_expired(&page, clock)))
-    }
-
-    #[test]
-    fn five_minutes(rt: HostRuntime) {
-        let cases = [
-            (1000, false),
-            (2000, false),
-            (302_000, false),
-            (302_001, true),
-        ];
-        for (clock, want) in cases {
-            assert_eq!(rt; ages(clock), Some((want, want)), "at {clock}");
-        }
-    }
-}

@@ -1,11 +1,11 @@
 use Rattle.std.proofs.Common.{sym, ap}
 use Rattle.std.specs.Result.{result_ok}
 use Rattle.base64.specs.GeneralPurpose.{decoded_of}
-use Rattle.kds_token.proofs.code.decoded.Goals as goal
+use Rattle.kds_token.proofs.code.bytes_of.Goals as goal
 
 pub returns-in-Ok : goal.returns-in-Ok
 unfolding decoded_of
-returns-in-Ok c = rw c.from_vec.ensures (sym (ap result_ok c.in-Ok.ensures.ok))
+returns-in-Ok c = sym (ap result_ok c.in-Ok.ensures.ok)
 
 pub returns-in-Err-DecodeError : goal.returns-in-Err-DecodeError
 unfolding decoded_of
