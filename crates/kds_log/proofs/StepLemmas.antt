@@ -1,22 +1,25 @@
--- A batch that grows, one record after another.
-use Rattle.std.proofs.Common.{◌≡◌, ℕ, zero, suc, ◌+◌, ◌-◌, ◌<◌, ◌≤◌, Bool, true, List, [], ◌∷◌, ◌++◌, Option, Some, length, get_or, drop, map, refl, sym, ap, ◌∙◌, arith}
-use Rattle.std.specs.Prelude.{cond, nat_le}
+-- A batch that grows, one record after another, and the first record from a place on.
+use Rattle.std.proofs.Common.{◌≡◌, ℕ, zero, suc, ◌+◌, ◌-◌, ◌<◌, ◌≤◌, true, List, [], ◌∷◌, ◌++◌, Some, None, length, get_or, drop, map, refl, sym, ap, ◌∙◌, arith}
+use Rattle.std.specs.Prelude.{nat_le}
 use Rattle.std.proofs.lemmas.Bool.Decides.{nat_tests}
 use Rattle.std.proofs.lemmas.List.{at_drop_more, drop_all, append-nil, append_assoc}
-use Rattle.kds_defs.specs.Records.{Logged, beginning, is_left, left_among, logged, stored}
+use Rattle.kds_defs.specs.Records.{Logged, beginning, logged, stored}
 use Rattle.kds_defs.specs.declared.reply.Stored.{Stored}
-use Rattle.kds_log.specs.Log.{first_number, since}
+use Rattle.kds_log.specs.Log.{first_arrival, first_number}
 
--- what is left of the records from a place on
-abbrev pub ahead : ℕ → ℕ → List Stored → ℕ → List Logged
-ahead floor position xs i = left_among floor position (map logged (drop i xs))
+-- the records from a place on
+abbrev pub ahead : List Stored → ℕ → List Logged
+ahead xs i = map logged (drop i xs)
 
-ahead_more : (floor position : ℕ) (xs : List Stored) (i : ℕ) (x : Stored) (b : Bool) → i < length xs → x ≡ get_or xs i x → is_left floor position (logged x) ≡ b
-    → ahead floor position xs i ≡ cond b (logged x ∷ ahead floor position xs (i + 1)) (ahead floor position xs (i + 1))
-ahead_more floor position xs i x b lt is t =
-    at_drop_more (λ ys. left_among floor position (map logged ys)) xs i x lt
-    ∙ ap (λ (y : Stored). cond (is_left floor position (logged y)) (logged y ∷ ahead floor position xs (i + 1)) (ahead floor position xs (i + 1))) (sym is)
-    ∙ ap (λ (c : Bool). cond c (logged x ∷ ahead floor position xs (i + 1)) (ahead floor position xs (i + 1))) t
+pub ahead_more : (xs : List Stored) (i : ℕ) (x : Stored) → i < length xs → x ≡ get_or xs i x → ahead xs i ≡ logged x ∷ ahead xs (i + 1)
+ahead_more xs i x lt is =
+    at_drop_more (λ ys. map logged ys) xs i x lt
+    ∙ ap (λ (y : Stored). logged y ∷ ahead xs (i + 1)) (sym is)
+
+pub ahead_none : (xs : List Stored) (i : ℕ) → length xs ≤ i → ahead xs i ≡ []
+ahead_none xs i le = ap (map logged) (drop_all i xs le)
+
+-- ---- batches
 
 -- the batch so far, and the beginning of what is left, are the whole batch
 abbrev pub Grows : List Stored → ℕ → ℕ → List Logged → List Stored → Type 0
@@ -35,29 +38,34 @@ beginning-nil : (left room : ℕ) → beginning left room [] ≡ []
 beginning-nil zero room = refl
 beginning-nil (suc left) room = refl
 
-module _ (floor position : ℕ) (xs : List Stored) (i : ℕ) (x : Stored) (within : i < length xs) (is : x ≡ get_or xs i x) where
-  -- a record that is left, and fits, is taken
-  pub grows_by : (batch : List Stored) (left room bytes : ℕ) (whole : List Stored) → is_left floor position (logged x) ≡ true → (left ≡ 0 → ⊥) → bytes ≡ (logged x).bytes → bytes ≤ room
-      → Grows batch left room (ahead floor position xs i) whole → Grows (batch ++ x ∷ []) (left - 1) (room - bytes) (ahead floor position xs (i + 1)) whole
-  grows_by batch left room bytes whole t some same small h =
-      let rest = ahead floor position xs (i + 1) in
-      let small' : (logged x).bytes ≤ room = rw same at small in
-      let e : ahead floor position xs i ≡ logged x ∷ rest = ahead_more floor position xs i x true within is t in
-      let one : beginning left room (ahead floor position xs i) ≡ logged x ∷ beginning (left - 1) (room - bytes) rest =
-      ap (beginning left room) e ∙ beginning_one left room (logged x) rest some (fits (logged x).bytes room small') ∙ ap (λ n. logged x ∷ beginning (left - 1) (room - n) rest) (sym same) in
-      append_assoc batch (x ∷ []) (map stored (beginning (left - 1) (room - bytes) rest)) ∙ ap (λ taken. batch ++ map stored taken) (sym one) ∙ h
-
-  -- a record that is left, and arrived late enough, is the first
-  pub first_found : (moment : ℕ) (whole : Option ℕ) → is_left floor position (logged x) ≡ true → nat_le moment x.arrival ≡ true
-      → first_number (since moment (ahead floor position xs i)) ≡ whole → Some x.seq ≡ whole
-  first_found moment whole t late h =
-      let rest = ahead floor position xs (i + 1) in
-      sym (ap (λ rs. first_number (since moment rs)) (ahead_more floor position xs i x true within is t)
-      ∙ ap (λ (b : Bool). first_number (cond b (logged x ∷ since moment rest) (since moment rest))) late) ∙ h
+-- a record that fits is taken
+pub grows_by : (xs : List Stored) (i : ℕ) (x : Stored) → i < length xs → x ≡ get_or xs i x → (batch : List Stored) (left room bytes : ℕ) (whole : List Stored) → (left ≡ 0 → ⊥) → bytes ≡ (logged x).bytes → bytes ≤ room
+    → Grows batch left room (ahead xs i) whole → Grows (batch ++ x ∷ []) (left - 1) (room - bytes) (ahead xs (i + 1)) whole
+grows_by xs i x within is batch left room bytes whole some same small h =
+    let rest = ahead xs (i + 1) in
+    let small' : (logged x).bytes ≤ room = rw same at small in
+    let one : beginning left room (ahead xs i) ≡ logged x ∷ beginning (left - 1) (room - bytes) rest =
+    ap (beginning left room) (ahead_more xs i x within is) ∙ beginning_one left room (logged x) rest some (fits (logged x).bytes room small') ∙ ap (λ n. logged x ∷ beginning (left - 1) (room - n) rest) (sym same) in
+    append_assoc batch (x ∷ []) (map stored (beginning (left - 1) (room - bytes) rest)) ∙ ap (λ taken. batch ++ map stored taken) (sym one) ∙ h
 
 -- at the end of the records the batch is whole
-pub grows_all : (floor position : ℕ) (xs : List Stored) (i : ℕ) (batch : List Stored) (left room : ℕ) (whole : List Stored) → length xs ≤ i
-    → Grows batch left room (ahead floor position xs i) whole → batch ≡ whole
-grows_all floor position xs i batch left room whole le h =
+pub grows_all : (xs : List Stored) (i : ℕ) (batch : List Stored) (left room : ℕ) (whole : List Stored) → length xs ≤ i
+    → Grows batch left room (ahead xs i) whole → batch ≡ whole
+grows_all xs i batch left room whole le h =
     sym (append-nil batch)
-    ∙ ap (λ taken. batch ++ map stored taken) (sym (ap (λ ys. beginning left room (left_among floor position (map logged ys))) (drop_all i xs le) ∙ beginning-nil left room)) ∙ h
+    ∙ ap (λ taken. batch ++ map stored taken) (sym (ap (beginning left room) (ahead_none xs i le) ∙ beginning-nil left room)) ∙ h
+
+-- ---- the first record from a place on
+
+module _ (xs : List Stored) (i : ℕ) (rs : List Logged) (is_rest : rs ≡ ahead xs i) where
+  pub number_found : (x : Stored) → i < length xs → x ≡ get_or xs i x → Some x.seq ≡ first_number rs
+  number_found x within is = sym (ap first_number (is_rest ∙ ahead_more xs i x within is))
+
+  pub arrival_found : (x : Stored) → i < length xs → x ≡ get_or xs i x → Some x.arrival ≡ first_arrival rs
+  arrival_found x within is = sym (ap first_arrival (is_rest ∙ ahead_more xs i x within is))
+
+  pub no_number : length xs ≤ i → None ≡ first_number rs
+  no_number le = sym (ap first_number (is_rest ∙ ahead_none xs i le))
+
+  pub no_arrival : length xs ≤ i → None ≡ first_arrival rs
+  no_arrival le = sym (ap first_arrival (is_rest ∙ ahead_none xs i le))

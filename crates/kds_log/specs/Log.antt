@@ -8,7 +8,7 @@ pub record LogValue : Type 0 where
   pub kept : List Logged
   pub last : Option ℕ
 
--- a log, and for how many records more it has memory
+-- a log, and for how many records more memory is reserved
 pub record LogWithRoom : Type 0 where
   pub kept : List Logged
   pub last : Option ℕ

@@ -6,32 +6,37 @@ ghost use Rattle.kds_defs.specs.Records.{beginning, left_among, logged, numbers_
 ghost use Rattle.kds_defs.specs.Streams.{floor_of};
 ghost use Rattle.kds_log.specs.Log.{first_arrival, first_number, log_of, since, IsLeast, IsOrderly};
 
-use crate::record::{copy, drop_below, floor_of, is_left, is_since, payload_bytes};
+use crate::batch::batch_from;
+use crate::place::{drop_below, first_since, place};
+use crate::record::floor_of;
 use kds_base::{Items, Memory, Moment, Seq};
 use kds_defs::Stored;
-use kds_defs::limits::BATCH_BYTES;
 use std::alloc::Global;
+use std::collections::VecDeque;
 use std::marker::Model;
 
 /// The records of a shard that are kept, in the order of their numbers. A record that arrived at or before the
 /// cut counts as trimmed also where it is still kept. Contracts see the kept records, the greatest number ever
-/// appended, and for how many records more there is memory.
+/// appended, and for how many records more memory is reserved.
 #[derive(Drop)]
 pub struct ShardLog {
-    records: Vec<Stored>,
+    records: VecDeque<Stored>,
     last: Option<Seq>,
+    /// For how many records more memory is reserved.
+    reserved: usize,
 }
 
 impl Model for ShardLog {
-    ghost use Rattle.std.specs.Prelude.{map, vec_capacity, vec_len, ◌-◌};
+    ghost use Rattle.std.specs.Prelude.{◌-◌, ◌≤◌, map};
+    ghost use Rattle.std.specs.VecDeque.{deque_capacity, deque_len};
     ghost use Rattle.kds_defs.specs.Records.{logged};
     ghost use Rattle.kds_log.specs.Log.{LogWithRoom, IsOrderly};
 
     ghost Value = { LogWithRoom };
 
-    ghost view = { λ l. record { kept = map logged l.records.items; last = l.last; room = vec_capacity l.records - vec_len l.records } };
+    ghost view = { λ l. record { kept = map logged l.records.items; last = l.last; room = l.reserved } };
 
-    ghost invariant = { λ l. IsOrderly (record { kept = map logged l.records.items; last = l.last }) };
+    ghost invariant = { λ l. IsOrderly (record { kept = map logged l.records.items; last = l.last }) × (l.reserved ≤ deque_capacity l.records - deque_len l.records) };
 }
 
 impl ShardLog {
@@ -41,13 +46,14 @@ impl ShardLog {
         ensures { log_of result ≡ record { kept = []; last = None } }
     {
         ShardLog {
-            records: Vec::new(alloc),
+            records: VecDeque::new(alloc),
             last: None,
+            reserved: 0,
         }
     }
 
     /// Adds a record, whose number is above all before and which arrived no earlier than they did. After
-    /// `Memory` the log is as before.
+    /// `Memory` the log is as before. What was reserved is given up.
     pub fn append(&mut self, item: Stored) -> Result<(), Memory>
         requires number { IfSome self.old.last (λ n. n < item.seq) }
         requires arrival { AllByRecursion (λ r. r.arrival ≤ item.arrival) self.old.kept }
@@ -55,7 +61,8 @@ impl ShardLog {
         ensures err { OnErr result (log_of self.new ≡ log_of self.old) }
     {
         let seq = item.seq;
-        match self.records.push(item) {
+        self.reserved = 0;
+        match self.records.push_back(item) {
             Ok(()) => {
                 self.last = Some(seq);
                 Ok(())
@@ -64,14 +71,23 @@ impl ShardLog {
         }
     }
 
-    /// Takes memory for so many records more. The log is as before, whatever the answer.
-    pub fn reserve(&mut self, more: u64) -> Result<(), Memory>
+    /// Reserves memory for one record more than it is reserved for. The log is as before, whatever the answer.
+    pub fn reserve_one(&mut self) -> Result<(), Memory>
         ensures same { log_of self.new ≡ log_of self.old }
-        ensures room { OnOk result (more ≤ self.new.room) }
-        ensures no_less { self.old.room ≤ self.new.room }
+        ensures room { OnOk result (self.new.room ≡ self.old.room + 1) }
     {
-        self.records.reserve(more as usize)?;
+        let reserved = self.reserved + 1;
+        self.records.reserve(reserved)?;
+        self.reserved = reserved;
         Ok(())
+    }
+
+    /// Gives up what was reserved. The log is as before.
+    pub fn release(&mut self)
+        ensures same { log_of self.new ≡ log_of self.old }
+        ensures none { self.new.room ≡ 0 }
+    {
+        self.reserved = 0;
     }
 
     /// Adds a record as `append` does, in memory that was reserved.
@@ -83,13 +99,17 @@ impl ShardLog {
         ensures room { self.new.room + 1 ≡ self.old.room }
     {
         self.last = Some(item.seq);
-        self.records.push_reserved(item);
+        self.records.push_back_reserved(item);
+        self.reserved -= 1;
     }
 
-    /// Removes the records that arrived at or before the cut, and no others.
+    /// Removes the records that arrived at or before the cut, and no others. What was reserved is given up, and a log
+    /// without records keeps no memory.
     pub fn trim(&mut self, cut: Moment)
-        ensures { log_of self.new ≡ record { kept = left_among (floor_of (Some cut)) 0 self.old.kept; last = self.old.last } }
+        ensures none { self.new.room ≡ 0 }
+        ensures value { log_of self.new ≡ record { kept = left_among (floor_of (Some cut)) 0 self.old.kept; last = self.old.last } }
     {
+        self.reserved = 0;
         drop_below(&mut self.records, floor_of(Some(cut)));
     }
 
@@ -105,23 +125,8 @@ impl ShardLog {
         ensures value { IfOk result (λ b. b ≡ map stored (beginning limit BATCH_BYTES (left_among (floor_of cut) position self.now.kept))) }
         ensures orderly { IsOrderly (log_of self.now) }
     {
-        let floor = floor_of(cut);
-        let mut batch = Items::new(alloc);
-        let mut left = limit;
-        let mut room = BATCH_BYTES;
-        for item in &self.records {
-            if !is_left(item, floor, position) {
-                continue;
-            }
-            let bytes = payload_bytes(item);
-            if left == 0 || bytes > room {
-                return Ok(batch);
-            }
-            batch.push(copy(alloc, item)?)?;
-            left -= 1;
-            room -= bytes;
-        }
-        Ok(batch)
+        let start = place(&self.records, floor_of(cut), position);
+        batch_from(alloc, &self.records, start, limit)
     }
 
     /// When the first untrimmed record at or above the position arrived. `None` exactly where there is none.
@@ -129,13 +134,11 @@ impl ShardLog {
         ensures value { result ≡ first_arrival (left_among (floor_of cut) position self.now.kept) }
         ensures orderly { IsOrderly (log_of self.now) }
     {
-        let floor = floor_of(cut);
-        for item in &self.records {
-            if is_left(item, floor, position) {
-                return Some(item.arrival);
-            }
+        let start = place(&self.records, floor_of(cut), position);
+        match self.records.get(start) {
+            Some(item) => Some(item.arrival),
+            None => None,
         }
-        None
     }
 
     /// The least number of an untrimmed record that arrived at or after the moment (Kinesis API Reference,
@@ -145,13 +148,7 @@ impl ShardLog {
         ensures value { result ≡ first_number (since moment (left_among (floor_of cut) 0 self.now.kept)) }
         ensures orderly { IsOrderly (log_of self.now) }
     {
-        let floor = floor_of(cut);
-        for item in &self.records {
-            if is_left(item, floor, 0) && is_since(item, moment) {
-                return Some(item.seq);
-            }
-        }
-        None
+        first_since(&self.records, floor_of(cut).max(moment.ms()))
     }
 
     /// The greatest number ever appended, also where its record is trimmed. `None` exactly where there was none.
@@ -236,7 +233,7 @@ mod tests {
     #[test]
     fn appends_in_reserved_memory(rt: HostRuntime) -> Result<(), Fail> {
         let mut log = ShardLog::new(rt.alloc(), Seq(1));
-        log.reserve(1)?;
+        log.reserve_one()?;
         log.append_reserved(Stored {
             seq: Seq(1),
             arrival: moment(1000),

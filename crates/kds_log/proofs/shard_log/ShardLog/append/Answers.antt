@@ -1,4 +1,4 @@
-use Rattle.std.proofs.Common.{◌<◌, ◌≤◌, sym, subst}
+use Rattle.std.proofs.Common.{◌<◌, ◌≤◌, sym, subst, arith}
 use Rattle.std.specs.Prelude.{IfSome}
 use Rattle.std.specs.List.{AllByRecursion}
 use Rattle.std.proofs.lemmas.List.{map_push}
@@ -9,8 +9,10 @@ use Rattle.kds_log.proofs.shard_log.ShardLog.append.Goals as goal
 
 pub invariant_of-self : goal.invariant_of-self
 invariant_of-self c =
-    let e = c.in-Ok.ensures.items in
-    rw (e, map_push logged c.self.inside.records.items c.args.item)
-    (orderly-append _ (logged c.args.item)
-    (subst (λ (v : LogWithRoom). IfSome v.last (λ n. n < c.args.item.seq)) (sym c.self.view_is) c.requires.number)
-    (subst (λ (v : LogWithRoom). AllByRecursion (λ r. r.arrival ≤ c.args.item.arrival) v.kept) (sym c.self.view_is) c.requires.arrival) c.self.invariant)
+    let e = c.in-Ok.ensures.items in (
+      rw (e, map_push logged c.self.inside.records.items c.args.item)
+          (orderly-append _ (logged c.args.item)
+          (subst (λ (v : LogWithRoom). IfSome v.last (λ n. n < c.args.item.seq)) (sym c.self.view_is) c.requires.number)
+          (subst (λ (v : LogWithRoom). AllByRecursion (λ r. r.arrival ≤ c.args.item.arrival) v.kept) (sym c.self.view_is) c.requires.arrival) c.self.invariant.0),
+      omega arith,
+    )
