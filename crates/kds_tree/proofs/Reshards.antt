@@ -1,8 +1,8 @@
 -- Splits and merges over plain lists.
-use Rattle.std.proofs.Common.{◌≡◌, ℕ, zero, suc, ◌+◌, ◌≤◌, Bool, true, false, List, [], ◌∷◌, ◌++◌, length, Option, Some, None, refl, sym, ap, subst, ◌∙◌, arith}
-use Rattle.std.specs.Prelude.{Ok, slice_get, slice_set, slice_index_or, not, is_some, ◌&&◌, if◌then◌else◌}
+use Rattle.std.proofs.Common.{◌≡◌, ℕ, zero, suc, ◌+◌, ◌<◌, ◌≤◌, Bool, true, false, List, [], ◌∷◌, ◌++◌, length, map, Option, Some, None, refl, sym, ap, subst, ◌∙◌, arith}
+use Rattle.std.specs.Prelude.{Ok, Err, slice_get, slice_set, slice_index_or, not, is_some, ◌&&◌, if◌then◌else◌}
 use Rattle.std.proofs.lemmas.Option.{slice_get_within, get_or_from_slice_get}
-use Rattle.std.proofs.lemmas.List.{get_or_append_left}
+use Rattle.std.proofs.lemmas.List.{get_or_append_left, length-append}
 use Rattle.kds_base.specs.Span.{Span, is_inside, lower_part, upper_part, are_adjacent, joined}
 use Rattle.kds_defs.specs.declared.reply.Refusal.{Refusal}
 use Rattle.kds_defs.specs.Shards.{ShardState, Closing, is_open, new_shard, range_of, with_closed, split_shards, merged_shards, made_shards}
@@ -11,6 +11,11 @@ use Rattle.kds_defs.specs.Tiled.{AreNumbered, IsTiled}
 use Rattle.kds_defs.proofs.Numbers.{numbered-closed, numbered-append, length-closed, numbered-first}
 use Rattle.kds_defs.proofs.Tiles.{tiled_split, tiled_merge, tiled_new}
 use Rattle.kds_base.specs.Span.{uniform}
+use Rattle.std.specs.List.{filter}
+use Rattle.std.specs.List.Sorted.{IsNonDecreasingBy, IsPermutation}
+use Rattle.kds_tree.specs.Starts.{AreStarts, own_start, stays}
+use Rattle.kds_tree.specs.declared.start.Start.{Start}
+use Rattle.kds_tree.proofs.OpenStarts.{reshaped, closes_one, closes_two}
 use Rattle.kds_tree.specs.Tree.{IsTree, split_refusal, merge_refusal, answer_by, value_by}
 
 -- ---- what no refusal says
@@ -122,9 +127,18 @@ closed_at (z ∷ zs) ys (suc i) x y closing at is = ap (λ ss. z ∷ ss) (closed
 
 -- ---- what the calls owe
 
+-- the starts after a change: those of two shards are away, some others are there, and all are put in order
+abbrev pub StartsGo : List ShardState → ℕ → ℕ → List ShardState → List ShardState → Type 0
+StartsGo xs sh other born zs = IsTree xs → (ss more ts : List Start) → AreStarts ss xs → more ≡ filter (stays sh other) ss ++ map own_start born → IsPermutation more ts → IsNonDecreasingBy (λ (s : Start). s.key) ts → AreStarts ts zs
+
 answered : {A : Type 0} (o : Option Refusal) (x y : A) → Ok x ≡ answer_by o y → (o ≡ None) × (x ≡ y)
 answered None x y h = let e : x ≡ y = cc in (refl, e)
 answered (Some r) x y h = absurd cc
+
+-- a call that is refused leaves the shards as they were
+pub refused_value : {A : Type 0} (o : Option Refusal) (r : Refusal) (x : A) (before after : List ShardState) → Err r ≡ answer_by o x → before ≡ value_by o before after
+refused_value None r x before after h = absurd cc
+refused_value (Some s) r x before after h = refl
 
 -- the element that is read at the place is the shard there
 read_at : (xs ys zs : List ShardState) (i : ℕ) (x old : ShardState) → zs ≡ xs ++ ys → slice_get xs i ≡ Some x → old ≡ slice_index_or zs i old → x ≡ old
@@ -136,10 +150,11 @@ read_at xs ys zs i x old is at read =
     ∙ get_or_from_slice_get xs i x old at
     )
 
-pub record Splits (xs : List ShardState) (sh at start : ℕ) (closing : Closing) (zs : List ShardState) : Type 0 where
+pub record Splits (xs : List ShardState) (sh at start : ℕ) (closing : Closing) (low high : ShardState) (zs : List ShardState) : Type 0 where
   pub allowed : split_refusal xs sh at ≡ None
   pub value : zs ≡ split_shards sh at closing start xs
   pub tree : IsTree xs → IsTree zs
+  pub starts : StartsGo xs sh sh (low ∷ high ∷ []) zs
 
 closed_in : (xs ys zs : List ShardState) (sh : ℕ) (x : ShardState) (closing : Closing) (old new : ShardState) → slice_get xs sh ≡ Some x → zs ≡ xs ++ ys → old ≡ slice_index_or zs sh old → new ≡ record old { closing = Some closing } → slice_set zs sh new ≡ with_closed sh closing xs ++ ys
 closed_in xs ys zs sh x closing old new made is read close =
@@ -167,7 +182,7 @@ pub splits : (xs zs : List ShardState) (sh i at start a b s : ℕ) (closing : Cl
     → zs ≡ xs ++ low ∷ high ∷ []
     → old ≡ slice_index_or zs i old
     → new ≡ record old { closing = Some closing }
-    → Splits xs sh at (start + 1) closing (slice_set zs i new)
+    → Splits xs sh at (start + 1) closing low high (slice_set zs i new)
 splits xs zs sh i at start a b s closing ranges low high old new answer is_i is_a is_b is_s is_low is_high is read close =
     let r = range_of (slice_get xs sh) in
     let h = answered (split_refusal xs sh at) ranges (halves r at) answer in
@@ -185,23 +200,38 @@ splits xs zs sh i at start a b s closing ranges low high old new answer is_i is_
       allowed = h.0;
       value = value;
       tree = λ tree. subst IsTree (sym value) (tree_split xs sh at (start + 1) closing h.0 tree);
+      starts = λ tree ss more ts starts away same order.
+          let lower_child = new_shard (length xs) (lower_part r at) (Some sh) None (start + 1) in
+          let upper_child = new_shard (length xs + 1) (upper_part r at) (Some sh) None (start + 1) in
+          let is_born : low ∷ high ∷ [] ≡ lower_child ∷ upper_child ∷ [] = ap (λ (x : ShardState). x ∷ high ∷ []) e_low ∙ ap (λ (x : ShardState). lower_child ∷ x ∷ []) e_high in
+          let away' = away ∙ ap (λ (born : List ShardState). filter (stays sh sh) ss ++ map own_start born) is_born in
+          subst (λ (us : List ShardState). AreStarts ts us) (sym value)
+          (reshaped xs (with_closed sh closing xs) (lower_child ∷ upper_child ∷ []) sh sh (closes_one xs sh closing) (refl, (refl, tt)) tree.numbered ss more ts starts away' same order);
     }
+
+-- a shard that is split is there
+pub split_within : (xs zs : List ShardState) (sh i at : ℕ) (ranges : Span × Span) (low high : ShardState) → Ok ranges ≡ answer_by (split_refusal xs sh at) (halves (range_of (slice_get xs sh)) at) → i ≡ sh → zs ≡ xs ++ low ∷ high ∷ [] → i < length zs
+split_within xs zs sh i at ranges low high answer is_i is =
+    let h = answered (split_refusal xs sh at) ranges (halves (range_of (slice_get xs sh)) at) answer in
+    let can = can_split xs sh at h.0 in
+    omega (arith, is_i, slice_get_within xs sh can.state can.made, ap length is, length-append xs (low ∷ high ∷ []))
 
 -- the value after an accepted call
 by_none : (o : Option Refusal) (before after zs : List ShardState) → o ≡ None → zs ≡ after → zs ≡ value_by o before after
 by_none None before after zs none is = is
 by_none (Some r) before after zs none is = absurd cc
 
-pub split_value : (xs : List ShardState) (sh at start : ℕ) (closing : Closing) (zs : List ShardState) → Splits xs sh at start closing zs → zs ≡ value_by (split_refusal xs sh at) xs (split_shards sh at closing start xs)
-split_value xs sh at start closing zs s = by_none (split_refusal xs sh at) xs (split_shards sh at closing start xs) zs s.allowed s.value
+pub split_value : (xs : List ShardState) (sh at start : ℕ) (closing : Closing) (low high : ShardState) (zs : List ShardState) → Splits xs sh at start closing low high zs → zs ≡ value_by (split_refusal xs sh at) xs (split_shards sh at closing start xs)
+split_value xs sh at start closing low high zs s = by_none (split_refusal xs sh at) xs (split_shards sh at closing start xs) zs s.allowed s.value
 
-pub record Merges (xs : List ShardState) (sh other start : ℕ) (closing : Closing) (zs : List ShardState) : Type 0 where
+pub record Merges (xs : List ShardState) (sh other start : ℕ) (closing : Closing) (child : ShardState) (zs : List ShardState) : Type 0 where
   pub allowed : merge_refusal xs sh other ≡ None
   pub value : zs ≡ merged_shards sh other closing start xs
   pub tree : IsTree xs → IsTree zs
+  pub starts : StartsGo xs sh other (child ∷ []) zs
 
-pub merge_value : (xs : List ShardState) (sh other start : ℕ) (closing : Closing) (zs : List ShardState) → Merges xs sh other start closing zs → zs ≡ value_by (merge_refusal xs sh other) xs (merged_shards sh other closing start xs)
-merge_value xs sh other start closing zs s = by_none (merge_refusal xs sh other) xs (merged_shards sh other closing start xs) zs s.allowed s.value
+pub merge_value : (xs : List ShardState) (sh other start : ℕ) (closing : Closing) (child : ShardState) (zs : List ShardState) → Merges xs sh other start closing child zs → zs ≡ value_by (merge_refusal xs sh other) xs (merged_shards sh other closing start xs)
+merge_value xs sh other start closing child zs s = by_none (merge_refusal xs sh other) xs (merged_shards sh other closing start xs) zs s.allowed s.value
 
 pub merges : (xs zs : List ShardState) (sh other i j start a s : ℕ) (closing : Closing) (range : Span) (child old new old' new' : ShardState)
     → Ok range ≡ answer_by (merge_refusal xs sh other) (joined (range_of (slice_get xs sh)) (range_of (slice_get xs other)))
@@ -212,7 +242,7 @@ pub merges : (xs zs : List ShardState) (sh other i j start a s : ℕ) (closing :
     → new ≡ record old { closing = Some closing }
     → old' ≡ slice_index_or (slice_set zs i new) j old'
     → new' ≡ record old' { closing = Some closing }
-    → Merges xs sh other (start + 1) closing (slice_set (slice_set zs i new) j new')
+    → Merges xs sh other (start + 1) closing child (slice_set (slice_set zs i new) j new')
 merges xs zs sh other i j start a s closing range child old new old' new' answer is_i is_j is_a is_s is_child is read close read' close' =
     let h = answered (merge_refusal xs sh other) range (joined (range_of (slice_get xs sh)) (range_of (slice_get xs other))) answer in
     let can = can_merge xs sh other h.0 in
@@ -231,4 +261,8 @@ merges xs zs sh other i j start a s closing range child old new old' new' answer
       allowed = h.0;
       value = value;
       tree = λ tree. subst IsTree (sym value) (tree_merged xs sh other (start + 1) closing h.0 tree);
+      starts = λ tree ss more ts starts away same order.
+          let away' = away ∙ ap (λ (born : ShardState). filter (stays sh other) ss ++ own_start born ∷ []) e_child in
+          subst (λ (us : List ShardState). AreStarts ts us) (sym value)
+          (reshaped xs (with_closed other closing once) (kept ∷ []) sh other (closes_two xs sh other closing) (refl, tt) tree.numbered ss more ts starts away' same order);
     }

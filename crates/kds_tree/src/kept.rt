@@ -1,9 +1,12 @@
+//! One shard of a stream, as the tree keeps it.
 ghost use Rattle.std.specs.Prelude.{◌≡◌, ◌≤◌, not, length, Some, None};
 ghost use Rattle.kds_base.specs.Span.{covers};
 ghost use Rattle.kds_defs.specs.Listings.{is_after_shard};
 ghost use Rattle.kds_defs.specs.Shards.{is_open, is_child, is_closed_below, new_shard, shown, with_closed};
 ghost use Rattle.kds_defs.specs.Streams.{floor_of};
+ghost use Rattle.kds_tree.specs.Starts.{start_of};
 
+use crate::start::Start;
 use kds_base::{Moment, Range, Seq, ShardNo};
 use kds_defs::Shard;
 use std::marker::Model;
@@ -66,6 +69,16 @@ impl Kept {
         ensures { result ≡ self.now.range }
     {
         self.shard.range
+    }
+
+    /// Where its range starts.
+    pub fn start(&self) -> Start
+        ensures { result ≡ start_of self.now self.now.no }
+    {
+        Start {
+            key: self.shard.range.start,
+            shard: self.shard.no,
+        }
     }
 
     pub fn is_open(&self) -> bool

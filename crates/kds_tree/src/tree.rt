@@ -1,3 +1,4 @@
+//! The shards of a stream: their making, the home of a key, listings, splits and merges.
 ghost use Rattle.std.specs.Prelude.{◌≡◌, ◌+◌, ◌-◌, ◌^◌, ◌<◌, ◌≤◌, ℕ, min, length, map, take, slice_get, Some, IsSome, IfOk, IfSome, OnOk, OnErr, IsOk};
 ghost use Rattle.std.specs.List.{filter};
 ghost use Rattle.std.specs.Option.{option_map};
@@ -6,9 +7,11 @@ ghost use Rattle.kds_defs.specs.Listings.{are_more, is_after_shard};
 ghost use Rattle.kds_defs.specs.Shards.{children_among, home_among, is_open, listed_among, made_shards, merged_shards, range_of, shown, split_shards, with_closed};
 ghost use Rattle.kds_defs.specs.Streams.{floor_of};
 ghost use Rattle.kds_defs.specs.Tiled.{AreNumbered, IsTiled};
+ghost use Rattle.kds_tree.specs.Starts.{AreStarts};
 ghost use Rattle.kds_tree.specs.Tree.{IsHome, answer_by, merge_refusal, split_refusal, value_by, was_expired};
 
 use crate::kept::Kept;
+use crate::start::{Start, home_of, put_in_order, take_away};
 use kds_base::{Items, Memory, Moment, Range, Seq, ShardNo};
 use kds_defs::{Refusal, Shard};
 use std::alloc::Global;
@@ -19,18 +22,21 @@ use std::marker::Model;
 #[derive(Drop)]
 pub struct ShardTree {
     shards: Vec<Kept>,
+    /// The starts of the open shards, in order.
+    starts: Vec<Start>,
 }
 
 impl Model for ShardTree {
     ghost use Rattle.std.specs.Prelude.{List};
     ghost use Rattle.kds_defs.specs.Shards.{ShardState};
+    ghost use Rattle.kds_tree.specs.Starts.{AreStarts};
     ghost use Rattle.kds_tree.specs.Tree.{IsTree};
 
     ghost Value = { List ShardState };
 
     ghost view = { λ t. t.shards.items };
 
-    ghost invariant = { λ t. IsTree t.shards.items };
+    ghost invariant = { λ t. IsTree t.shards.items × AreStarts t.starts.items t.shards.items };
 }
 
 impl ShardTree {
@@ -45,7 +51,8 @@ impl ShardTree {
         for (i, range) in ranges.as_slice().iter().enumerate() {
             shards.push(Kept::new(ShardNo(i as u64), *range, None, None, Seq(1)))?;
         }
-        Ok(ShardTree { shards })
+        let starts = open_starts(alloc, &shards)?;
+        Ok(ShardTree { shards, starts })
     }
 
     /// How many shards were made, the closed ones included.
@@ -61,7 +68,7 @@ impl ShardTree {
     pub fn open_count(&self) -> u32
         ensures { result ≡ min (length (filter is_open self.now)) (2 ^ 32 - 1) }
     {
-        count_open(&self.shards).min(u32::MAX as usize) as u32
+        self.starts.len().min(u32::MAX as usize) as u32
     }
 
     /// The shard of this number. `None` exactly where it was never made.
@@ -78,7 +85,7 @@ impl ShardTree {
         ensures found { IsHome self.now hash result }
         ensures only { (sh : ℕ) → IsHome self.now hash sh → sh ≡ result }
     {
-        home_among(&self.shards, hash)
+        home_of(&self.starts, hash)
     }
 
     /// Whether the shard was closed at or before the cut.
@@ -169,12 +176,15 @@ impl ShardTree {
         let low = ShardNo(self.len());
         let high = ShardNo(self.len() + 1);
         let start = Seq(seq.0 + 1);
-        let children = [
-            Kept::new(low, lower, Some(shard), None, start),
-            Kept::new(high, upper, Some(shard), None, start),
-        ];
-        self.shards.extend_from_slice(&children)?;
+        let lower_child = Kept::new(low, lower, Some(shard), None, start);
+        let upper_child = Kept::new(high, upper, Some(shard), None, start);
+        self.starts.reserve(2)?;
+        self.shards.extend_from_slice(&[lower_child, upper_child])?;
         self.shards[shard.0 as usize].close(seq, clock);
+        take_away(&mut self.starts, shard, shard);
+        self.starts.push_reserved(lower_child.start());
+        self.starts.push_reserved(upper_child.start());
+        put_in_order(&mut self.starts);
         Ok(Ok((low, high)))
     }
 
@@ -229,31 +239,30 @@ impl ShardTree {
         };
         let child = ShardNo(self.len());
         let start = Seq(seq.0 + 1);
-        self.shards
-            .push(Kept::new(child, range, Some(shard), Some(other), start))?;
+        let born = Kept::new(child, range, Some(shard), Some(other), start);
+        self.starts.reserve(1)?;
+        self.shards.push(born)?;
         self.shards[shard.0 as usize].close(seq, clock);
         self.shards[other.0 as usize].close(seq, clock);
+        take_away(&mut self.starts, shard, other);
+        self.starts.push_reserved(born.start());
+        put_in_order(&mut self.starts);
         Ok(Ok(child))
     }
 }
 
-/// How many of these shards are open.
-fn count_open(shards: &[Kept]) -> usize
-    ensures { result ≡ length (filter is_open shards.now) }
+/// The starts of the open ones of these shards, in order.
+fn open_starts(alloc: Global, shards: &[Kept]) -> Result<Vec<Start>, Memory>
+    ensures { AreNumbered 0 shards.now → IfOk result (λ starts. AreStarts starts.items shards.now) }
 {
-    shards.iter().filter(|kept| kept.is_open()).count()
-}
-
-/// The number of the first open shard whose range contains the key, and 0 where there is none.
-fn home_among(shards: &[Kept], hash: u128) -> ShardNo
-    ensures { result ≡ home_among (filter is_open shards.now) hash }
-{
+    let mut starts = Vec::new(alloc);
     for kept in shards {
-        if kept.is_open() && kept.range().contains(hash) {
-            return kept.shard().no;
+        if kept.is_open() {
+            starts.push(kept.start())?;
         }
     }
-    ShardNo(0)
+    put_in_order(&mut starts);
+    Ok(starts)
 }
 
 /// The shard of this number as it is shown.
