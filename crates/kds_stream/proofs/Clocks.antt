@@ -1,5 +1,5 @@
 -- What a later clock, and the trim of the logs, leave a stream to show.
-use Rattle.std.proofs.Common.{◌≡◌, ℕ, ◌+◌, ◌≤◌, Bool, true, false, List, [], ◌∷◌, map, Option, refl, sym, ap, ◌∙◌, arith}
+use Rattle.std.proofs.Common.{◌≡◌, ℕ, zero, suc, ◌+◌, ◌≤◌, Bool, true, false, List, [], ◌∷◌, Option, refl, sym, ap, ◌∙◌, arith}
 use Rattle.std.specs.Prelude.{cond, not, nat_le, nat_lt, ◌&&◌}
 use Rattle.std.proofs.lemmas.Bool.Decides.{nat_tests}
 use Rattle.kds_defs.specs.Journal.{Journal}
@@ -9,7 +9,7 @@ use Rattle.kds_log.specs.Log.{LogValue}
 use Rattle.kds_stream.proofs.Cuts.{advanced_floor, later_floor}
 use Rattle.kds_stream.specs.Showing.{AreKept, Shows}
 use Rattle.kds_stream.proofs.LogLemmas.{all-filter, all-settled, arrived_later, length-settled}
-use Rattle.kds_stream.specs.Value.{HasArrived, IsBelow, IsStream, StreamValue, cut_at, later_cut, settled_log}
+use Rattle.kds_stream.specs.Value.{HasArrived, IsBelow, IsStream, StreamValue, cut_at, later_cut, settled_at}
 
 -- ---- what is kept at a floor is kept at a higher one
 
@@ -54,15 +54,19 @@ left_twice f p g (r ∷ rs) le = left_twice_by (is_left g 0 r) (is_left f p r) r
 
 -- ---- a settled stream
 
-pub kept_settled : (floor : ℕ) (log : Journal) (s n : ℕ) (ls : List LogValue) → AreKept floor log s n ls → AreKept floor log s n (map (settled_log floor) ls)
-kept_settled floor log s n [] h = tt
-kept_settled floor log s n (l ∷ ls) h =
+kept_settled : (floor : ℕ) (log : Journal) (s n i : ℕ) (ls : List LogValue) → AreKept floor log s n ls → AreKept floor log s n (settled_at floor i ls)
+kept_settled floor log s n i [] h = tt
+kept_settled floor log s n zero (l ∷ ls) h =
     let same : left_among floor 0 l.kept ≡ left_among floor 0 (records log s n) = ap (left_among floor 0) h.0.rest ∙ left_twice floor 0 h.0.from (records log s n) h.0.early in
-    (record { from = floor; early = omega arith; rest = same }, kept_settled floor log s (n + 1) ls h.1)
+    (record { from = floor; early = omega arith; rest = same }, h.1)
+kept_settled floor log s n (suc i) (l ∷ ls) h = (h.0, kept_settled floor log s (n + 1) i ls h.1)
 
-pub shows_settled : (v : StreamValue) (log : Journal) → Shows v log
-    → Shows (record v { logs = map (settled_log (floor_of v.cut)) v.logs; clock_before = v.clock; cut_before = v.cut }) log
-shows_settled v log shown = record {
+-- the stream where the log at a place is settled, whatever clock it remembers and whose turn it is
+abbrev pub settled_place : StreamValue → ℕ → ℕ → Option ℕ → ℕ → StreamValue
+settled_place v i clock cut turn = record v { logs = settled_at (floor_of v.cut) i v.logs; clock_before = clock; cut_before = cut; turn = turn }
+
+pub shows_settled : (v : StreamValue) (i clock : ℕ) (cut : Option ℕ) (turn : ℕ) (log : Journal) → Shows v log → Shows (settled_place v i clock cut turn) log
+shows_settled v i clock cut turn log shown = record {
   live = shown.live;
   was = shown.was;
   named = shown.named;
@@ -71,18 +75,20 @@ shows_settled v log shown = record {
   shards_are = shown.shards_are;
   next_is = shown.next_is;
   floor_is = shown.floor_is;
-  kept = kept_settled (floor_of v.cut) log v.no 0 v.logs shown.kept;
+  kept = kept_settled (floor_of v.cut) log v.no 0 i v.logs shown.kept;
   none_beyond = shown.none_beyond;
 }
 
-pub settled_stream : (v : StreamValue) → IsStream v → IsStream (record v { logs = map (settled_log (floor_of v.cut)) v.logs; clock_before = v.clock; cut_before = v.cut })
-settled_stream v is = record {
-  as_many = length-settled (floor_of v.cut) v.logs ∙ is.as_many;
+pub settled_stream : (v : StreamValue) (i turn : ℕ) → IsStream v → IsStream (settled_place v i v.clock v.cut turn)
+settled_stream v i turn is = record {
+  as_many = length-settled (floor_of v.cut) i v.logs ∙ is.as_many;
   few = is.few;
   lasting = is.lasting;
-  numbers = all-settled (IsBelow v.next) (floor_of v.cut) (λ l h. h) v.logs is.numbers;
+  numbers = all-settled (IsBelow v.next) (floor_of v.cut) i (λ l h. h) v.logs is.numbers;
   endings = is.endings;
-  arrivals = all-settled (HasArrived v.clock) (floor_of v.cut) (λ l h. all-filter (λ (r : Logged). r.arrival ≤ v.clock) (is_left (floor_of v.cut) 0) l.kept h) v.logs (arrived_later v.clock_before v.clock v.logs is.order is.arrivals);
+  arrivals =
+      all-settled (HasArrived v.clock) (floor_of v.cut) i (λ l h. all-filter (λ (r : Logged). r.arrival ≤ v.clock) (is_left (floor_of v.cut) 0) l.kept h) v.logs
+      (arrived_later v.clock_before v.clock v.logs is.order is.arrivals);
   order = omega arith;
   trims = is.trims;
   trims_before = is.trims;

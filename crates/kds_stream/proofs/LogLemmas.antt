@@ -5,8 +5,8 @@ use Rattle.std.specs.List.{AllByRecursion, filter}
 use Rattle.std.proofs.lemmas.Bool.Decides.{nat_tests}
 use Rattle.std.proofs.lemmas.List.{append_assoc, take_at}
 use Rattle.kds_defs.specs.Records.{Logged, is_left, left_among}
-use Rattle.kds_log.specs.Log.{AreInOrder, IsBefore, IsOrderly, LogValue, LogWithRoom, first_arrival, log_of}
-use Rattle.kds_stream.specs.Value.{HasArrived, IsBelow, IsUnder, empty_log, settled_log, with_appended}
+use Rattle.kds_log.specs.Log.{LogValue, LogWithRoom, log_of}
+use Rattle.kds_stream.specs.Value.{HasArrived, IsBelow, IsUnder, empty_log, settled_at, settled_log, with_appended}
 
 -- ---- facts of each
 
@@ -87,10 +87,15 @@ length-appended i r [] = refl
 length-appended zero r (l ∷ ls) = refl
 length-appended (suc i) r (l ∷ ls) = ap suc (length-appended i r ls)
 
--- the same where the logs were lent to the call that appends
-pub appended_back : (n sh i : ℕ) (r : Logged) (new items lent : List LogWithRoom) → length new ≡ n → map log_of new ≡ with_appended i r (map log_of lent) → lent ≡ items → i ≡ sh → map log_of (take n (new ++ drop (length new) items)) ≡ with_appended sh r (map log_of items)
-appended_back n sh i r new items lent len is same at =
-    ap (map log_of) (written_back n new items len) ∙ is ∙ ap (λ (ls : List LogWithRoom). with_appended i r (map log_of ls)) same ∙ ap (λ j. with_appended j r (map log_of items)) at
+-- the logs with a record more in the one at a place, and without what is trimmed there, where they were lent to the
+-- call that puts it there
+pub put_back : (n sh i floor : ℕ) (r : Logged) (new items lent : List LogWithRoom) → length new ≡ n → map log_of new ≡ settled_at floor i (with_appended i r (map log_of lent)) → lent ≡ items → i ≡ sh
+    → map log_of (take n (new ++ drop (length new) items)) ≡ settled_at floor sh (with_appended sh r (map log_of items))
+put_back n sh i floor r new items lent len is same at =
+    ap (map log_of) (written_back n new items len)
+    ∙ is
+    ∙ ap (λ (ls : List LogWithRoom). settled_at floor i (with_appended i r (map log_of ls))) same
+    ∙ ap (λ j. settled_at floor j (with_appended j r (map log_of items))) at
 
 -- ---- further logs, in memory that was reserved
 
@@ -133,26 +138,33 @@ left_at_zero rs = all_left 0 rs (any_late rs)
 settled_same : (floor : ℕ) (l : LogValue) → left_among floor 0 l.kept ≡ l.kept → l ≡ settled_log floor l
 settled_same floor l h = ap (λ rs. let z : LogValue = record { kept = rs; last = l.last } in z) (sym h)
 
--- in order of arrival the first record tells
-pub settled_late : (floor : ℕ) (l : LogValue) → IsOrderly l → IfSome (first_arrival (left_among 0 0 l.kept)) (λ a. floor ≤ a) → l ≡ settled_log floor l
-settled_late floor l orderly first = settled_same floor l (by l.kept orderly.order (subst (λ rs. IfSome (first_arrival rs) (λ a. floor ≤ a)) (left_at_zero l.kept) first))
-  where
-    by : (rs : List Logged) → AreInOrder rs → IfSome (first_arrival rs) (λ a. floor ≤ a) → left_among floor 0 rs ≡ rs
-    by [] order early = refl
-    by (r ∷ rs) order early = all_left floor (r ∷ rs) (early, all_weaker (IsBefore r) (λ (x : Logged). floor ≤ x.arrival) (λ x before. let b : r.arrival ≤ x.arrival = before.1 in omega (arith, early)) rs order.0)
+-- where there is no cut nothing is trimmed
+pub settled_at_zero : (n : ℕ) (ls : List LogValue) → ls ≡ settled_at 0 n ls
+settled_at_zero n [] = refl
+settled_at_zero zero (l ∷ ls) = ap (λ x. x ∷ ls) (settled_same 0 l (left_at_zero l.kept))
+settled_at_zero (suc n) (l ∷ ls) = ap (λ xs. l ∷ xs) (settled_at_zero n ls)
 
-pub settled_at_zero : (ls : List LogValue) → ls ≡ map (settled_log 0) ls
-settled_at_zero [] = refl
-settled_at_zero (l ∷ ls) = ap (λ x. x ∷ ls) (settled_same 0 l (left_at_zero l.kept)) ∙ ap (λ xs. settled_log 0 l ∷ xs) (settled_at_zero ls)
+-- at a place that there isn't nothing is trimmed
+pub settled_beyond : (floor n : ℕ) (ls : List LogValue) → length ls ≤ n → ls ≡ settled_at floor n ls
+settled_beyond floor n [] beyond = refl
+settled_beyond floor zero (l ∷ ls) beyond = absurd (omega (arith, beyond))
+settled_beyond floor (suc n) (l ∷ ls) beyond = ap (λ xs. l ∷ xs) (settled_beyond floor n ls (omega (arith, beyond)))
 
-pub length-settled : (floor : ℕ) (ls : List LogValue) → length (map (settled_log floor) ls) ≡ length ls
-length-settled floor [] = refl
-length-settled floor (l ∷ ls) = ap suc (length-settled floor ls)
+pub settled_set : (ls : List LogWithRoom) (i floor : ℕ) (d l : LogWithRoom) → i < length ls → log_of l ≡ settled_log floor (log_of (get_or ls i d)) → map log_of (slice_set ls i l) ≡ settled_at floor i (map log_of ls)
+settled_set [] i floor d l below is = absurd (omega arith)
+settled_set (x ∷ ls) zero floor d l below is = ap (λ (y : LogValue). y ∷ map log_of ls) is
+settled_set (x ∷ ls) (suc i) floor d l below is = ap (λ (ys : List LogValue). log_of x ∷ ys) (settled_set ls i floor d l (omega arith) is)
+
+pub length-settled : (floor n : ℕ) (ls : List LogValue) → length (settled_at floor n ls) ≡ length ls
+length-settled floor n [] = refl
+length-settled floor zero (l ∷ ls) = refl
+length-settled floor (suc n) (l ∷ ls) = ap suc (length-settled floor n ls)
 
 -- what holds of each log, whatever is trimmed, holds after
-pub all-settled : (P : LogValue → Type 0) (floor : ℕ) → ((l : LogValue) → P l → P (settled_log floor l)) → (ls : List LogValue) → AllByRecursion P ls → AllByRecursion P (map (settled_log floor) ls)
-all-settled P floor f [] h = tt
-all-settled P floor f (l ∷ ls) h = (f l h.0, all-settled P floor f ls h.1)
+pub all-settled : (P : LogValue → Type 0) (floor n : ℕ) → ((l : LogValue) → P l → P (settled_log floor l)) → (ls : List LogValue) → AllByRecursion P ls → AllByRecursion P (settled_at floor n ls)
+all-settled P floor n f [] h = tt
+all-settled P floor zero f (l ∷ ls) h = (f l h.0, h.1)
+all-settled P floor (suc n) f (l ∷ ls) h = (h.0, all-settled P floor n f ls h.1)
 
 all_choice : {A : Type 0} (P : A → Type 0) (b : Bool) (x : A) (xs : List A) → P x → AllByRecursion P xs → AllByRecursion P (cond b (x ∷ xs) xs)
 all_choice P true x xs h g = (h, g)

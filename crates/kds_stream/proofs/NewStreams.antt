@@ -56,7 +56,7 @@ few_made : (count : ℕ) → IsShardCount count → length (filter is_open (made
 few_made count h = omega (arith, h.1, open_first 0 1 (uniform count), length-uniform (2 ^ 128 / count) 0 count)
 
 pub new_stream : (s : ℕ) (name : List ℕ) (made count : ℕ) (tree : List ShardState) (logs : List LogValue) (cut cut_before : Option ℕ) → IsShardCount count → tree ≡ made_shards count 1 → logs ≡ replicate count empty_log → cut ≡ cut_at made FIRST_HOURS → cut_before ≡ cut_at made FIRST_HOURS
-    → IsStream (record { no = s; name = name; made = made; hours = FIRST_HOURS; tree = tree; logs = logs; next = 1; clock = made; cut = cut; clock_before = made; cut_before = cut_before })
+    → IsStream (record { no = s; name = name; made = made; hours = FIRST_HOURS; tree = tree; logs = logs; next = 1; clock = made; cut = cut; clock_before = made; cut_before = cut_before; turn = 0 })
 new_stream s name made count tree logs cut cut_before counted shards_are logs_are is is_before = record {
   as_many = ap length logs_are ∙ length-replicate count empty_log ∙ sym (length-made count 1) ∙ ap length (sym shards_are);
   few = subst (λ (xs : List ShardState). length (filter is_open xs) ≤ OPEN_SHARDS) (sym shards_are) (few_made count counted);
@@ -91,7 +91,7 @@ module _ (log : Journal) (by s : ℕ) (name : List ℕ) (made count : ℕ) (fres
       ∙ ap floor_of (sym is)
 
   pub shows_new : (tree : List ShardState) (logs : List LogValue) (cut cut_before : Option ℕ) → tree ≡ made_shards count 1 → logs ≡ replicate count empty_log → cut ≡ cut_at made FIRST_HOURS
-      → Shows (record { no = s; name = name; made = made; hours = FIRST_HOURS; tree = tree; logs = logs; next = 1; clock = made; cut = cut; clock_before = made; cut_before = cut_before }) (plain_line made by (entry.Made s name count) ∷ log)
+      → Shows (record { no = s; name = name; made = made; hours = FIRST_HOURS; tree = tree; logs = logs; next = 1; clock = made; cut = cut; clock_before = made; cut_before = cut_before; turn = 0 }) (plain_line made by (entry.Made s name count) ∷ log)
   shows_new tree logs cut cut_before shards_are logs_are is = record {
     live = either (s == s) (is_live log s) (same_number s);
     was = either (s == s) (was_made log s) (same_number s);

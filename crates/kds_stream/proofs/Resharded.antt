@@ -12,7 +12,7 @@ use Rattle.kds_defs.specs.Histories.{answer_of, lines_of}
 use Rattle.kds_defs.specs.Journal.{Journal, Line, with_lines}
 use Rattle.kds_defs.specs.Records.{left_among, next_number, records}
 use Rattle.kds_defs.specs.Shards.{Closing, ShardState, is_open, merged_shards, new_shard, range_of, shards, split_shards, with_closed}
-use Rattle.kds_defs.specs.StreamCommands.{last_number, merge, split}
+use Rattle.kds_defs.specs.StreamCommands.{last_number, merge, split_where}
 use Rattle.kds_defs.specs.Streams.{floor_of, hours, is_live, made_at, name_of, was_made}
 use Rattle.kds_log.specs.Log.{LogValue}
 use Rattle.kds_stream.proofs.Cuts.{same_floor_at}
@@ -156,10 +156,10 @@ stream_merged v sh other next tree logs drawn free passes tree_is logs_are is =
 
 -- ---- what the calls owe
 
-pub split_done : (u v w : StreamValue) (log : Journal) (by sh at : ℕ) → v ≡ u → split log u.clock by u.no sh at ≡ Accepted (split_line log u.clock by u.no sh at ∷ []) reply.Done → Shows w (split_line log v.clock by v.no sh at ∷ log)
-    → (Ok reply.Done ≡ answer_of (split log u.clock by u.no sh at)) × Shows w (with_lines (lines_of (split log u.clock by u.no sh at)) log)
-split_done u v w log by sh at same is shows =
-    after_accepted (split log u.clock by u.no sh at) (split_line log u.clock by u.no sh at ∷ []) reply.Done log (λ l. Shows w l) is (subst (λ (x : StreamValue). Shows w (split_line log x.clock by x.no sh at ∷ log)) same shows)
+pub split_done : (u v w : StreamValue) (full : Bool) (log : Journal) (by sh at : ℕ) → v ≡ u → split_where full log u.clock by u.no sh at ≡ Accepted (split_line log u.clock by u.no sh at ∷ []) reply.Done → Shows w (split_line log v.clock by v.no sh at ∷ log)
+    → (Ok reply.Done ≡ answer_of (split_where full log u.clock by u.no sh at)) × Shows w (with_lines (lines_of (split_where full log u.clock by u.no sh at)) log)
+split_done u v w full log by sh at same is shows =
+    after_accepted (split_where full log u.clock by u.no sh at) (split_line log u.clock by u.no sh at ∷ []) reply.Done log (λ l. Shows w l) is (subst (λ (x : StreamValue). Shows w (split_line log x.clock by x.no sh at ∷ log)) same shows)
 
 pub merge_done : (u v w : StreamValue) (log : Journal) (by sh other : ℕ) → v ≡ u → merge log u.clock by u.no sh other ≡ Accepted (merge_line log u.clock by u.no sh other ∷ []) reply.Done → Shows w (merge_line log v.clock by v.no sh other ∷ log)
     → (Ok reply.Done ≡ answer_of (merge log u.clock by u.no sh other)) × Shows w (with_lines (lines_of (merge log u.clock by u.no sh other)) log)

@@ -1,18 +1,17 @@
 -- Splits and merges: their decisions, and what the stream shows after them.
 use Rattle.std.proofs.Common.{◌≡◌, ◌≢◌, ℕ, ◌+◌, ◌^◌, ◌<◌, Bool, true, false, List, [], ◌∷◌, length, Option, Some, None, refl, sym, ap, subst, ◌∙◌, arith}
-use Rattle.std.specs.Prelude.{◌==◌, ◌&&◌, ◌||◌, not, nat_le, nat_lt, is_some, slice_get, if◌then◌else◌}
+use Rattle.std.specs.Prelude.{◌==◌, ◌&&◌, ◌||◌, not, nat_lt, is_some, slice_get, if◌then◌else◌}
 use Rattle.std.proofs.lemmas.Bool.Decides.{nat_tests}
 use Rattle.kds_base.specs.Span.{are_adjacent, is_inside}
 use Rattle.kds_defs.proofs.Decisions.{passed_if, refused_if}
-use Rattle.kds_defs.specs.declared.limits.TheConstants.{OPEN_SHARDS}
 use Rattle.kds_defs.specs.declared.reply.Refusal.{Refusal}
 use Rattle.kds_defs.specs.declared.reply.Refusal.TheVariants as refusal
 use Rattle.kds_defs.specs.declared.reply.Reply.TheVariants as reply
 use Rattle.kds_defs.specs.Decision.{Accepted, Decision, Refused, refuse◌if◌else◌}
 use Rattle.kds_defs.specs.Journal.{Journal}
 use Rattle.kds_defs.specs.Records.{next_number}
-use Rattle.kds_defs.specs.Shards.{ShardState, is_listed, open_count, range_of, shard_at, shards}
-use Rattle.kds_defs.specs.StreamCommands.{is_open_at, last_number, merge, split}
+use Rattle.kds_defs.specs.Shards.{ShardState, is_listed, range_of, shard_at, shards}
+use Rattle.kds_defs.specs.StreamCommands.{is_open_at, last_number, merge, split_where}
 use Rattle.kds_defs.specs.Streams.{floor_of}
 use Rattle.kds_stream.proofs.Listed.{listed_is, shard_is}
 use Rattle.kds_stream.proofs.Puts.{is_number, is_other}
@@ -73,14 +72,6 @@ pub not_second : (a b : Bool) → b ≡ false → (a && b) ≡ false
 not_second true b h = h
 not_second false b h = refl
 
-is_full : (b : Bool) → false ≡ not b → b ≡ true
-is_full true h = refl
-is_full false h = absurd cc
-
-has_room : (b : Bool) → true ≡ not b → b ≡ false
-has_room true h = absurd cc
-has_room false h = refl
-
 -- a list that is short enough
 few : (n : ℕ) → n < 2 ^ 63 → nat_lt last_number (n + 1) ≡ false
 few n h = grind (arith, nat_tests)
@@ -108,45 +99,45 @@ module _ (v : StreamValue) (log : Journal) (by : ℕ) (show : Shows v log) where
   few_shards : length v.tree < 2 ^ 63 → length (shards log v.no) < 2 ^ 63
   few_shards h = subst (λ (xs : List ShardState). length xs < 2 ^ 63) (sym show.shards_are) h
 
-  module _ (sh at : ℕ) where
+  module _ (full : Bool) (sh at : ℕ) where
     -- what follows a listed shard
     split_rest : Decision
     split_rest =
-        refuse refusal.Full if nat_le OPEN_SHARDS (open_count log) else
+        refuse refusal.Full if full else
         refuse refusal.Spent if nat_lt last_number (length (shards log v.no) + 1) || next_number log v.no == last_number else
         Accepted (split_line log v.clock by v.no sh at ∷ []) reply.Done
 
-    pub split_unlisted : is_listed_at (floor_of v.cut) (slice_get v.tree sh) ≡ false → split log v.clock by v.no sh at ≡ Refused refusal.NoShard
+    pub split_unlisted : is_listed_at (floor_of v.cut) (slice_get v.tree sh) ≡ false → split_where full log v.clock by v.no sh at ≡ Refused refusal.NoShard
     split_unlisted h = refused_if _ _ _ (ap not (listed_is v log show sh ∙ h))
 
     split_listed : is_listed_at (floor_of v.cut) (slice_get v.tree sh) ≡ true
-        → split log v.clock by v.no sh at ≡ (refuse refusal.ShardClosed if not (is_open_at (slice_get v.tree sh)) else refuse refusal.BadSplit if not (is_inside (range_of (slice_get v.tree sh)) at) else split_rest)
+        → split_where full log v.clock by v.no sh at ≡ (refuse refusal.ShardClosed if not (is_open_at (slice_get v.tree sh)) else refuse refusal.BadSplit if not (is_inside (range_of (slice_get v.tree sh)) at) else split_rest)
     unfolding split_rest
     split_listed h =
         passed_if _ _ _ (ap not (listed_is v log show sh ∙ h))
         ∙ ap (λ o. refuse refusal.ShardClosed if not (is_open_at o) else refuse refusal.BadSplit if not (is_inside (range_of o) at) else split_rest) (shard_is v log show sh)
 
-    pub split_refused : (r : Refusal) → is_listed_at (floor_of v.cut) (slice_get v.tree sh) ≡ true → Some r ≡ split_refusal v.tree sh at → split log v.clock by v.no sh at ≡ Refused r
+    pub split_refused : (r : Refusal) → is_listed_at (floor_of v.cut) (slice_get v.tree sh) ≡ true → Some r ≡ split_refusal v.tree sh at → split_where full log v.clock by v.no sh at ≡ Refused r
     split_refused r listed h = split_listed listed ∙ split_tests (is_some (slice_get v.tree sh)) _ _ r split_rest (there (floor_of v.cut) (slice_get v.tree sh) listed) h
 
-    pub split_full : is_listed_at (floor_of v.cut) (slice_get v.tree sh) ≡ true → None ≡ split_refusal v.tree sh at → false ≡ not (nat_le OPEN_SHARDS (open_count log)) → split log v.clock by v.no sh at ≡ Refused refusal.Full
+    pub split_full : is_listed_at (floor_of v.cut) (slice_get v.tree sh) ≡ true → None ≡ split_refusal v.tree sh at → full ≡ true → split_where full log v.clock by v.no sh at ≡ Refused refusal.Full
     unfolding split_rest
-    split_full listed h full =
-        split_listed listed ∙ split_passes (is_some (slice_get v.tree sh)) _ _ split_rest h ∙ refused_if _ _ _ (is_full (nat_le OPEN_SHARDS (open_count log)) full)
+    split_full listed h is =
+        split_listed listed ∙ split_passes (is_some (slice_get v.tree sh)) _ _ split_rest h ∙ refused_if _ _ _ is
 
-    pub split_spent : is_listed_at (floor_of v.cut) (slice_get v.tree sh) ≡ true → None ≡ split_refusal v.tree sh at → true ≡ not (nat_le OPEN_SHARDS (open_count log)) → v.next ≡ last_number → split log v.clock by v.no sh at ≡ Refused refusal.Spent
+    pub split_spent : is_listed_at (floor_of v.cut) (slice_get v.tree sh) ≡ true → None ≡ split_refusal v.tree sh at → full ≡ false → v.next ≡ last_number → split_where full log v.clock by v.no sh at ≡ Refused refusal.Spent
     unfolding split_rest
     split_spent listed h room spent =
         split_listed listed ∙ split_passes (is_some (slice_get v.tree sh)) _ _ split_rest h
-        ∙ passed_if _ _ _ (has_room (nat_le OPEN_SHARDS (open_count log)) room)
+        ∙ passed_if _ _ _ room
         ∙ refused_if _ _ _ (spent_next (nat_lt last_number (length (shards log v.no) + 1)) spent)
 
-    pub split_accepted : is_listed_at (floor_of v.cut) (slice_get v.tree sh) ≡ true → None ≡ split_refusal v.tree sh at → true ≡ not (nat_le OPEN_SHARDS (open_count log)) → v.next ≢ last_number → length v.tree < 2 ^ 63
-        → split log v.clock by v.no sh at ≡ Accepted (split_line log v.clock by v.no sh at ∷ []) reply.Done
+    pub split_accepted : is_listed_at (floor_of v.cut) (slice_get v.tree sh) ≡ true → None ≡ split_refusal v.tree sh at → full ≡ false → v.next ≢ last_number → length v.tree < 2 ^ 63
+        → split_where full log v.clock by v.no sh at ≡ Accepted (split_line log v.clock by v.no sh at ∷ []) reply.Done
     unfolding split_rest
     split_accepted listed h room free small =
         split_listed listed ∙ split_passes (is_some (slice_get v.tree sh)) _ _ split_rest h
-        ∙ passed_if _ _ _ (has_room (nat_le OPEN_SHARDS (open_count log)) room)
+        ∙ passed_if _ _ _ room
         ∙ passed_if _ _ _ (free_next (nat_lt last_number (length (shards log v.no) + 1)) (few (length (shards log v.no)) (few_shards small)) free)
 
   module _ (sh other : ℕ) where

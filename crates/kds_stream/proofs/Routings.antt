@@ -1,9 +1,10 @@
 -- Records that are stored together: the logs take them, and what the stream shows after them.
-use Rattle.std.proofs.Common.{◌≡◌, ◌≢◌, ℕ, zero, suc, ◌+◌, ◌^◌, ◌<◌, ◌≤◌, true, false, List, [], ◌∷◌, ◌++◌, length, get_or, drop, take, map, Some, refl, sym, ap, subst, ◌∙◌, arith}
-use Rattle.std.specs.Prelude.{nat_lt, slice_set, Ok, Err}
-use Rattle.std.specs.List.{AllByRecursion, filter}
+use Rattle.std.proofs.Common.{◌≡◌, ◌≢◌, ℕ, zero, suc, ◌+◌, ◌^◌, ◌<◌, ◌≤◌, Bool, true, false, List, [], ◌∷◌, ◌++◌, length, get_or, take, map, Some, refl, sym, ap, subst, ◌∙◌, arith}
+use Rattle.std.specs.Prelude.{◌==◌, cond, nat_lt, slice_set, Ok, Err}
+use Rattle.std.specs.List.{AllByRecursion, count_by, filter}
 use Rattle.std.proofs.lemmas.Bool.Decides.{nat_tests}
-use Rattle.std.proofs.lemmas.List.{append_assoc, append-nil, at_drop_more, drop_all}
+use Rattle.std.proofs.lemmas.List.{append_assoc, append-nil}
+use Rattle.std.proofs.lemmas.List.Sums.{sum_by-cons, sum_by_more}
 use Rattle.kds_defs.proofs.Decisions.{after_accepted, after_refused, passed_if, refused_if}
 use Rattle.kds_defs.specs.declared.command.NewItem.{NewItem}
 use Rattle.kds_defs.specs.declared.entry.Entry.TheVariants as entry
@@ -17,21 +18,28 @@ use Rattle.kds_defs.specs.Shards.{ShardState, home_among, is_open, shards}
 use Rattle.kds_defs.specs.StreamCommands.{last_number, put_line, put_lines, put_many, put_places}
 use Rattle.kds_defs.specs.Streams.{floor_of}
 use Rattle.kds_log.specs.Log.{LogValue, LogWithRoom, log_of}
+use Rattle.kds_stream.proofs.Clocks.{settled_stream, shows_settled}
 use Rattle.kds_stream.proofs.LogLemmas.{all-append, all_logs_at, all_weaker, appended_at, arrived_later, as_many_logs, below_higher}
-use Rattle.kds_stream.proofs.Puts.{put_record, shows_put, stream_put}
+use Rattle.kds_stream.proofs.Puts.{is_number, put_record, shows_put, stream_put}
 use Rattle.kds_stream.specs.declared.routes.Routed.{Routed}
-use Rattle.kds_stream.specs.Routes.{AreInTurn, CanTake, CanTakeAll, IsSooner, IsWithin, place_of, room_at, routed_item, routed_items, with_each}
+use Rattle.kds_stream.specs.Routes.{AreInTurn, CanTake, CanTakeAll, IsSooner, IsWithin, is_place_of, is_routed_to, place_of, room_at, routed_item, routed_items, settled_each, with_each}
 use Rattle.kds_stream.specs.Showing.{Shows}
-use Rattle.kds_stream.specs.Value.{EndsUnder, HasArrived, IsBelow, IsStream, StreamValue, with_appended}
+use Rattle.kds_stream.specs.Value.{EndsUnder, HasArrived, IsBelow, IsStream, StreamValue, settled_at, with_appended}
 
 -- ---- memory
 
-room_set : (ls : List LogWithRoom) (i j : ℕ) (d l : LogWithRoom) (more : ℕ) → i < length ls → (get_or ls i d).room ≤ l.room → more ≤ room_at ls j → more ≤ room_at (slice_set ls i l) j
-room_set [] i j d l more below grows h = absurd (omega arith)
-room_set (x ∷ ls) zero zero d l more below grows h = omega (arith, grows, h)
-room_set (x ∷ ls) zero (suc j) d l more below grows h = h
-room_set (x ∷ ls) (suc i) zero d l more below grows h = h
-room_set (x ∷ ls) (suc i) (suc j) d l more below grows h = room_set ls i j d l more (omega arith) grows h
+equal_so : (a b : ℕ) → (a == b) ≡ true → a ≡ b
+equal_so a b h = grind (arith, nat_tests)
+
+differ_so : (a b : ℕ) → (a == b) ≡ false → a ≢ b
+differ_so a b h e = absurd (grind (arith, nat_tests))
+
+room_other : (ls : List LogWithRoom) (i j : ℕ) (l : LogWithRoom) → i ≢ j → room_at (slice_set ls i l) j ≡ room_at ls j
+room_other [] i j l apart = refl
+room_other (x ∷ ls) zero zero l apart = absurd (apart refl)
+room_other (x ∷ ls) zero (suc j) l apart = refl
+room_other (x ∷ ls) (suc i) zero l apart = refl
+room_other (x ∷ ls) (suc i) (suc j) l apart = room_other ls i j l (λ e. apart (ap suc e))
 
 room_here : (ls : List LogWithRoom) (i : ℕ) (l : LogWithRoom) → i < length ls → room_at (slice_set ls i l) i ≡ l.room
 room_here [] i l below = absurd (omega arith)
@@ -43,22 +51,33 @@ room_is [] i d below = absurd (omega arith)
 room_is (x ∷ ls) zero d below = refl
 room_is (x ∷ ls) (suc i) d below = room_is ls i d (omega arith)
 
--- one more place has memory
-pub reserved_more : (ls : List LogWithRoom) (i more : ℕ) (d l : LogWithRoom) (ps : List Place) (p : Place) → i < length ls → i ≡ p.shard → (get_or ls i d).room ≤ l.room → more ≤ l.room
-    → AllByRecursion (λ (q : Place). more ≤ room_at ls q.shard) ps → AllByRecursion (λ (q : Place). more ≤ room_at (slice_set ls i l) q.shard) (ps ++ p ∷ [])
-reserved_more ls i more d l ps p below at grows enough h =
-    all-append (λ (q : Place). more ≤ room_at (slice_set ls i l) q.shard) ps (p ∷ [])
-    (all_weaker (λ (q : Place). more ≤ room_at ls q.shard) (λ (q : Place). more ≤ room_at (slice_set ls i l) q.shard) (λ q had. room_set ls i q.shard d l more below grows had) ps h)
-    (subst (λ (n : ℕ). more ≤ room_at (slice_set ls i l) n) at (omega (arith, room_here ls i l below, enough)), tt)
+-- one place more has memory
+module _ (ls : List LogWithRoom) (i : ℕ) (d l : LogWithRoom) (ps : List Place) (k : ℕ) (p : Place) (below : i < length ls) (at : i ≡ p.shard) (grows : l.room ≡ (get_or ls i d).room + 1) (within : k < length ps) (is : p ≡ get_or ps k p)
+    (had : (sh : ℕ) → count_by (is_place_of sh) (take k ps) ≤ room_at ls sh) (sh : ℕ) where
+  more_places : count_by (is_place_of sh) (take (k + 1) ps) ≡ count_by (is_place_of sh) (take k ps) + cond (p.shard == sh) 1 0
+  more_places = sum_by_more (λ (q : Place). cond (is_place_of sh q) 1 0) ps k p within ∙ ap (λ (q : Place). count_by (is_place_of sh) (take k ps) + cond (is_place_of sh q) 1 0) (sym is)
+
+  reserved_by : (b : Bool) → (p.shard == sh) ≡ b → count_by (is_place_of sh) (take (k + 1) ps) ≤ room_at (slice_set ls i l) sh
+  reserved_by true e =
+      let same : i ≡ sh = at ∙ equal_so p.shard sh e in
+      let before : count_by (is_place_of sh) (take k ps) ≤ room_at ls i = subst (λ n. count_by (is_place_of sh) (take k ps) ≤ room_at ls n) (sym same) (had sh) in
+      subst (λ n. count_by (is_place_of sh) (take (k + 1) ps) ≤ room_at (slice_set ls i l) n) same
+      (omega (arith, more_places ∙ ap (λ c. count_by (is_place_of sh) (take k ps) + cond c 1 0) e, room_here ls i l below, room_is ls i d below, grows, before))
+  reserved_by false e =
+      omega (arith, more_places ∙ ap (λ c. count_by (is_place_of sh) (take k ps) + cond c 1 0) e, had sh, room_other ls i sh l (λ same. differ_so p.shard sh e (sym at ∙ same)))
+
+  pub reserved_more : count_by (is_place_of sh) (take (k + 1) ps) ≤ room_at (slice_set ls i l) sh
+  reserved_more = reserved_by (p.shard == sh) refl
+
+-- there are as many places as records of a shard
+count_routed : (rs : List Routed) (sh : ℕ) → count_by (is_place_of sh) (map place_of rs) ≡ count_by (is_routed_to sh) rs
+count_routed [] sh = refl
+count_routed (r ∷ rs) sh =
+    sum_by-cons (λ (p : Place). cond (is_place_of sh p) 1 0) (place_of r) (map place_of rs)
+    ∙ ap (λ n. cond (r.shard == sh) 1 0 + n) (count_routed rs sh)
+    ∙ sym (sum_by-cons (λ (q : Routed). cond (is_routed_to sh q) 1 0) r rs)
 
 -- ---- one record is taken
-
-one_used : (ls : List LogWithRoom) (i j : ℕ) (d l : LogWithRoom) (more : ℕ) → i < length ls → l.room + 1 ≡ (get_or ls i d).room → suc more ≤ room_at ls j → more ≤ room_at (slice_set ls i l) j
-one_used [] i j d l more below used h = absurd (omega arith)
-one_used (x ∷ ls) zero zero d l more below used h = omega (arith, used, h)
-one_used (x ∷ ls) zero (suc j) d l more below used h = omega (arith, h)
-one_used (x ∷ ls) (suc i) zero d l more below used h = omega (arith, h)
-one_used (x ∷ ls) (suc i) (suc j) d l more below used h = one_used ls i j d l more (omega arith) used h
 
 length-set : (ls : List LogWithRoom) (i : ℕ) (l : LogWithRoom) → length (slice_set ls i l) ≡ length ls
 length-set [] i l = refl
@@ -74,28 +93,48 @@ all_two : {A : Type 0} (P Q R : A → Type 0) → ((x : A) → P x → Q x → R
 all_two P Q R f [] h g = tt
 all_two P Q R f (x ∷ xs) h g = (f x h.0 g.0, all_two P Q R f xs h.1 g.1)
 
+-- the log of the first one has memory
+pub room_left : (ls : List LogWithRoom) (i : ℕ) (r : Routed) (rs : List Routed) → i ≡ r.shard → CanTakeAll ls (r ∷ rs) → 1 ≤ room_at ls i
+room_left ls i r rs at can =
+    let counted : cond (r.shard == i) 1 0 + count_by (is_routed_to i) rs ≤ room_at ls i = subst (λ n. n ≤ room_at ls i) (sum_by-cons (λ (q : Routed). cond (is_routed_to i q) 1 0) r rs) (can.room i) in
+    let had : cond true 1 0 + count_by (is_routed_to i) rs ≤ room_at ls i = subst (λ c. cond c 1 0 + count_by (is_routed_to i) rs ≤ room_at ls i) (is_number r.shard i (sym at)) counted in
+    omega (arith, had)
+
 module _ (ls : List LogWithRoom) (i : ℕ) (d l : LogWithRoom) (r : Routed) (rs : List Routed) (at : i ≡ r.shard) (below : i < length ls) (used : l.room + 1 ≡ (get_or ls i d).room)
     (is : log_of l ≡ record { kept = (get_or ls i d).kept ++ logged r.item ∷ []; last = Some r.item.seq }) (can : CanTakeAll ls (r ∷ rs)) where
-  number_more : (q : Routed) → IsSooner r q → CanTake ls q → IsBelow q.item.seq (log_of l)
+  number_more : (q : Routed) → IsSooner r q → CanTake (map log_of ls) q → IsBelow q.item.seq (log_of l)
   number_more q sooner take = let lower : r.item.seq < q.item.seq = sooner.0 in subst (IsBelow q.item.seq) (sym is) lower
 
-  arrival_more : (q : Routed) → IsSooner r q → CanTake ls q → HasArrived q.item.arrival (log_of l)
+  arrival_more : (q : Routed) → IsSooner r q → CanTake (map log_of ls) q → HasArrived q.item.arrival (log_of l)
   arrival_more q sooner take =
       let earlier : r.item.arrival ≤ q.item.arrival = sooner.1 in
       subst (HasArrived q.item.arrival) (sym is)
       (all-append (λ (x : Logged). x.arrival ≤ q.item.arrival) (get_or ls i d).kept (logged r.item ∷ []) (all_logs_at (HasArrived q.item.arrival) ls i d below take.arrival) (earlier, tt))
 
-  take_more : (q : Routed) → IsSooner r q → CanTake ls q → CanTake (slice_set ls i l) q
+  take_more : (q : Routed) → IsSooner r q → CanTake (map log_of ls) q → CanTake (map log_of (slice_set ls i l)) q
   take_more q sooner take = record {
-    within = omega (arith, take.within, length-set ls i l);
+    within = omega (arith, take.within, as_many_logs ls, as_many_logs (slice_set ls i l), length-set ls i l);
     number = all_set (IsBelow q.item.seq) ls i l (number_more q sooner take) take.number;
     arrival = all_set (HasArrived q.item.arrival) ls i l (arrival_more q sooner take) take.arrival;
   }
 
+  counted : (sh : ℕ) → cond (r.shard == sh) 1 0 + count_by (is_routed_to sh) rs ≤ room_at ls sh
+  counted sh = subst (λ n. n ≤ room_at ls sh) (sum_by-cons (λ (q : Routed). cond (is_routed_to sh q) 1 0) r rs) (can.room sh)
+
+  used_by : (sh : ℕ) (b : Bool) → (r.shard == sh) ≡ b → count_by (is_routed_to sh) rs ≤ room_at (slice_set ls i l) sh
+  used_by sh true e =
+      let same : i ≡ sh = at ∙ equal_so r.shard sh e in
+      let had : cond true 1 0 + count_by (is_routed_to sh) rs ≤ room_at ls sh = subst (λ c. cond c 1 0 + count_by (is_routed_to sh) rs ≤ room_at ls sh) e (counted sh) in
+      let had' : 1 + count_by (is_routed_to sh) rs ≤ room_at ls i = subst (λ n. 1 + count_by (is_routed_to sh) rs ≤ room_at ls n) (sym same) had in
+      subst (λ n. count_by (is_routed_to sh) rs ≤ room_at (slice_set ls i l) n) same (omega (arith, had', room_here ls i l below, room_is ls i d below, used))
+  used_by sh false e =
+      let had : cond false 1 0 + count_by (is_routed_to sh) rs ≤ room_at ls sh = subst (λ c. cond c 1 0 + count_by (is_routed_to sh) rs ≤ room_at ls sh) e (counted sh) in
+      omega (arith, had, room_other ls i sh l (λ same. differ_so r.shard sh e (sym at ∙ same)))
+
   pub taken_one : CanTakeAll (slice_set ls i l) rs
   taken_one = record {
-    each = all_two (IsSooner r) (CanTake ls) (CanTake (slice_set ls i l)) take_more rs can.in_turn.0 can.each.1;
-    room = all_weaker (λ (q : Routed). suc (length rs) ≤ room_at ls q.shard) (λ (q : Routed). length rs ≤ room_at (slice_set ls i l) q.shard) (λ q had. one_used ls i q.shard d l (length rs) below used had) rs can.room.1;
+    each = all_two (IsSooner r) (CanTake (map log_of ls)) (CanTake (map log_of (slice_set ls i l))) take_more rs can.in_turn.0 can.each.1;
+    room = λ sh. used_by sh (r.shard == sh) refl;
     in_turn = can.in_turn.1;
   }
 
@@ -105,19 +144,17 @@ module _ (ls : List LogWithRoom) (i : ℕ) (d l : LogWithRoom) (r : Routed) (rs 
 -- ---- the records of items
 
 -- one item more is routed
-pub routed_more : (xs : List ShardState) (clock n m i : ℕ) (items : List NewItem) (item : NewItem) (so_far whole : List Routed) (r : Routed) → i < length items → item ≡ get_or items i item → r ≡ routed_item xs clock n item → m ≡ n + 1
-    → so_far ++ routed_items xs clock n (drop i items) ≡ whole → (so_far ++ r ∷ []) ++ routed_items xs clock m (drop (i + 1) items) ≡ whole
-routed_more xs clock n m i items item so_far whole r below is routed more h =
-    append_assoc so_far (r ∷ []) (routed_items xs clock m (drop (i + 1) items))
-    ∙ ap (λ (x : Routed). so_far ++ x ∷ routed_items xs clock m (drop (i + 1) items)) routed
-    ∙ ap (λ k. so_far ++ routed_item xs clock n item ∷ routed_items xs clock k (drop (i + 1) items)) more
-    ∙ ap (λ (x : NewItem). so_far ++ routed_item xs clock n x ∷ routed_items xs clock (n + 1) (drop (i + 1) items)) is
-    ∙ ap (λ ys. so_far ++ ys) (sym (at_drop_more (routed_items xs clock n) items i item below))
+pub routed_more : (xs : List ShardState) (clock n m : ℕ) (items rest : List NewItem) (item : NewItem) (so_far whole : List Routed) (r : Routed) → items ≡ item ∷ rest → r ≡ routed_item xs clock n item → m ≡ n + 1
+    → so_far ++ routed_items xs clock n items ≡ whole → (so_far ++ r ∷ []) ++ routed_items xs clock m rest ≡ whole
+routed_more xs clock n m items rest item so_far whole r are routed more h =
+    append_assoc so_far (r ∷ []) (routed_items xs clock m rest)
+    ∙ ap (λ (x : Routed). so_far ++ x ∷ routed_items xs clock m rest) routed
+    ∙ ap (λ k. so_far ++ routed_item xs clock n item ∷ routed_items xs clock k rest) more
+    ∙ ap (λ ys. so_far ++ routed_items xs clock n ys) (sym are)
     ∙ h
 
-pub routed_all : (xs : List ShardState) (clock n i : ℕ) (items : List NewItem) (so_far whole : List Routed) → length items ≤ i → so_far ++ routed_items xs clock n (drop i items) ≡ whole → so_far ≡ whole
-routed_all xs clock n i items so_far whole le h =
-    sym (append-nil so_far) ∙ ap (λ ys. so_far ++ routed_items xs clock n ys) (sym (drop_all i items le)) ∙ h
+pub routed_all : (xs : List ShardState) (clock n : ℕ) (items : List NewItem) (so_far whole : List Routed) → items ≡ [] → so_far ++ routed_items xs clock n items ≡ whole → so_far ≡ whole
+routed_all xs clock n items so_far whole none h = sym (append-nil so_far) ∙ ap (λ ys. so_far ++ routed_items xs clock n ys) (sym none) ∙ h
 
 pub length-routed : (xs : List ShardState) (clock n : ℕ) (items : List NewItem) → length (routed_items xs clock n items) ≡ length items
 length-routed xs clock n [] = refl
@@ -147,28 +184,33 @@ pub all_places : (count : ℕ) (rs : List Routed) → AllByRecursion (IsWithin c
 all_places count [] h = tt
 all_places count (r ∷ rs) h = (h.0, all_places count rs h.1)
 
-length-places : (rs : List Routed) → length (map place_of rs) ≡ length rs
-length-places [] = refl
-length-places (r ∷ rs) = ap suc (length-places rs)
-
--- a stream's logs can take them, where there is memory at their places
-pub can_take : (v : StreamValue) (items : List NewItem) (ls : List LogWithRoom) (rs : List Routed) (places : List Place) → IsStream v → map log_of ls ≡ v.logs → rs ≡ routed_items v.tree v.clock v.next items → places ≡ map place_of rs
-    → AllByRecursion (IsWithin (length v.tree)) rs → AllByRecursion (λ (p : Place). length places ≤ room_at ls p.shard) places → CanTakeAll ls rs
-can_take v items ls rs places is same are placed within room =
-    let count : length v.tree ≡ length ls = omega (arith, as_many_logs ls, ap length same, is.as_many) in
+-- a stream's logs can take them, and they are in turn
+pub can_take : (v : StreamValue) (items : List NewItem) (rs : List Routed) → IsStream v → rs ≡ routed_items v.tree v.clock v.next items → AllByRecursion (IsWithin (length v.tree)) rs → AllByRecursion (CanTake v.logs) rs
+can_take v items rs is are within =
     let from : AllByRecursion (IsFrom v.next v.clock) rs = subst (AllByRecursion (IsFrom v.next v.clock)) (sym are) (all_from v.tree v.clock v.next v.next items (omega arith)) in
-    record {
-      each =
-          all_two (IsWithin (length v.tree)) (IsFrom v.next v.clock) (CanTake ls) (λ r inside f. record {
-            within = omega (arith, inside, count);
-            number = subst (AllByRecursion (IsBelow r.item.seq)) (sym same) (below_higher v.next r.item.seq v.logs f.number is.numbers);
-            arrival = subst (AllByRecursion (HasArrived r.item.arrival)) (sym same) (arrived_later v.clock_before r.item.arrival v.logs (omega (arith, is.order, f.arrival)) is.arrivals);
-          }) rs within from;
-      room =
-          all_weaker (λ (r : Routed). length places ≤ room_at ls r.shard) (λ (r : Routed). length rs ≤ room_at ls r.shard) (λ r had. omega (arith, had, length-places rs, ap length placed)) rs
-          (all_map place_of (λ (p : Place). length places ≤ room_at ls p.shard) rs (subst (AllByRecursion (λ (p : Place). length places ≤ room_at ls p.shard)) placed room));
-      in_turn = subst AreInTurn (sym are) (turns v.tree v.clock v.next items);
-    }
+    all_two (IsWithin (length v.tree)) (IsFrom v.next v.clock) (CanTake v.logs) (λ r inside f. record {
+      within = omega (arith, inside, is.as_many);
+      number = below_higher v.next r.item.seq v.logs f.number is.numbers;
+      arrival = arrived_later v.clock_before r.item.arrival v.logs (omega (arith, is.order, f.arrival)) is.arrivals;
+    }) rs within from
+
+pub in_turn : (v : StreamValue) (items : List NewItem) (rs : List Routed) → rs ≡ routed_items v.tree v.clock v.next items → AreInTurn rs
+in_turn v items rs are = subst AreInTurn (sym are) (turns v.tree v.clock v.next items)
+
+-- the shards of their places are there
+pub places_within : (ls : List LogWithRoom) (rs : List Routed) (ps : List Place) → ps ≡ map place_of rs → AllByRecursion (CanTake (map log_of ls)) rs → AllByRecursion (λ (p : Place). p.shard < length ls) ps
+places_within ls rs ps placed can =
+    subst (AllByRecursion (λ (p : Place). p.shard < length ls)) (sym placed)
+    (all_places (length ls) rs (all_weaker (CanTake (map log_of ls)) (IsWithin (length ls)) (λ r take. omega (arith, take.within, as_many_logs ls)) rs can))
+
+-- once memory is reserved for their places they can all be taken
+pub can_take_all : (before : List LogValue) (ls : List LogWithRoom) (rs : List Routed) (ps : List Place) → ps ≡ map place_of rs → map log_of ls ≡ before → AllByRecursion (CanTake before) rs → AreInTurn rs
+    → ((sh : ℕ) → count_by (is_place_of sh) ps ≤ room_at ls sh) → CanTakeAll ls rs
+can_take_all before ls rs ps placed same can turns room = record {
+  each = subst (λ (ms : List LogValue). AllByRecursion (CanTake ms) rs) (sym same) can;
+  room = λ sh. subst (λ n. n ≤ room_at ls sh) (ap (count_by (is_place_of sh)) placed ∙ count_routed rs sh) (room sh);
+  in_turn = turns;
+}
 
 -- ---- what the stream shows after them
 
@@ -285,3 +327,17 @@ module _ (v : StreamValue) (log : Journal) (by : ℕ) (items : List NewItem) (sh
       let both = after_accepted (put_many log v.clock by v.no items) (put_lines log v.clock by v.no number items) (reply.PutMany (put_places log v.no number items)) log (λ l. Shows w l)
       (passed_if _ _ _ (ap (λ n. nat_lt last_number (n + length items)) shown.next_is ∙ is_not_past (v.next + length items) (omega (arith, drawn, fits)))) shows in
       (ap (λ (ps : List Place). Ok (reply.PutMany ps)) placed_so ∙ both.0, both.1)
+
+-- ---- what is trimmed at their places is dropped
+
+-- the stream with these logs and this next number, which remembers no earlier clock
+abbrev pub with_logs : StreamValue → List LogValue → ℕ → StreamValue
+with_logs v ls next = record v { logs = ls; next = next; clock_before = v.clock; cut_before = v.cut }
+
+pub stream_each : (v : StreamValue) (next : ℕ) (ps : List Place) (ls : List LogValue) → IsStream (with_logs v ls next) → IsStream (with_logs v (settled_each (floor_of v.cut) ps ls) next)
+stream_each v next [] ls is = is
+stream_each v next (p ∷ ps) ls is = stream_each v next ps (settled_at (floor_of v.cut) p.shard ls) (settled_stream (with_logs v ls next) p.shard v.turn is)
+
+pub shows_each : (v : StreamValue) (next : ℕ) (log : Journal) (ps : List Place) (ls : List LogValue) → Shows (with_logs v ls next) log → Shows (with_logs v (settled_each (floor_of v.cut) ps ls) next) log
+shows_each v next log [] ls shown = shown
+shows_each v next log (p ∷ ps) ls shown = shows_each v next log ps (settled_at (floor_of v.cut) p.shard ls) (shows_settled (with_logs v ls next) p.shard v.clock v.cut v.turn log shown)

@@ -1,10 +1,17 @@
 -- Which journals a stream shows.
-use Rattle.std.specs.Prelude.{ℕ, ◌≡◌, ◌+◌, ◌≤◌, true, false, List, [], ◌∷◌, length, Option, Some, None}
+use Rattle.std.specs.Prelude.{ℕ, ◌≡◌, ◌+◌, ◌≤◌, Bool, true, false, not, ◌||◌, nat_le, List, [], ◌∷◌, length, Option, Some, None, Result}
+use Rattle.std.specs.List.{filter}
 use Rattle.kds_defs.specs.declared.entry.Entry.{Entry}
 use Rattle.kds_defs.specs.declared.entry.Entry.TheVariants as entry
-use Rattle.kds_defs.specs.Journal.{Journal, Line, plain_line}
+use Rattle.kds_defs.specs.declared.limits.TheConstants.{OPEN_SHARDS}
+use Rattle.kds_defs.specs.declared.reply.Refusal.{Refusal}
+use Rattle.kds_defs.specs.declared.reply.Reply.{Reply}
+use Rattle.kds_defs.specs.declared.reply.Reply.TheVariants as reply
+use Rattle.kds_defs.specs.Decision.{Accepted, Decision, Refused}
+use Rattle.kds_defs.specs.Histories.{answer_of, lines_of}
+use Rattle.kds_defs.specs.Journal.{Journal, Line, plain_line, with_lines}
 use Rattle.kds_defs.specs.Records.{Logged, left_among, next_number, records}
-use Rattle.kds_defs.specs.Shards.{shards}
+use Rattle.kds_defs.specs.Shards.{is_open, shards}
 use Rattle.kds_defs.specs.Streams.{floor_of, floor_of_lines, hours, is_live, made_at, name_of, trim_floor, was_made}
 use Rattle.kds_log.specs.Log.{LogValue}
 use Rattle.kds_stream.specs.Value.{StreamValue}
@@ -51,6 +58,20 @@ stream_of (entry.Split s sh at number low high) = Some s
 stream_of (entry.Merged s sh other number child) = Some s
 stream_of (entry.Kept s hours) = Some s
 stream_of _ = None
+
+-- what a call that made one stream of another answered is the decision at it, of every journal that it showed; and it
+-- shows the journal with the decision's lines
+abbrev pub Decides : StreamValue → StreamValue → Result Reply Refusal → (Journal → ℕ → Decision) → Type 0
+Decides old new gives d = (log : Journal) (by : ℕ) → Shows old log → (gives ≡ answer_of (d log by)) × Shows new (with_lines (lines_of (d log by)) log)
+
+-- the decision is refused so, or accepted with this line alone
+abbrev pub IsDecidedBy : Option Refusal → Line → Decision → Type 0
+IsDecidedBy (Some r) line d = d ≡ Refused r
+IsDecidedBy None line d = d ≡ Accepted (line ∷ []) reply.Done
+
+-- no further shard may be open, as a caller tells, or since as many are open in this stream alone
+abbrev pub is_full : StreamValue → Bool → Bool
+is_full v room = not room || nat_le OPEN_SHARDS (length (filter is_open v.tree))
 
 -- ---- the lines of a split and of a merge
 

@@ -1,5 +1,5 @@
 -- What contracts see of a stream.
-use Rattle.std.specs.Prelude.{ℕ, zero, suc, ◌≡◌, ◌<◌, ◌≤◌, ◌-◌, ◌*◌, ◌^◌, max, Bool, false, not, nat_lt, if◌then◌else◌, List, [], ◌∷◌, ◌++◌, length, Option, Some, None}
+use Rattle.std.specs.Prelude.{ℕ, zero, suc, ◌≡◌, ◌+◌, ◌<◌, ◌≤◌, ◌-◌, ◌*◌, ◌^◌, max, Bool, false, not, nat_lt, if◌then◌else◌, List, [], ◌∷◌, ◌++◌, length, Option, Some, None}
 use Rattle.std.specs.List.{AllByRecursion, filter}
 use Rattle.kds_defs.specs.declared.limits.TheConstants.{HOUR, OPEN_SHARDS}
 use Rattle.kds_defs.specs.Lawful.{IsRetention}
@@ -9,7 +9,8 @@ use Rattle.kds_defs.specs.Streams.{floor_of}
 use Rattle.kds_log.specs.Log.{LogValue}
 
 -- its number, its name, when it was made, its retention in hours, its shards, the log of each, its next number, its
--- clock and its cut; and what clock and cut were before the last advance, if nothing has changed since
+-- clock and its cut; what clock and cut were before the last advance, if nothing has changed since; and the place of
+-- the log that is settled next
 pub record StreamValue : Type 0 where
   pub no : ℕ
   pub name : List ℕ
@@ -22,6 +23,7 @@ pub record StreamValue : Type 0 where
   pub cut : Option ℕ
   pub clock_before : ℕ
   pub cut_before : Option ℕ
+  pub turn : ℕ
 
 -- the number, if there is one, is below this one
 abbrev pub IsUnder : ℕ → Option ℕ → Type 0
@@ -99,6 +101,26 @@ with_appended (suc n) r (l ∷ ls) = l ∷ with_appended n r ls
 -- the log without the records that arrived below the floor
 abbrev pub settled_log : ℕ → LogValue → LogValue
 settled_log floor l = record l { kept = left_among floor 0 l.kept }
+
+-- the logs where the one at a place is without them
+abbrev pub settled_at : ℕ → ℕ → List LogValue → List LogValue
+settled_at floor n [] = []
+settled_at floor zero (l ∷ ls) = settled_log floor l ∷ ls
+settled_at floor (suc n) (l ∷ ls) = l ∷ settled_at floor n ls
+
+-- the place after this one of so many, in a circle
+abbrev pub next_of : ℕ → ℕ → ℕ
+next_of count n = if nat_lt (n + 1) count then n + 1 else 0
+
+-- the stream where the log whose turn it is is without the records that are trimmed; it remembers no earlier clock
+abbrev pub settled : StreamValue → StreamValue
+settled v =
+    record v {
+      logs = settled_at (floor_of v.cut) v.turn v.logs;
+      clock_before = v.clock;
+      cut_before = v.cut;
+      turn = next_of (length v.logs) v.turn;
+    }
 
 -- the shard was made, and wasn't closed below the floor
 abbrev pub is_listed_at : ℕ → Option ShardState → Bool

@@ -4,7 +4,7 @@ ghost use Rattle.std.specs.List.{AllByRecursion};
 ghost use Rattle.kds_defs.specs.Records.{logged};
 ghost use Rattle.kds_defs.specs.Streams.{floor_of};
 ghost use Rattle.kds_log.specs.Log.{log_of};
-ghost use Rattle.kds_stream.specs.Value.{HasArrived, IsBelow, empty_log, settled_log, with_appended};
+ghost use Rattle.kds_stream.specs.Value.{HasArrived, IsBelow, empty_log, settled_at, with_appended};
 
 use kds_base::{Memory, Moment, Seq};
 use kds_defs::Stored;
@@ -23,7 +23,7 @@ pub fn new_logs(alloc: Global, n: u32) -> Result<Vec<ShardLog>, Memory>
 }
 
 /// Adds a record to the log at a place. Its number is above all others, and it arrived no earlier than they did.
-pub fn append_at(logs: &mut [ShardLog], i: usize, item: Stored) -> Result<(), Memory>
+fn append_at(logs: &mut [ShardLog], i: usize, item: Stored) -> Result<(), Memory>
     requires within { i < length logs.old }
     requires number { AllByRecursion (IsBelow item.seq) (map log_of logs.old) }
     requires arrival { AllByRecursion (HasArrived item.arrival) (map log_of logs.old) }
@@ -33,25 +33,32 @@ pub fn append_at(logs: &mut [ShardLog], i: usize, item: Stored) -> Result<(), Me
     logs[i].append(item)
 }
 
-/// Drops the trimmed records of a log. It costs a look at the first one where none is trimmed.
-fn settle_log(log: &mut ShardLog, cut: Moment)
-    ensures { log_of log.new ≡ settled_log (floor_of (Some cut)) (log_of log.old) }
-{
-    if let Some(first) = log.first_left(None, 0) {
-        if first <= cut {
-            log.trim(cut);
-        }
-    }
-}
-
-/// Drops the trimmed records of each log.
-pub fn settle_logs(logs: &mut [ShardLog], cut: Option<Moment>)
-    ensures { map log_of logs.new ≡ map (settled_log (floor_of cut)) (map log_of logs.old) }
+/// Drops the trimmed records of the log at a place, if there is one.
+pub fn settle_at(logs: &mut [ShardLog], i: usize, cut: &Option<Moment>)
+    ensures { map log_of logs.new ≡ settled_at (floor_of cut.now) i (map log_of logs.old) }
 {
     let Some(cut) = cut else {
         return;
     };
-    for log in logs.iter_mut() {
-        settle_log(log, cut);
+    if i < logs.len() {
+        logs[i].trim(*cut);
     }
+}
+
+/// Adds a record as `append_at` does, and drops the trimmed ones of its log.
+pub fn put_at(
+    logs: &mut [ShardLog],
+    i: usize,
+    item: Stored,
+    cut: Option<Moment>,
+) -> Result<(), Memory>
+    requires within { i < length logs.old }
+    requires number { AllByRecursion (IsBelow item.seq) (map log_of logs.old) }
+    requires arrival { AllByRecursion (HasArrived item.arrival) (map log_of logs.old) }
+    ensures ok { OnOk result (map log_of logs.new ≡ settled_at (floor_of cut) i (with_appended i (logged item) (map log_of logs.old))) }
+    ensures err { OnErr result (map log_of logs.new ≡ map log_of logs.old) }
+{
+    append_at(logs, i, item)?;
+    settle_at(logs, i, &cut);
+    Ok(())
 }

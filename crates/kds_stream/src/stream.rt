@@ -40,18 +40,19 @@ pub struct Stream {
     cut: Option<Moment>,
     clock_before: Moment,
     cut_before: Option<Moment>,
+    /// The place of the log that is settled next.
+    turn: usize,
 }
 
 impl Model for Stream {
-    ghost use Rattle.std.specs.Prelude.{map};
-    ghost use Rattle.kds_log.specs.Log.{log_of};
+    ghost use Rattle.kds_stream.specs.Fields.{value_of};
     ghost use Rattle.kds_stream.specs.Value.{StreamValue, IsStream};
 
     ghost Value = { StreamValue };
 
-    ghost view = { λ s. record { no = s.no; name = s.name; made = s.made; hours = s.hours; tree = s.tree; logs = map log_of s.logs.items; next = s.next; clock = s.clock; cut = s.cut; clock_before = s.clock_before; cut_before = s.cut_before } };
+    ghost view = { value_of };
 
-    ghost invariant = { λ s. IsStream (record { no = s.no; name = s.name; made = s.made; hours = s.hours; tree = s.tree; logs = map log_of s.logs.items; next = s.next; clock = s.clock; cut = s.cut; clock_before = s.clock_before; cut_before = s.cut_before }) };
+    ghost invariant = { λ s. IsStream (value_of s) };
 }
 
 impl Stream {
@@ -84,6 +85,7 @@ impl Stream {
             cut: cut_at(made, FIRST_HOURS),
             clock_before: made,
             cut_before: cut_at(made, FIRST_HOURS),
+            turn: 0,
         })
     }
 

@@ -1,11 +1,10 @@
 //! The clock of a stream, and what it trims.
-ghost use Rattle.std.specs.Prelude.{◌≡◌, ◌≤◌, map};
+ghost use Rattle.std.specs.Prelude.{◌≡◌, ◌≤◌};
 ghost use Rattle.kds_defs.specs.Journal.{Journal};
-ghost use Rattle.kds_defs.specs.Streams.{floor_of};
 ghost use Rattle.kds_stream.specs.Showing.{Shows};
-ghost use Rattle.kds_stream.specs.Value.{cut_at, later_cut, settled_log};
+ghost use Rattle.kds_stream.specs.Value.{cut_at, later_cut, next_of, settled};
 
-use crate::logs::settle_logs;
+use crate::logs::settle_at;
 use crate::stream::Stream;
 use kds_base::Moment;
 use kds_defs::limits::HOUR;
@@ -30,6 +29,16 @@ pub(super) fn later_cut(a: Option<Moment>, b: Option<Moment>) -> Option<Moment>
     }
 }
 
+/// The place after this one of so many, in a circle.
+fn next_of(count: usize, place: usize) -> usize
+    ensures { result ≡ next_of count place }
+{
+    match place.checked_add(1) {
+        Some(next) if next < count => next,
+        _ => 0,
+    }
+}
+
 impl Stream {
     /// Raises the clock and with it the cut, and drops nothing yet.
     pub fn advance(&mut self, clock: Moment)
@@ -43,13 +52,15 @@ impl Stream {
         self.cut = later_cut(self.cut, cut_at(clock, self.hours));
     }
 
-    /// Drops the records that are trimmed; no answer depends on it.
+    /// Drops the trimmed records of the log whose turn it is; no answer depends on it. The logs take turns, so that
+    /// each is settled once in as many calls as there are logs.
     pub fn settle(&mut self)
         ensures fields { (self.new.no ≡ self.old.no) × (self.new.name ≡ self.old.name) × (self.new.clock ≡ self.old.clock) }
         ensures shows { (log : Journal) → Shows self.old log → Shows self.new log }
-        ensures dropped { self.new ≡ record self.old { logs = map (settled_log (floor_of self.old.cut)) self.old.logs; clock_before = self.old.clock; cut_before = self.old.cut } }
+        ensures dropped { self.new ≡ settled self.old }
     {
-        settle_logs(&mut self.logs, self.cut);
+        settle_at(&mut self.logs, self.turn, &self.cut);
+        self.turn = next_of(self.logs.len(), self.turn);
         self.clock_before = self.clock;
         self.cut_before = self.cut;
     }

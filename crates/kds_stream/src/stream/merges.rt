@@ -1,11 +1,8 @@
 //! Merges of a stream's shards.
-ghost use Rattle.std.specs.Prelude.{◌≡◌, ◌≢◌, ◌∷◌, [], ℕ, IfOk, IfNone, IfSome, None, OnErr, OnOk};
-ghost use Rattle.kds_defs.specs.declared.reply.Reply.TheVariants as reply;
-ghost use Rattle.kds_defs.specs.Decision.{Accepted, Refused};
-ghost use Rattle.kds_defs.specs.Histories.{answer_of, lines_of};
-ghost use Rattle.kds_defs.specs.Journal.{Journal, with_lines};
+ghost use Rattle.std.specs.Prelude.{◌≡◌, ◌≢◌, ℕ, IfOk, IfNone, None, OnErr, OnOk};
+ghost use Rattle.kds_defs.specs.Journal.{Journal};
 ghost use Rattle.kds_defs.specs.StreamCommands.{last_number, merge};
-ghost use Rattle.kds_stream.specs.Showing.{Shows, merge_line};
+ghost use Rattle.kds_stream.specs.Showing.{Decides, IsDecidedBy, Shows, merge_line};
 ghost use Rattle.kds_stream.specs.Value.{IsChangedAt};
 ghost use Rattle.kds_tree.specs.Tree.{merge_refusal};
 
@@ -17,8 +14,7 @@ use kds_log::ShardLog;
 impl Stream {
     /// Why a merge of the shard with the other is refused, if it is.
     fn merge_refusal(&self, shard: ShardNo, other: ShardNo) -> Option<Refusal>
-        ensures refused { (log : Journal) (by : ℕ) → Shows self.now log → IfSome result (λ r. merge log self.now.clock by self.now.no shard other ≡ Refused r) }
-        ensures accepted { (log : Journal) (by : ℕ) → Shows self.now log → IfNone result (merge log self.now.clock by self.now.no shard other ≡ Accepted (merge_line log self.now.clock by self.now.no shard other ∷ []) reply.Done) }
+        ensures decided { (log : Journal) (by : ℕ) → let v = self.now in Shows v log → IsDecidedBy result (merge_line log v.clock by v.no shard other) (merge log v.clock by v.no shard other) }
         ensures merges { IfNone result (merge_refusal self.now.tree shard other ≡ None) }
         ensures free { IfNone result (self.now.next ≢ last_number) }
     {
@@ -40,9 +36,7 @@ impl Stream {
     /// starts right after the other, `Spent` where the next number is the greatest of a `u64`
     /// (Kinesis API Reference, MergeShards).
     pub fn merge(&mut self, shard: ShardNo, other: ShardNo) -> Result<Answer, Memory>
-        ensures answered { (log : Journal) (by : ℕ) → Shows self.old log → IfOk result (λ a.
-            (a ≡ answer_of (merge log self.old.clock by self.old.no shard other))
-            × Shows self.new (with_lines (lines_of (merge log self.old.clock by self.old.no shard other)) log)) }
+        ensures answered { IfOk result (λ a. Decides self.old self.new a (λ log by. merge log self.old.clock by self.old.no shard other)) }
         ensures fields { (self.new.no ≡ self.old.no) × (self.new.name ≡ self.old.name) × (self.new.clock ≡ self.old.clock) }
         ensures refused { IfOk result (λ a. OnErr a (self.new ≡ self.old)) }
         ensures changed { IfOk result (λ a. OnOk a (IsChangedAt self.old self.new)) }

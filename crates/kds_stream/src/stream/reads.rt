@@ -5,10 +5,11 @@ ghost use Rattle.std.specs.Option.{option_map};
 ghost use Rattle.kds_defs.specs.Histories.{answer_of};
 ghost use Rattle.kds_defs.specs.Journal.{Journal};
 ghost use Rattle.kds_defs.specs.Lawful.{IsLimit};
-ghost use Rattle.kds_defs.specs.Listings.{ends_at, get_iterator, get_records, list_shards, refs_of};
-ghost use Rattle.kds_defs.specs.Records.{batch, numbers_of, place_after, stored};
+ghost use Rattle.kds_defs.specs.Listings.{get_iterator, get_records, list_shards, refs_of};
+ghost use Rattle.kds_defs.specs.Records.{batch, stored};
 ghost use Rattle.kds_defs.specs.Shards.{listed_among, shown};
 ghost use Rattle.kds_defs.specs.Streams.{floor_of};
+ghost use Rattle.kds_stream.specs.Reading.{read_ends};
 ghost use Rattle.kds_stream.specs.Showing.{Shows};
 ghost use Rattle.kds_stream.specs.Value.{IsUnder, is_listed_at, listed_at};
 
@@ -146,7 +147,7 @@ impl Stream {
         requires { is_listed_at (floor_of self.now.cut) (slice_get self.now.tree shard) ≡ true }
         ensures batch { (log : Journal) → Shows self.now log → IfOk result (λ r. r.0 ≡ map stored (batch log self.now.clock self.now.no shard position limit)) }
         ensures numbers { IfOk result (λ r. AllByRecursion (λ x. x.seq < 2 ^ 64 - 1) r.0) }
-        ensures end { (log : Journal) → Shows self.now log → IfOk result (λ r. r.1 ≡ ends_at log self.now.clock self.now.no shard (place_after position (numbers_of (batch log self.now.clock self.now.no shard position limit)))) }
+        ensures end { (log : Journal) → Shows self.now log → IfOk result (λ r. r.1 ≡ read_ends log self.now.clock self.now.no shard position limit) }
     {
         let log = &self.logs[shard.0 as usize];
         let (batch, place) = batch_at(log, alloc, self.cut, position, limit)?;

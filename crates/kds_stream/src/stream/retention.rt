@@ -1,10 +1,8 @@
 //! The retention of a stream.
-ghost use Rattle.std.specs.Prelude.{◌≡◌, ℕ, nat_lt, if◌then◌else◌, OnErr, OnOk};
-ghost use Rattle.kds_defs.specs.Histories.{answer_of, lines_of};
-ghost use Rattle.kds_defs.specs.Journal.{Journal, with_lines};
+ghost use Rattle.std.specs.Prelude.{◌≡◌, nat_lt, if◌then◌else◌, OnErr, OnOk};
 ghost use Rattle.kds_defs.specs.Lawful.{IsRetention};
 ghost use Rattle.kds_defs.specs.StreamCommands.{keep};
-ghost use Rattle.kds_stream.specs.Showing.{Shows};
+ghost use Rattle.kds_stream.specs.Showing.{Decides};
 ghost use Rattle.kds_stream.specs.Value.{IsKeptAt};
 
 use crate::stream::Stream;
@@ -28,9 +26,7 @@ impl Stream {
     /// IncreaseStreamRetentionPeriod, DecreaseStreamRetentionPeriod).
     pub fn keep(&mut self, hours: u32, raise: bool) -> Answer
         requires { IsRetention hours }
-        ensures answered { (log : Journal) (by : ℕ) → Shows self.old log →
-            (result ≡ answer_of (keep log self.old.clock by self.old.no hours raise))
-            × Shows self.new (with_lines (lines_of (keep log self.old.clock by self.old.no hours raise)) log) }
+        ensures answered { Decides self.old self.new result (λ log by. keep log self.old.clock by self.old.no hours raise) }
         ensures fields { (self.new.no ≡ self.old.no) × (self.new.name ≡ self.old.name) × (self.new.clock ≡ self.old.clock) }
         ensures refused { OnErr result (self.new ≡ self.old) }
         ensures changed { OnOk result (IsKeptAt hours self.old self.new) }

@@ -1,14 +1,11 @@
 //! Splits of a stream's shards.
-ghost use Rattle.std.specs.Prelude.{◌≡◌, ◌≢◌, ◌∷◌, [], ◌^◌, ◌<◌, ◌≤◌, not, nat_le, length, true, ℕ, IfOk, IfNone, IfSome, None, OnErr, OnOk};
+ghost use Rattle.std.specs.Prelude.{◌≡◌, ◌≢◌, ◌<◌, length, ℕ, IfOk, IfNone, None, OnErr, OnOk};
 ghost use Rattle.std.specs.List.{filter};
 ghost use Rattle.kds_defs.specs.declared.limits.TheConstants.{OPEN_SHARDS};
-ghost use Rattle.kds_defs.specs.declared.reply.Reply.TheVariants as reply;
-ghost use Rattle.kds_defs.specs.Decision.{Accepted, Refused};
-ghost use Rattle.kds_defs.specs.Histories.{answer_of, lines_of};
-ghost use Rattle.kds_defs.specs.Journal.{Journal, with_lines};
-ghost use Rattle.kds_defs.specs.Shards.{is_open, open_count};
-ghost use Rattle.kds_defs.specs.StreamCommands.{last_number, split};
-ghost use Rattle.kds_stream.specs.Showing.{Shows, split_line};
+ghost use Rattle.kds_defs.specs.Journal.{Journal};
+ghost use Rattle.kds_defs.specs.Shards.{is_open};
+ghost use Rattle.kds_defs.specs.StreamCommands.{last_number, split_where};
+ghost use Rattle.kds_stream.specs.Showing.{Decides, IsDecidedBy, Shows, is_full, split_line};
 ghost use Rattle.kds_stream.specs.Value.{IsChangedAt};
 ghost use Rattle.kds_tree.specs.Tree.{split_refusal};
 
@@ -19,18 +16,16 @@ use kds_defs::{Answer, Refusal, Reply};
 use kds_log::ShardLog;
 
 impl Stream {
-    /// Whether another shard may be open: over all streams, as `room` tells, and in this one.
-    fn has_room(&self, room: bool) -> bool
-        ensures value { (count : ℕ) → room ≡ not (nat_le OPEN_SHARDS count) → length (filter is_open self.now.tree) ≤ count → result ≡ not (nat_le OPEN_SHARDS count) }
-        ensures few { result ≡ true → length (filter is_open self.now.tree) < OPEN_SHARDS }
+    /// Whether no further shard may be open: over all streams, as `room` tells, or in this one.
+    fn is_full(&self, room: bool) -> bool
+        ensures { result ≡ is_full self.now room }
     {
-        room && u64::from(self.tree.open_count()) < OPEN_SHARDS
+        !room || u64::from(self.open_count()) >= OPEN_SHARDS
     }
 
     /// Why a split of the shard at the key is refused, if it is.
     fn split_refusal(&self, shard: ShardNo, at: u128, room: bool) -> Option<Refusal>
-        ensures refused { (log : Journal) (by : ℕ) → Shows self.now log → room ≡ not (nat_le OPEN_SHARDS (open_count log)) → length (filter is_open self.now.tree) ≤ open_count log → IfSome result (λ r. split log self.now.clock by self.now.no shard at ≡ Refused r) }
-        ensures accepted { (log : Journal) (by : ℕ) → Shows self.now log → room ≡ not (nat_le OPEN_SHARDS (open_count log)) → length (filter is_open self.now.tree) ≤ open_count log → IfNone result (split log self.now.clock by self.now.no shard at ≡ Accepted (split_line log self.now.clock by self.now.no shard at ∷ []) reply.Done) }
+        ensures decided { (log : Journal) (by : ℕ) → let v = self.now in Shows v log → IsDecidedBy result (split_line log v.clock by v.no shard at) (split_where (is_full v room) log v.clock by v.no shard at) }
         ensures splits { IfNone result (split_refusal self.now.tree shard at ≡ None) }
         ensures free { IfNone result (self.now.next ≢ last_number) }
         ensures few { IfNone result (length (filter is_open self.now.tree) < OPEN_SHARDS) }
@@ -41,7 +36,7 @@ impl Stream {
         if let Some(refusal) = self.tree.split_refusal(shard, at) {
             return Some(refusal);
         }
-        if !self.has_room(room) {
+        if self.is_full(room) {
             return Some(Refusal::Full);
         }
         let next = self.next;
@@ -52,14 +47,11 @@ impl Stream {
     }
 
     /// Splits a shard at a key: it is closed with the next number, and its two children come last. `room` tells
-    /// whether another shard may be open, over all live streams. `NoShard` where the shard isn't listed, `ShardClosed` where it is
-    /// closed, `BadSplit` where a part would be empty, `Full` without room, `Spent` where the next number is the
-    /// greatest of a `u64` (Kinesis API Reference, SplitShard).
+    /// whether another shard may be open, over all live streams. `NoShard` where the shard isn't listed, `ShardClosed`
+    /// where it is closed, `BadSplit` where a part would be empty, `Full` without room, `Spent` where the next number
+    /// is the greatest of a `u64` (Kinesis API Reference, SplitShard).
     pub fn split(&mut self, shard: ShardNo, at: u128, room: bool) -> Result<Answer, Memory>
-        requires { at < 2 ^ 128 }
-        ensures answered { (log : Journal) (by : ℕ) → Shows self.old log → room ≡ not (nat_le OPEN_SHARDS (open_count log)) → length (filter is_open self.old.tree) ≤ open_count log → IfOk result (λ a.
-            (a ≡ answer_of (split log self.old.clock by self.old.no shard at))
-            × Shows self.new (with_lines (lines_of (split log self.old.clock by self.old.no shard at)) log)) }
+        ensures answered { IfOk result (λ a. Decides self.old self.new a (λ log by. split_where (is_full self.old room) log self.old.clock by self.old.no shard at)) }
         ensures fields { (self.new.no ≡ self.old.no) × (self.new.name ≡ self.old.name) × (self.new.clock ≡ self.old.clock) }
         ensures refused { IfOk result (λ a. OnErr a (self.new ≡ self.old)) }
         ensures changed { IfOk result (λ a. OnOk a (IsChangedAt self.old self.new)) }

@@ -1,14 +1,13 @@
-use Rattle.std.proofs.Common.{◌≡◌, ◌≤◌, length, map, take}
-use Rattle.std.specs.List.{AllByRecursion}
-use Rattle.kds_defs.specs.declared.reply.Place.{Place}
+use Rattle.std.proofs.Common.{◌≡◌, ◌≤◌, ℕ, map, take}
+use Rattle.std.specs.List.{count_by}
 use Rattle.kds_log.specs.Log.{log_of}
-use Rattle.kds_stream.specs.Routes.{room_at}
+use Rattle.kds_stream.specs.Routes.{is_place_of, room_at}
 use Rattle.kds_stream.proofs.routes.reserve_all.Given as goal
 
--- the logs are as they were, and those at the places so far have memory
+-- the logs are as they were, and there is memory for the places so far
 abbrev pub invariant-loop-place : goal.invariant-loop-place
 invariant-loop-place l =
     record {
       same : map log_of l.logs ≡ map log_of l.initial.logs;
-      room : AllByRecursion (λ (p : Place). length l.places ≤ room_at l.logs p.shard) (take l.place-index l.places);
+      room : (sh : ℕ) → count_by (is_place_of sh) (take l.place-index l.places) ≤ room_at l.logs sh;
     }

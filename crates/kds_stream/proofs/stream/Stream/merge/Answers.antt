@@ -27,5 +27,5 @@ returns-clause-answered c log by show =
     let tree = c.in_ok-_child.ensures.value ∙ ap (λ o. value_by o v.tree (merged_shards c.args.shard c.args.other (record { number = v.next; clock = v.clock }) (v.next + 1) v.tree)) passes in
     let logs : map log_of c.push_reserved.new.self.items ≡ v.logs ++ (empty_log ∷ []) = one_more_log _ _ _ _ c.push_reserved.ensures.items (ap (map log_of) c.in_ok-reserve.ensures.items) c.new.ensures in
     let show' : Shows v log = subst (λ (u : StreamValue). Shows u log) (sym c.self.view_is) show in
-    merge_done c.args.self.now v _ log by c.args.shard c.args.other c.self.view_is (c.in_default.ensures.accepted log by show)
+    merge_done c.args.self.now v _ log by c.args.shard c.args.other c.self.view_is (c.in_default.ensures.decided log by show)
     (shows_merged v log by show' c.self.invariant c.args.shard c.args.other _ _ _ (ap (λ n. n + 1) c.seq.view_is) tree logs)

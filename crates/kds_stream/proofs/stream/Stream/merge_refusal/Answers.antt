@@ -13,8 +13,8 @@ use Rattle.kds_stream.proofs.stream.Stream.merge_refusal.Goals as goal
 use Rattle.kds_stream.proofs.LogLemmas.{as_many_logs}
 use Rattle.kds_stream.proofs.stream.Stream.merge_refusal.Goals.{then-not-is_listed-via-then-not-is_listed, then-not-is_listed-via-else-not-is_listed+then-not-is_listed-2}
 
-pub returns-then-not-is_listed-clause-refused : goal.returns-then-not-is_listed-clause-refused
-returns-then-not-is_listed-clause-refused c log by show =
+pub returns-then-not-is_listed-clause-decided : goal.returns-then-not-is_listed-clause-decided
+returns-then-not-is_listed-clause-decided c log by show =
     let first = is_listed_at (floor_of c.args.self.now.cut) (slice_get c.args.self.now.tree c.args.shard) in
     let second = is_listed_at (floor_of c.args.self.now.cut) (slice_get c.args.self.now.tree c.args.other) in
     merge_unlisted c.args.self.now log by show c.args.shard c.args.other
@@ -23,8 +23,8 @@ returns-then-not-is_listed-clause-refused c log by show =
       | then-not-is_listed-via-else-not-is_listed+then-not-is_listed-2 w ↦ not_second first second (sym w.if-not-is_listed-2.ensures)
     ])
 
-pub returns-in-Some-clause-refused : goal.returns-in-Some-clause-refused
-returns-in-Some-clause-refused c log by show =
+pub returns-in-Some-clause-decided : goal.returns-in-Some-clause-decided
+returns-in-Some-clause-decided c log by show =
     let v : StreamValue = the_view c.self.inside in
     let show' = subst (λ (u : StreamValue). Shows u log) (sym c.self.view_is) show in
     let listed = subst (λ (u : StreamValue). is_listed_at (floor_of u.cut) (slice_get u.tree c.args.shard) ≡ true) (sym c.self.view_is) (sym c.if-not-is_listed.ensures) in
@@ -32,8 +32,8 @@ returns-in-Some-clause-refused c log by show =
     subst (λ (u : StreamValue). merge log u.clock by u.no c.args.shard c.args.other ≡ Refused c.in-Some.refusal) c.self.view_is
     (merge_refused v log by show' c.args.shard c.args.other c.in-Some.refusal listed other_listed c.in-Some.ensures)
 
-pub returns-then-next-clause-refused : goal.returns-then-next-clause-refused
-returns-then-next-clause-refused c log by show =
+pub returns-then-next-clause-decided : goal.returns-then-next-clause-decided
+returns-then-next-clause-decided c log by show =
     let v : StreamValue = the_view c.self.inside in
     let show' = subst (λ (u : StreamValue). Shows u log) (sym c.self.view_is) show in
     let listed = subst (λ (u : StreamValue). is_listed_at (floor_of u.cut) (slice_get u.tree c.args.shard) ≡ true) (sym c.self.view_is) (sym c.if-not-is_listed.ensures) in
@@ -42,8 +42,8 @@ returns-then-next-clause-refused c log by show =
     subst (λ (u : StreamValue). merge log u.clock by u.no c.args.shard c.args.other ≡ Refused refusal.Spent) c.self.view_is
     (merge_spent v log by show' c.args.shard c.args.other listed other_listed passes (sym c.next.view_is ∙ c.if-next.true))
 
-pub returns-clause-accepted : goal.returns-clause-accepted
-returns-clause-accepted c log by show =
+pub returns-clause-decided : goal.returns-clause-decided
+returns-clause-decided c log by show =
     let v : StreamValue = the_view c.self.inside in
     let show' = subst (λ (u : StreamValue). Shows u log) (sym c.self.view_is) show in
     let listed = subst (λ (u : StreamValue). is_listed_at (floor_of u.cut) (slice_get u.tree c.args.shard) ≡ true) (sym c.self.view_is) (sym c.if-not-is_listed.ensures) in

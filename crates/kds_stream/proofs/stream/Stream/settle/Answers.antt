@@ -4,22 +4,21 @@ use Rattle.kds_log.specs.Log.{LogValue, LogWithRoom, log_of}
 use Rattle.kds_stream.proofs.Clocks.{settled_stream, shows_settled}
 use Rattle.kds_stream.proofs.LogLemmas.{written_back}
 use Rattle.kds_stream.specs.Showing.{Shows}
-use Rattle.kds_stream.specs.Value.{IsStream, StreamValue, settled_log}
+use Rattle.kds_stream.specs.Value.{IsStream, StreamValue, settled_at}
 use Rattle.kds_stream.specs.contracts.stream.Stream.{the_view}
 use Rattle.kds_stream.proofs.stream.Stream.settle.Goals as goal
 
 pub invariant_of-self : goal.invariant_of-self
 invariant_of-self c =
     let v : StreamValue = the_view c.self.inside in
-    let f = settled_log (floor_of v.cut) in
-    let back : map log_of (take c.self.inside.logs.len (c.settle_logs.new.logs ++ drop (length c.settle_logs.new.logs) c.self.inside.logs.items)) ≡ map f v.logs =
-    ap (map log_of) (written_back _ c.settle_logs.new.logs c.self.inside.logs.items (omega arith)) ∙ c.settle_logs.ensures ∙ ap (λ (ls : List LogWithRoom). map f (map log_of ls)) c.deref_mut.ensures.value in
-    subst (λ (ls : List LogValue). IsStream (record v { logs = ls; clock_before = v.clock; cut_before = v.cut })) (sym back) (settled_stream v c.self.invariant)
+    let back : map log_of (take c.self.inside.logs.len (c.settle_at.new.logs ++ drop (length c.settle_at.new.logs) c.self.inside.logs.items)) ≡ settled_at (floor_of v.cut) v.turn v.logs =
+    ap (map log_of) (written_back _ c.settle_at.new.logs c.self.inside.logs.items (omega arith)) ∙ c.settle_at.ensures ∙ ap (λ (ls : List LogWithRoom). settled_at (floor_of v.cut) v.turn (map log_of ls)) c.deref_mut.ensures.value in
+    subst (λ (ls : List LogValue). IsStream (record v { logs = ls; clock_before = v.clock; cut_before = v.cut; turn = c.next_of-self-inside.result })) (sym back) (settled_stream v v.turn c.next_of-self-inside.result c.self.invariant)
 
 pub returns-clause-shows : goal.returns-clause-shows
 returns-clause-shows c log shown =
     let v : StreamValue = the_view c.self.inside in
-    let f = settled_log (floor_of v.cut) in
-    let back : map log_of (take c.self.inside.logs.len (c.settle_logs.new.logs ++ drop (length c.settle_logs.new.logs) c.self.inside.logs.items)) ≡ map f v.logs =
-    ap (map log_of) (written_back _ c.settle_logs.new.logs c.self.inside.logs.items (omega arith)) ∙ c.settle_logs.ensures ∙ ap (λ (ls : List LogWithRoom). map f (map log_of ls)) c.deref_mut.ensures.value in
-    subst (λ (ls : List LogValue). Shows (record v { logs = ls; clock_before = v.clock; cut_before = v.cut }) log) (sym back) (shows_settled v log (subst (λ (w : StreamValue). Shows w log) (sym c.self.view_is) shown))
+    let back : map log_of (take c.self.inside.logs.len (c.settle_at.new.logs ++ drop (length c.settle_at.new.logs) c.self.inside.logs.items)) ≡ settled_at (floor_of v.cut) v.turn v.logs =
+    ap (map log_of) (written_back _ c.settle_at.new.logs c.self.inside.logs.items (omega arith)) ∙ c.settle_at.ensures ∙ ap (λ (ls : List LogWithRoom). settled_at (floor_of v.cut) v.turn (map log_of ls)) c.deref_mut.ensures.value in
+    subst (λ (ls : List LogValue). Shows (record v { logs = ls; clock_before = v.clock; cut_before = v.cut; turn = c.next_of-self-inside.result }) log) (sym back)
+    (shows_settled v v.turn v.clock v.cut c.next_of-self-inside.result log (subst (λ (w : StreamValue). Shows w log) (sym c.self.view_is) shown))

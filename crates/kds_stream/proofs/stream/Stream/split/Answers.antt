@@ -5,7 +5,7 @@ use Rattle.kds_defs.specs.Shards.{is_open, split_shards}
 use Rattle.kds_defs.specs.StreamCommands.{last_number}
 use Rattle.kds_stream.proofs.LogLemmas.{two_more}
 use Rattle.kds_stream.proofs.Resharded.{split_done, shows_split, stream_split}
-use Rattle.kds_stream.specs.Showing.{Shows}
+use Rattle.kds_stream.specs.Showing.{Shows, is_full}
 use Rattle.kds_stream.specs.Value.{StreamValue, empty_log}
 use Rattle.kds_stream.specs.contracts.stream.Stream.{the_view}
 use Rattle.kds_tree.specs.Tree.{split_refusal, value_by}
@@ -24,7 +24,7 @@ invariant_of-self-2 c =
     stream_split v c.args.shard c.args.at _ _ _ (ap (λ n. n + 1) c.seq.view_is) free few passes tree logs c.self.invariant
 
 pub returns-clause-answered : goal.returns-clause-answered
-returns-clause-answered c log by show room below =
+returns-clause-answered c log by show =
     let v : StreamValue = the_view c.self.inside in
     let free : v.next ≢ last_number = subst (λ (u : StreamValue). u.next ≢ last_number) (sym c.self.view_is) c.in_default.ensures.free in
     let passes = subst (λ (u : StreamValue). split_refusal u.tree c.args.shard c.args.at ≡ None) (sym c.self.view_is) c.in_default.ensures.splits in
@@ -32,5 +32,5 @@ returns-clause-answered c log by show room below =
     let logs : map log_of c.push_reserved-2.new.self.items ≡ v.logs ++ (empty_log ∷ empty_log ∷ []) =
     two_more _ _ _ _ _ _ c.push_reserved-2.ensures.items c.push_reserved.ensures.items (ap (map log_of) c.in_ok-reserve.ensures.items) c.new.ensures c.new-2.ensures in
     let show' : Shows v log = subst (λ (u : StreamValue). Shows u log) (sym c.self.view_is) show in
-    split_done c.args.self.now v _ log by c.args.shard c.args.at c.self.view_is (c.in_default.ensures.accepted log by show room below)
+    split_done c.args.self.now v _ (is_full c.args.self.now c.args.room) log by c.args.shard c.args.at c.self.view_is (c.in_default.ensures.decided log by show)
     (shows_split v log by show' c.self.invariant c.args.shard c.args.at _ _ _ (ap (λ n. n + 1) c.seq.view_is) tree logs)

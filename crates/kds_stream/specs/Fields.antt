@@ -1,0 +1,22 @@
+-- What contracts see of a stream, by its fields.
+use Rattle.std.specs.Prelude.{map}
+use Rattle.kds_log.specs.Log.{log_of}
+use Rattle.kds_stream.specs.declared.stream.Stream.TheInside.{Inside}
+use Rattle.kds_stream.specs.Value.{StreamValue}
+
+abbrev pub value_of : Inside → StreamValue
+value_of s =
+    record {
+      no = s.no;
+      name = s.name;
+      made = s.made;
+      hours = s.hours;
+      tree = s.tree;
+      logs = map log_of s.logs.items;
+      next = s.next;
+      clock = s.clock;
+      cut = s.cut;
+      clock_before = s.clock_before;
+      cut_before = s.cut_before;
+      turn = s.turn;
+    }
