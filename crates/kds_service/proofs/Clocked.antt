@@ -1,9 +1,9 @@
 -- The streams of a service at a later clock, and back at the earlier one.
-use Rattle.std.proofs.Common.{◌≡◌, ℕ, ◌<◌, List, [], ◌∷◌, map, refl, sym, ap, subst, ◌∙◌}
+use Rattle.std.proofs.Common.{◌≡◌, ℕ, zero, suc, ◌<◌, ◌≤◌, List, [], ◌∷◌, length, map, slice_get, slice_set, Some, refl, sym, ap, subst, ◌∙◌, arith}
 use Rattle.kds_defs.specs.Journal.{Journal}
 use Rattle.kds_stream.specs.Showing.{Shows}
-use Rattle.kds_stream.specs.Value.{StreamValue}
-use Rattle.kds_service.specs.Clocks.{advanced, retreated, settled}
+use Rattle.kds_stream.specs.Value.{StreamValue, settled}
+use Rattle.kds_service.specs.Clocks.{advanced, retreated, settled_in}
 use Rattle.kds_service.specs.Shown.{AreAt, AreShown, IsRising, ServiceValue, ShowsAll, is_among, numbers_of}
 
 -- ---- where the streams stand
@@ -12,9 +12,30 @@ pub advanced_at : (clock : ℕ) (vs : List StreamValue) → AreAt clock (map (ad
 advanced_at clock [] = tt
 advanced_at clock (v ∷ vs) = (refl, advanced_at clock vs)
 
-pub settled_at : (c : ℕ) (vs : List StreamValue) → AreAt c vs → AreAt c (map settled vs)
-settled_at c [] at = tt
-settled_at c (v ∷ vs) at = (at.0, settled_at c vs at.1)
+pub settled_at : (c i : ℕ) (vs : List StreamValue) → AreAt c vs → AreAt c (settled_in i vs)
+settled_at c i [] at = tt
+settled_at c zero (v ∷ vs) at = at
+settled_at c (suc i) (v ∷ vs) at = (at.0, settled_at c i vs at.1)
+
+-- a reading that settling keeps is that of all
+pub kept_in : {Y : Type 0} (g : StreamValue → Y) → ((v : StreamValue) → g (settled v) ≡ g v) → (i : ℕ) (vs : List StreamValue) → map g (settled_in i vs) ≡ map g vs
+kept_in g same i [] = refl
+kept_in g same zero (v ∷ vs) = ap (λ y. y ∷ map g vs) (same v)
+kept_in g same (suc i) (v ∷ vs) = ap (λ ys. g v ∷ ys) (kept_in g same i vs)
+
+-- ---- the stream at a place
+
+pub settled_here : (i : ℕ) (vs : List StreamValue) (x v : StreamValue) → slice_get vs i ≡ Some x → v ≡ settled x → slice_set vs i v ≡ settled_in i vs
+settled_here i [] x v here is = refl
+settled_here zero (y ∷ vs) x v here is =
+    let e : y ≡ x = cc in
+    ap (λ u. u ∷ vs) (is ∙ ap settled (sym e))
+settled_here (suc i) (y ∷ vs) x v here is = ap (λ us. y ∷ us) (settled_here i vs x v here is)
+
+pub settled_beyond : (i : ℕ) (vs : List StreamValue) → length vs ≤ i → vs ≡ settled_in i vs
+settled_beyond i [] beyond = refl
+settled_beyond zero (v ∷ vs) beyond = absurd (omega (arith, beyond))
+settled_beyond (suc i) (v ∷ vs) beyond = ap (λ us. v ∷ us) (settled_beyond i vs (omega (arith, beyond)))
 
 pub back_at : (c clock : ℕ) (vs : List StreamValue) → AreAt c vs → AreAt c (map retreated (map (advanced clock) vs))
 back_at c clock [] at = tt

@@ -1,6 +1,6 @@
 -- A command to one stream, by the decision at that stream.
-use Rattle.std.proofs.Common.{◌≡◌, ℕ, List, [], slice_get, slice_set, Some, None, sym, ap, subst, ◌∙◌}
-use Rattle.std.specs.Prelude.{IfOk, Result, Ok, Err}
+use Rattle.std.proofs.Common.{◌≡◌, ℕ, Bool, List, [], slice_get, slice_set, Some, None, sym, ap, subst, ◌∙◌}
+use Rattle.std.specs.Prelude.{nat_le, IfOk, Result, Ok, Err}
 use Rattle.kds_defs.specs.declared.command.Command.{Command}
 use Rattle.kds_defs.specs.declared.reply.Refusal.{Refusal}
 use Rattle.kds_defs.specs.declared.reply.Refusal.TheVariants as refusal
@@ -8,8 +8,11 @@ use Rattle.kds_defs.specs.declared.reply.Reply.{Reply}
 use Rattle.kds_defs.specs.Decision.{Decision, Refused}
 use Rattle.kds_defs.specs.Histories.{answer_of, decide, lines_of, with_stream}
 use Rattle.kds_defs.specs.Journal.{Journal, Line, with_lines}
+use Rattle.kds_defs.specs.declared.limits.TheConstants.{OPEN_SHARDS}
+use Rattle.kds_defs.specs.Shards.{open_count}
+use Rattle.kds_defs.specs.StreamCommands.{split, split_where}
 use Rattle.kds_defs.proofs.Decisions.{after_refused, with_none, with_some}
-use Rattle.kds_stream.specs.Showing.{Shows}
+use Rattle.kds_stream.specs.Showing.{Decides, Shows, is_full}
 use Rattle.kds_stream.specs.Value.{StreamValue}
 use Rattle.kds_service.proofs.Lists.{at_get, shown_get}
 use Rattle.kds_service.proofs.Readings.{named_at, none_named}
@@ -51,14 +54,30 @@ stream_at_place w log name i x next found here all = with_some _ _ _ x.no (named
 abbrev pub Changes : Type 0
 Changes = (c b n i : ℕ) (vs : List StreamValue) (x v : StreamValue) (log : Journal) (lines : List Line) → ShowsAll (service c b n vs) log → slice_get vs i ≡ Some x → v.no ≡ x.no → v.clock ≡ c → AreOf x.no c lines → Shows v (with_lines lines log) → ShowsAll (service c b n (slice_set vs i v)) (with_lines lines log)
 
+-- what the stream at a place owes, of every journal that the whole service shows
+abbrev pub DecidesIn : ℕ → List StreamValue → StreamValue → StreamValue → (Journal → ℕ → ℕ → ℕ → Decision) → Result Reply Refusal → Type 0
+DecidesIn c vs x v d gives = (b n : ℕ) (log : Journal) (by : ℕ) → ShowsAll (service c b n vs) log → Shows x log
+    → (gives ≡ answer_of (d log x.clock by x.no)) × Shows v (with_lines (lines_of (d log x.clock by x.no)) log)
+
+pub decided_in : {E : Type 0} (c : ℕ) (vs : List StreamValue) (x v : StreamValue) (d : Journal → ℕ → ℕ → ℕ → Decision) (r : Result (Result Reply Refusal) E) → IfOk r (λ a. Decides x v a (λ log by. d log x.clock by x.no)) → IfOk r (DecidesIn c vs x v d)
+decided_in c vs x v d (Err e) led = tt
+decided_in c vs x v d (Ok gives) led = λ b n log by all shown. led log by shown
+
+-- the same of a split, where the stream was told whether a shard may be open
+pub split_in : {E : Type 0} (c : ℕ) (vs : List StreamValue) (x v : StreamValue) (sh at : ℕ) (room : Bool) (r : Result (Result Reply Refusal) E)
+    → ((b n : ℕ) (log : Journal) → ShowsAll (service c b n vs) log → is_full x room ≡ nat_le OPEN_SHARDS (open_count log))
+    → IfOk r (λ a. Decides x v a (λ log by. split_where (is_full x room) log x.clock by x.no sh at)) → IfOk r (DecidesIn c vs x v (λ log clock by s. split log clock by s sh at))
+split_in c vs x v sh at room (Err e) full led = tt
+split_in c vs x v sh at room (Ok gives) full led = λ b n log by all shown.
+    subst (λ f. (gives ≡ answer_of (split_where f log x.clock by x.no sh at)) × Shows v (with_lines (lines_of (split_where f log x.clock by x.no sh at)) log)) (full b n log all) (led log by shown)
+
 -- the stream of the name is at a place; now it is v, and it answers as the decision at its number does
 pub write_leads : {E : Type 0} (c i : ℕ) (vs ws : List StreamValue) (x v : StreamValue) (what : Command) (name : List ℕ) (d : Journal → ℕ → ℕ → ℕ → Decision) (r : Result (Result Reply Refusal) E)
     → Changes → AreAt c vs → slice_get vs i ≡ Some x → Some i ≡ place_of vs name → ws ≡ slice_set vs i v
     → ((log : Journal) (by : ℕ) → decide log c by what ≡ with_stream log name (λ s. d log c by s))
     → ((log : Journal) (by s : ℕ) → AreOf s c (lines_of (d log c by s)))
     → v.no ≡ x.no → v.clock ≡ x.clock
-    → ((b n : ℕ) (log : Journal) (by : ℕ) → ShowsAll (service c b n vs) log → Shows x log
-    → IfOk r (λ a. (a ≡ answer_of (d log x.clock by x.no)) × Shows v (with_lines (lines_of (d log x.clock by x.no)) log)))
+    → IfOk r (DecidesIn c vs x v d)
     → IfOk r (LeadsTo c vs ws what)
 write_leads c i vs ws x v what name d (Err e) change at here found set is of no_is clock_is answered = tt
 write_leads c i vs ws x v what name d (Ok gives) change at here found set is of no_is clock_is answered = λ b n log by all.

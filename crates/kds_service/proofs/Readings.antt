@@ -1,6 +1,6 @@
 -- What the streams of a service say of the journal that they show.
 use Rattle.std.proofs.Common.{◌≡◌, ◌≢◌, ℕ, zero, suc, ◌+◌, ◌<◌, ◌≤◌, Bool, true, false, ◌==◌, cond, List, [], ◌∷◌, length, slice_get, Option, Some, None, refl, sym, ap, subst, ◌∙◌, arith}
-use Rattle.std.specs.Prelude.{is_some, nat_le, not}
+use Rattle.std.specs.Prelude.{◌||◌, is_some, nat_le, not}
 use Rattle.std.specs.Cmp.Lexicographic.{nat_list_eq_equiv}
 use Rattle.std.specs.List.{find, filter, position_from}
 use Rattle.std.proofs.lemmas.Bool.{eqb-false, eqb-true}
@@ -11,7 +11,7 @@ use Rattle.kds_defs.specs.declared.limits.TheConstants.{OPEN_SHARDS}
 use Rattle.kds_defs.specs.Journal.{Journal}
 use Rattle.kds_defs.specs.Shards.{is_open, open_count, open_in}
 use Rattle.kds_defs.specs.Streams.{is_live, live_streams, name_of, numbers_from, same_name, stream_named}
-use Rattle.kds_stream.specs.Showing.{IsFresh, Shows}
+use Rattle.kds_stream.specs.Showing.{IsFresh, Shows, is_full}
 use Rattle.kds_stream.specs.Value.{StreamValue}
 use Rattle.kds_service.proofs.Lists.{AreUpTo, either_way, neither, not_below, same_some, unequal}
 use Rattle.kds_service.specs.Places.{open_total, place_of}
@@ -108,6 +108,13 @@ room_is w log room is all = is ∙ below (open_total w.streams) ∙ ap (λ n. no
   where
     below : (n : ℕ) → nat_le (n + 1) OPEN_SHARDS ≡ not (nat_le OPEN_SHARDS n)
     below n = grind (arith, nat_tests)
+
+-- so a stream's own count adds nothing to what the service tells
+pub full_is : (log : Journal) (x : StreamValue) (room : Bool) → room ≡ not (nat_le OPEN_SHARDS (open_count log)) → length (filter is_open x.tree) ≤ open_count log → is_full x room ≡ nat_le OPEN_SHARDS (open_count log)
+full_is log x room is within = ap (λ b. not b || nat_le OPEN_SHARDS (length (filter is_open x.tree))) is ∙ by (length (filter is_open x.tree)) (open_count log) within
+  where
+    by : (own all : ℕ) → own ≤ all → (not (not (nat_le OPEN_SHARDS all)) || nat_le OPEN_SHARDS own) ≡ nat_le OPEN_SHARDS all
+    by own all h = grind (arith, nat_tests)
 
 -- ---- the stream of a name
 

@@ -2,7 +2,7 @@
 ghost use Rattle.std.specs.Prelude.{◌≡◌, ◌≤◌, ℕ, map};
 ghost use Rattle.indexmap.specs.IndexMap.{keys, values};
 ghost use Rattle.kds_defs.specs.Journal.{Journal};
-ghost use Rattle.kds_service.specs.Clocks.{advanced, retreated, settled};
+ghost use Rattle.kds_service.specs.Clocks.{advanced, retreated, settled_in};
 ghost use Rattle.kds_service.specs.Shown.{AreAt, AreShown};
 
 use crate::places::Streams;
@@ -31,13 +31,13 @@ pub fn retreat_all(streams: &mut Streams)
     }
 }
 
-/// Drops the trimmed records of every stream; no answer depends on it.
-pub fn settle_all(streams: &mut Streams)
-    ensures value { values streams.new ≡ map settled (values streams.old) }
+/// Drops trimmed records of the stream at a place, if there is one; no answer depends on it.
+pub fn settle_at(streams: &mut Streams, i: usize)
+    ensures value { values streams.new ≡ settled_in i (values streams.old) }
     ensures keys { keys streams.new ≡ keys streams.old }
     ensures shows { (log : Journal) → AreShown log (values streams.old) → AreShown log (values streams.new) }
 {
-    for i in 0..streams.len() {
+    if i < streams.len() {
         streams[i].settle();
     }
 }

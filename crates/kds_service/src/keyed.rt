@@ -4,9 +4,9 @@ ghost use Rattle.std.specs.List.{AllByRecursion};
 ghost use Rattle.std.specs.Option.{option_map};
 ghost use Rattle.indexmap.specs.IndexMap.{values};
 ghost use Rattle.kds_defs.specs.Journal.{Journal};
-ghost use Rattle.kds_defs.specs.Listings.{ends_at};
-ghost use Rattle.kds_defs.specs.Records.{batch, numbers_of, place_after, stored};
+ghost use Rattle.kds_defs.specs.Records.{batch, stored};
 ghost use Rattle.kds_defs.specs.Shards.{shown};
+ghost use Rattle.kds_stream.specs.Reading.{read_ends};
 ghost use Rattle.kds_service.specs.Keyed.{is_listed_in, listed_keys, state_in, stream_at};
 ghost use Rattle.kds_service.specs.Shown.{ShowsAll, service};
 
@@ -65,7 +65,7 @@ pub fn read(
     requires { is_listed_in (values streams.now) key.now ≡ true }
     ensures batch { (c b n : ℕ) (log : Journal) → ShowsAll (service c b n (values streams.now)) log → IfOk result (λ r. r.0 ≡ map stored (batch log c key.now.stream key.now.shard position limit)) }
     ensures numbers { IfOk result (λ r. AllByRecursion (λ x. x.seq < 2 ^ 64 - 1) r.0) }
-    ensures end { (c b n : ℕ) (log : Journal) → ShowsAll (service c b n (values streams.now)) log → IfOk result (λ r. r.1 ≡ ends_at log c key.now.stream key.now.shard (place_after position (numbers_of (batch log c key.now.stream key.now.shard position limit)))) }
+    ensures end { (c b n : ℕ) (log : Journal) → ShowsAll (service c b n (values streams.now)) log → IfOk result (λ r. r.1 ≡ read_ends log c key.now.stream key.now.shard position limit) }
 {
     match find(streams, key.stream) {
         Some(stream) => stream.read(alloc, key.shard, position, limit),

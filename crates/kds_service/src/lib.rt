@@ -11,8 +11,6 @@ mod places;
 mod reads;
 mod serve;
 mod service;
-#[cfg(test)]
-mod tests;
 
 pub use others::lease_lines;
 pub use service::Service;

@@ -49,15 +49,6 @@ pub fn serve(
         Command::Keep { name, hours, raise } => Ok(keep(streams, clock, &name, hours, raise)),
         Command::Shards { name, after, limit } => shards(streams, clock, &name, after, limit),
         Command::More { page, limit } => more(streams, clock, &page, limit),
-        Command::Survey
-        | Command::MakeLease { .. }
-        | Command::Take { .. }
-        | Command::Renew { .. }
-        | Command::Free { .. }
-        | Command::OpenShard { .. }
-        | Command::Read { .. }
-        | Command::Give { .. }
-        | Command::Mark { .. }
-        | Command::CutLease { .. } => unreachable!(),
+        _ => unreachable!(),
     }
 }

@@ -1,20 +1,21 @@
 //! The service.
-ghost use Rattle.std.specs.Prelude.{◌≡◌, ◌≤◌, ◌-◌, ◌^◌, ◌<◌, [], map, true, IfOk, OnErr};
+ghost use Rattle.std.specs.Prelude.{◌≡◌, ◌≤◌, ◌-◌, ◌^◌, ◌<◌, ℕ, [], map, true, IfOk, OnErr};
 ghost use Rattle.std.specs.List.{AllByRecursion};
 ghost use Rattle.std.specs.Option.{option_map};
 ghost use Rattle.kds_defs.specs.Journal.{Journal};
 ghost use Rattle.kds_defs.specs.Keys.{is_listed_key};
 ghost use Rattle.kds_defs.specs.Kinds.{is_service};
 ghost use Rattle.kds_defs.specs.Lawful.{IsLawfulCommand};
-ghost use Rattle.kds_defs.specs.Listings.{ends_at, listed_in};
-ghost use Rattle.kds_defs.specs.Records.{batch, numbers_of, place_after, stored};
+ghost use Rattle.kds_defs.specs.Listings.{listed_in};
+ghost use Rattle.kds_defs.specs.Records.{batch, stored};
 ghost use Rattle.kds_defs.specs.Shards.{shown};
 ghost use Rattle.kds_defs.specs.Streams.{live_streams};
-ghost use Rattle.kds_service.specs.Clocks.{CanGoBack, advanced, gone_back, settled};
+ghost use Rattle.kds_stream.specs.Reading.{read_ends};
+ghost use Rattle.kds_service.specs.Clocks.{CanGoBack, advanced, gone_back, settled_in};
 ghost use Rattle.kds_service.specs.Keyed.{is_listed_in, live_shard};
 ghost use Rattle.kds_service.specs.Shown.{Leads, ShowsAll, service};
 
-use crate::clocks::{advance_all, retreat_all, settle_all};
+use crate::clocks::{advance_all, retreat_all, settle_at};
 use crate::keyed;
 use crate::others::others;
 use crate::places::Streams;
@@ -33,6 +34,8 @@ pub struct Service {
     clock_before: Moment,
     made: u64,
     streams: Streams,
+    /// The place of the stream that is settled next.
+    turn: usize,
 }
 
 impl Model for Service {
@@ -59,6 +62,7 @@ impl Service {
             clock_before: Moment::start(),
             made: 0,
             streams: IndexMap::new(alloc),
+            turn: 0,
         }
     }
 
@@ -85,12 +89,17 @@ impl Service {
         self.clock = self.clock_before;
     }
 
-    /// Drops the records that are trimmed; no answer depends on it.
+    /// Drops trimmed records of one shard of one stream; no answer depends on it. The streams take turns, and so do
+    /// the shards of each, so that a turn costs the same however many there are.
     pub fn settle(&mut self)
-        ensures value { self.new ≡ service self.old.clock self.old.clock self.old.made (map settled self.old.streams) }
+        ensures clock { self.new.clock ≡ self.old.clock }
+        ensures dropped { (i : ℕ) × (self.new ≡ service self.old.clock self.old.clock self.old.made (settled_in i self.old.streams)) }
         ensures shows { (log : Journal) → ShowsAll self.old log → ShowsAll self.new log }
     {
-        settle_all(&mut self.streams);
+        let turn = self.turn;
+        settle_at(&mut self.streams, turn);
+        let next = turn.saturating_add(1);
+        self.turn = if next < self.streams.len() { next } else { 0 };
         self.clock_before = self.clock;
     }
 
@@ -140,7 +149,7 @@ impl Service {
         requires { is_listed_in self.now.streams key ≡ true }
         ensures batch { (log : Journal) → ShowsAll self.now log → IfOk result (λ r. r.0 ≡ map stored (batch log self.now.clock key.stream key.shard position limit)) }
         ensures numbers { IfOk result (λ r. AllByRecursion (λ x. x.seq < 2 ^ 64 - 1) r.0) }
-        ensures end { (log : Journal) → ShowsAll self.now log → IfOk result (λ r. r.1 ≡ ends_at log self.now.clock key.stream key.shard (place_after position (numbers_of (batch log self.now.clock key.stream key.shard position limit)))) }
+        ensures end { (log : Journal) → ShowsAll self.now log → IfOk result (λ r. r.1 ≡ read_ends log self.now.clock key.stream key.shard position limit) }
     {
         keyed::read(
             *self.streams.allocator(),

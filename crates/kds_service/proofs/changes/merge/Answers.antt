@@ -3,7 +3,7 @@ use Rattle.kds_defs.specs.declared.command.Command.TheVariants as command
 use Rattle.kds_defs.specs.StreamCommands.{merge}
 use Rattle.indexmap.specs.IndexMap.{values}
 use Rattle.kds_service.proofs.Entries.{kept_set, placed_set, values_set}
-use Rattle.kds_service.proofs.Leading.{nameless_leads, write_leads}
+use Rattle.kds_service.proofs.Leading.{decided_in, nameless_leads, write_leads}
 use Rattle.kds_service.proofs.Lists.{at_get}
 use Rattle.kds_service.proofs.Lives.{merge_lines}
 use Rattle.kds_service.proofs.changes.merge.Goals as goal
@@ -18,7 +18,7 @@ returns-in-Some-clause-leads c =
     let a = c.args in
     write_leads a.clock c.in-Some.i (values a.streams.now) _ c.index_mut.result.now c.merge.new.self (command.Merge a.name.now a.shard a.other) a.name.now (λ log clock by s. merge log clock by s a.shard a.other)
     c.merge.result c.others.ensures.changed c.requires.at c.index_mut.ensures.value c.in-Some.ensures.value (values_set a.streams.now.entries c.in-Some.i c.merge.new.self)
-    (λ log by. refl) (λ log by s. merge_lines log a.clock by s a.shard a.other) c.merge.ensures.fields.0 c.merge.ensures.fields.2 (λ b n log by all shown. c.merge.ensures.answered log by shown)
+    (λ log by. refl) (λ log by s. merge_lines log a.clock by s a.shard a.other) c.merge.ensures.fields.0 c.merge.ensures.fields.2 (decided_in a.clock (values a.streams.now) c.index_mut.result.now c.merge.new.self (λ log clock by s. merge log clock by s a.shard a.other) c.merge.result c.merge.ensures.answered)
 
 pub returns-in-Some-clause-placed : goal.returns-in-Some-clause-placed
 returns-in-Some-clause-placed c =

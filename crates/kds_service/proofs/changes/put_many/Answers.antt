@@ -3,7 +3,7 @@ use Rattle.kds_defs.specs.declared.command.Command.TheVariants as command
 use Rattle.kds_defs.specs.StreamCommands.{put_many}
 use Rattle.indexmap.specs.IndexMap.{values}
 use Rattle.kds_service.proofs.Entries.{kept_set, placed_set, values_set}
-use Rattle.kds_service.proofs.Leading.{nameless_leads, write_leads}
+use Rattle.kds_service.proofs.Leading.{decided_in, nameless_leads, write_leads}
 use Rattle.kds_service.proofs.Lists.{at_get}
 use Rattle.kds_service.proofs.Lives.{put_many_lines}
 use Rattle.kds_service.proofs.changes.put_many.Goals as goal
@@ -18,7 +18,7 @@ returns-in-Some-clause-leads c =
     let a = c.args in
     write_leads a.clock c.in-Some.i (values a.streams.now) _ c.index_mut.result.now c.put_many.new.self (command.PutMany a.name.now a.items) a.name.now (λ log clock by s. put_many log clock by s a.items)
     c.put_many.result c.others.ensures.changed c.requires.placed.at c.index_mut.ensures.value c.in-Some.ensures.value (values_set a.streams.now.entries c.in-Some.i c.put_many.new.self)
-    (λ log by. refl) (λ log by s. put_many_lines log a.clock by s a.items) c.put_many.ensures.fields.0 c.put_many.ensures.fields.2 (λ b n log by all shown. c.put_many.ensures.answered log by shown)
+    (λ log by. refl) (λ log by s. put_many_lines log a.clock by s a.items) c.put_many.ensures.fields.0 c.put_many.ensures.fields.2 (decided_in a.clock (values a.streams.now) c.index_mut.result.now c.put_many.new.self (λ log clock by s. put_many log clock by s a.items) c.put_many.result c.put_many.ensures.answered)
 
 pub returns-in-Some-clause-placed : goal.returns-in-Some-clause-placed
 returns-in-Some-clause-placed c =
