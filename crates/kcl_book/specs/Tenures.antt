@@ -1,5 +1,5 @@
 -- The tenures of leases, the first of them number 1 (Kinesis Client Library, lease ownership).
-use Rattle.std.specs.Prelude.{ℕ, zero, suc, ◌+◌, Bool, false, List, [], ◌∷◌, ◌++◌, length, slice_get, Option, Some, None}
+use Rattle.std.specs.Prelude.{ℕ, zero, suc, ◌-◌, Bool, false, List, [], ◌∷◌, ◌++◌, length, slice_get, slice_set, Option, None}
 use Rattle.kds_base.specs.declared.lease_key.Checkpoint.{Checkpoint}
 use Rattle.kds_base.specs.declared.lease_key.ShardRef.{ShardRef}
 use Rattle.kds_defs.specs.Leases.{place_of}
@@ -31,6 +31,10 @@ begun by key start =
 abbrev pub tenure_at : List TenureValue → ℕ → Option TenureValue
 tenure_at ts zero = None
 tenure_at ts (suc n) = slice_get ts n
+
+-- the book where the tenure of a number is this one
+abbrev pub with_tenure : ℕ → TenureValue → BookValue → BookValue
+with_tenure number t book = record book { tenures = slice_set book.tenures (number - 1) t }
 
 -- as it is shown
 abbrev pub shown : TenureValue → Tenure

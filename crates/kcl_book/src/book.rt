@@ -1,12 +1,12 @@
 //! The tenures of all leases.
-ghost use Rattle.std.specs.Prelude.{◌≡◌, ◌≢◌, ◌+◌, ◌-◌, ◌<◌, ◌≤◌, ◌++◌, ◌∷◌, ◌==◌, [], length, slice_set, true, false, IfErr, IfNone, IfOk, IfSome, IsSome, None, OnErr, OnOk, Some};
+ghost use Rattle.std.specs.Prelude.{◌≡◌, ◌≢◌, ◌+◌, ◌-◌, ◌<◌, ◌≤◌, ◌++◌, ◌∷◌, ◌==◌, [], length, true, false, IfErr, IfNone, IfOk, IfSome, IsSome, None, OnErr, OnOk, Some};
 ghost use Rattle.std.specs.Option.{option_map};
 ghost use Rattle.kds_base.specs.declared.lease_key.Checkpoint.TheVariants.{At, ShardEnd};
 ghost use Rattle.kds_defs.specs.declared.limits.TheConstants.{PENDING_READS};
 ghost use Rattle.kds_defs.specs.declared.reply.Refusal.TheVariants as refusal;
 ghost use Rattle.kds_defs.specs.Listings.{are_none};
 ghost use Rattle.kds_defs.specs.StreamCommands.{last_number};
-ghost use Rattle.kcl_book.specs.Tenures.{begun, shown, tenure_at, with_given, with_read};
+ghost use Rattle.kcl_book.specs.Tenures.{begun, shown, tenure_at, with_given, with_read, with_tenure};
 
 use crate::kept::Kept;
 use crate::tenure::Tenure;
@@ -112,7 +112,7 @@ impl Book {
     pub fn open_tenure(&mut self, no: TenureNo) -> Result<(), Refusal>
         requires { IsSome (tenure_at self.old.tenures no) }
         ensures before { IfErr result (λ r. (r ≡ refusal.OpenedBefore) × (self.new ≡ self.old) × IfSome (tenure_at self.old.tenures no) (λ t. t.opened ≡ true)) }
-        ensures opened { OnOk result (IfSome (tenure_at self.old.tenures no) (λ t. (t.opened ≡ false) × (self.new ≡ record self.old { tenures = slice_set self.old.tenures (no - 1) (record t { opened = true }) }))) }
+        ensures opened { OnOk result (IfSome (tenure_at self.old.tenures no) (λ t. (t.opened ≡ false) × (self.new ≡ with_tenure no (record t { opened = true }) self.old))) }
     {
         let place = (no.0 - 1) as usize;
         if self.tenures[place].is_opened() {
@@ -129,7 +129,7 @@ impl Book {
         requires opened { IfSome (tenure_at self.old.tenures no) (λ t. t.opened ≡ true) }
         requires room { IfSome (tenure_at self.old.tenures no) (λ t. length t.pending < PENDING_READS) }
         requires onward { IfSome (tenure_at self.old.tenures no) (λ t. t.reach ≤ reach) }
-        ensures { IfSome (tenure_at self.old.tenures no) (λ t. self.new ≡ record self.old { tenures = slice_set self.old.tenures (no - 1) (with_read reach end t) }) }
+        ensures { IfSome (tenure_at self.old.tenures no) (λ t. self.new ≡ with_tenure no (with_read reach end t) self.old) }
     {
         self.tenures[(no.0 - 1) as usize].read(reach, end);
     }
@@ -139,7 +139,7 @@ impl Book {
     pub fn give(&mut self, no: TenureNo) -> Result<u64, Refusal>
         requires { IsSome (tenure_at self.old.tenures no) }
         ensures nothing { IfErr result (λ r. (r ≡ refusal.NothingPending) × (self.new ≡ self.old) × IfSome (tenure_at self.old.tenures no) (λ t. are_none t.pending ≡ true)) }
-        ensures given { IfOk result (λ delivered. IfSome (tenure_at self.old.tenures no) (λ t. (are_none t.pending ≡ false) × (delivered ≡ (with_given t).delivered) × (self.new ≡ record self.old { tenures = slice_set self.old.tenures (no - 1) (with_given t) }))) }
+        ensures given { IfOk result (λ delivered. IfSome (tenure_at self.old.tenures no) (λ t. (are_none t.pending ≡ false) × (delivered ≡ (with_given t).delivered) × (self.new ≡ with_tenure no (with_given t) self.old))) }
     {
         let place = (no.0 - 1) as usize;
         if self.tenures[place].is_given() {

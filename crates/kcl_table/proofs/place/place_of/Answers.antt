@@ -1,7 +1,5 @@
-use Rattle.std.proofs.Common.{rules, ◌≡◌, ◌≤◌, length, List, Bool}
+use Rattle.std.proofs.Common.{rules}
 use Rattle.std.proofs.lemmas.List.Sorted.{IsPartitionPoint-from_clause}
-use Rattle.kds_defs.specs.Keys.{is_before, same_key}
-use Rattle.kcl_table.specs.Rows.{AreInOrder, place_of}
 use Rattle.kcl_table.proofs.Places.{comes_before, partitioned, place_is}
 use Rattle.kcl_table.proofs.place.place_of.Goals as goal
 

@@ -1,9 +1,8 @@
-use Rattle.std.proofs.Common.{◌≡◌, ◌≤◌, List, Option, Some, None, refl, sym, ap, subst, ◌∙◌, arith}
+use Rattle.std.proofs.Common.{◌≡◌, List, None, sym, ap, subst, ◌∙◌, arith}
 use Rattle.std.specs.List.{insert}
 use Rattle.kds_defs.specs.declared.reply.Row.{Row}
-use Rattle.kds_defs.specs.Leases.{freed_row, marked_row, renewed_row, taken_row}
-use Rattle.kcl_table.specs.Rows.{AreCounted, AreInOrder, IsTable, changed, first_row, place_of, row_of, with_row, without_row}
-use Rattle.kcl_table.proofs.Changes.{found, insert_is, puts, remove_is, set_is, table_changed, table_with, table_without}
+use Rattle.kcl_table.specs.Rows.{IsTable, first_row, place_of, row_of}
+use Rattle.kcl_table.proofs.Changes.{insert_is, table_with}
 use Rattle.kcl_table.proofs.table.Table.create.Goals as goal
 
 pub invariant_of-self-2 : goal.invariant_of-self-2

@@ -1,9 +1,8 @@
-use Rattle.std.proofs.Common.{◌≡◌, ◌≤◌, List, length, Option, Some, None, refl, sym, ap, subst, ◌∙◌, arith}
+use Rattle.std.proofs.Common.{List, length, sym, ap, subst, ◌∙◌, arith}
 use Rattle.std.specs.List.{remove}
 use Rattle.kds_defs.specs.declared.reply.Row.{Row}
-use Rattle.kds_defs.specs.Leases.{freed_row, marked_row, renewed_row, taken_row}
-use Rattle.kcl_table.specs.Rows.{AreCounted, AreInOrder, IsTable, changed, first_row, place_of, row_of, with_row, without_row}
-use Rattle.kcl_table.proofs.Changes.{found, insert_is, puts, remove_is, set_is, table_changed, table_with, table_without}
+use Rattle.kcl_table.specs.Rows.{IsTable, place_of, row_of}
+use Rattle.kcl_table.proofs.Changes.{remove_is, table_without}
 use Rattle.kcl_table.proofs.table.Table.cut.Goals as goal
 
 pub remove-requires : goal.remove-requires

@@ -1,8 +1,8 @@
-use Rattle.std.proofs.Common.{◌≡◌, ◌≤◌, List, Option, Some, None, refl, sym, ap, subst, ◌∙◌, arith}
+use Rattle.std.proofs.Common.{◌≤◌, List, refl, sym, ap, subst, ◌∙◌}
 use Rattle.kds_defs.specs.declared.reply.Row.{Row}
-use Rattle.kds_defs.specs.Leases.{freed_row, marked_row, renewed_row, taken_row}
-use Rattle.kcl_table.specs.Rows.{AreCounted, AreInOrder, IsTable, changed, first_row, place_of, row_of, with_row, without_row}
-use Rattle.kcl_table.proofs.Changes.{found, insert_is, puts, remove_is, set_is, switches_taken, table_changed, table_with, table_without}
+use Rattle.kds_defs.specs.Leases.{taken_row}
+use Rattle.kcl_table.specs.Rows.{IsTable, row_of}
+use Rattle.kcl_table.proofs.Changes.{found, puts, switches_taken}
 use Rattle.kcl_table.proofs.table.Table.take.Goals as goal
 
 pub taken-requires-clause-switches : goal.taken-requires-clause-switches
