@@ -1,0 +1,273 @@
+-- The commands on rows that no tenure asks for: they are surveyed, made, taken and cut.
+use Rattle.std.proofs.Common.{◌≡◌, ◌≢◌, ℕ, ◌+◌, ◌<◌, ◌≤◌, Bool, true, false, List, [], ◌∷◌, ◌++◌, length, Option, Some, None, refl, sym, ap, subst, ◌∙◌, arith}
+use Rattle.std.specs.Prelude.{◌==◌, ◌||◌, not, is_some, if◌then◌else◌, Result, Ok, Err}
+use Rattle.std.specs.Option.{option_map}
+use Rattle.std.proofs.lemmas.Bool.Decides.{nat_tests}
+use Rattle.kds_base.specs.declared.lease_key.Checkpoint.{Checkpoint}
+use Rattle.kds_base.specs.declared.lease_key.ShardRef.{ShardRef}
+use Rattle.kds_defs.specs.declared.command.Command.TheVariants as command
+use Rattle.kds_defs.specs.declared.entry.Entry.TheVariants as entry
+use Rattle.kds_defs.specs.declared.reply.Refusal.{Refusal}
+use Rattle.kds_defs.specs.declared.reply.Refusal.TheVariants as refusal
+use Rattle.kds_defs.specs.declared.reply.Reply.{Reply}
+use Rattle.kds_defs.specs.declared.reply.Reply.TheVariants as reply
+use Rattle.kds_defs.specs.declared.reply.Row.{Row}
+use Rattle.kds_defs.specs.declared.reply.Shard.{Shard}
+use Rattle.kds_defs.specs.Decision.{Decision, Refused, Accepted, refuse◌if◌else◌, with◌or◌then◌}
+use Rattle.kds_defs.specs.Histories.{answer_of, decide, lines_of}
+use Rattle.kds_defs.specs.Journal.{Journal, Line, plain_line, with_lines}
+use Rattle.kds_defs.specs.Keys.{is_listed_key, same_key}
+use Rattle.kds_defs.specs.Leases.{checkpoint_in, is_end, new_row, new_tenure, row, taken_count, taken_row, with_key, without_key}
+use Rattle.kds_defs.specs.Shards.{ShardState, is_closed_below, is_listed_state, shard_at, shown}
+use Rattle.kds_defs.specs.StreamCommands.{last_number}
+use Rattle.kds_defs.specs.Streams.{is_live, trim_floor}
+use Rattle.kds_defs.proofs.Decisions.{after_accepted, after_refused, passed_if, refused_if, with_none, with_some}
+use Rattle.kcl_book.specs.Tenures.{TenureValue, begun}
+use Rattle.kcl_table.specs.Rows.{changed, first_row, row_of, with_row, without_row}
+use Rattle.kcl_table.specs.Writes.{counted, cut_answer, take_answer}
+use Rattle.kcl_leases.proofs.LeaseSteps.{LeaseLines, changed_rows, made_rows, removed_rows, rows_of, same_tenures, stands_of, tenure_begins, tenures_of}
+use Rattle.kcl_leases.proofs.RowChanges.{keys_with, keys_without, same_ref}
+use Rattle.kcl_leases.specs.Conditions.{start_answer}
+use Rattle.kcl_leases.specs.Standing.{Facing, Leads, Stands, leases, live_shard}
+
+err_same : {A : Type 0} (r q : Refusal) → ◌≡◌ {A = Result A Refusal} (Err r) (Err q) → r ≡ q
+err_same r q h = cc
+
+ok_same : {A : Type 0} (x y : A) → ◌≡◌ {A = Result A Refusal} (Ok x) (Ok y) → x ≡ y
+ok_same x y h = cc
+
+equal_so : (a b : ℕ) → not (a == b) ≡ false → a ≡ b
+equal_so a b h = grind (arith, nat_tests)
+
+-- ---- a row is made
+
+-- no shard, or one that isn't listed
+unlisted_state : (log : Journal) (c s : ℕ) (o : Option ShardState) (b : Bool) → is_live log s ≡ b → option_map shown (if b then o else None) ≡ None → is_listed_state log c s o ≡ false
+unlisted_state log c s None b live h = refl
+unlisted_state log c s (Some x) true live h = absurd cc
+unlisted_state log c s (Some x) false live h = ap (λ b. not (not b || is_closed_below (trim_floor log c s) x)) live
+
+pub unlisted : (log : Journal) (c : ℕ) (key : ShardRef) → None ≡ option_map shown (live_shard log key) → is_listed_key log c key ≡ false
+unlisted log c key h = unlisted_state log c key.stream (shard_at log key.stream key.shard) (is_live log key.stream) refl (sym h)
+
+pub record IsShard (log : Journal) (key : ShardRef) (y : Shard) : Type 0 where
+  pub state : ShardState
+  pub at : shard_at log key.stream key.shard ≡ Some state
+  pub is_shown : y ≡ shown state
+
+shard_by : (log : Journal) (key : ShardRef) (o : Option ShardState) (b : Bool) (y : Shard) → shard_at log key.stream key.shard ≡ o → Some y ≡ option_map shown (if b then o else None) → IsShard log key y
+shard_by log key None true y at h = absurd cc
+shard_by log key None false y at h = absurd cc
+shard_by log key (Some x) true y at h = record { state = x; at = at; is_shown = same y (shown x) h }
+  where
+    same : (a b : Shard) → Some a ≡ Some b → a ≡ b
+    same a b h = cc
+shard_by log key (Some x) false y at h = absurd cc
+
+pub is_shard : (log : Journal) (key : ShardRef) (y : Shard) → Some y ≡ option_map shown (live_shard log key) → IsShard log key y
+is_shard log key y h = shard_by log key (shard_at log key.stream key.shard) (is_live log key.stream) y refl h
+
+module _ (s : Facing) (rs : List Row) (ts : List TenureValue) (by : ℕ) (key : ShardRef) where
+  pub make_gone : ((log : Journal) → Stands (leases s rs ts) log → is_listed_key log s.clock key ≡ false) → Leads (leases s rs ts) (leases s rs ts) by (command.MakeLease key) (Err refusal.ShardGone)
+  make_gone gone = λ log st. after_refused _ refusal.ShardGone log (Stands (leases s rs ts)) (refused_if _ _ _ (ap not (gone log st))) st
+
+  some_row : (o : Option Row) (r : Refusal) → ◌≡◌ {A = Result (Unit {0}) Refusal} (Err r) (if is_some o then Err refusal.LeaseThere else Ok tt) → (is_some o ≡ true) × (r ≡ refusal.LeaseThere)
+  some_row None r h = absurd cc
+  some_row (Some x) r h = (refl, err_same r refusal.LeaseThere h)
+
+  pub make_there : (r : Refusal) → ◌≡◌ {A = Result (Unit {0}) Refusal} (Err r) (if is_some (row_of rs key) then Err refusal.LeaseThere else Ok tt) → ((log : Journal) → Stands (leases s rs ts) log → true ≡ is_listed_key log s.clock key)
+      → Leads (leases s rs ts) (leases s rs ts) by (command.MakeLease key) (Err r)
+  make_there r h listed = λ log st.
+      let there = some_row (row_of rs key) r h in
+      after_refused (decide log s.clock by (command.MakeLease key)) r log (Stands (leases s rs ts))
+      (passed_if _ _ _ (ap not (sym (listed log st))) ∙ refused_if _ _ _ (ap is_some (st.row_is key) ∙ there.0) ∙ ap Refused (sym there.1)) st
+
+  no_row : (o : Option Row) → ◌≡◌ {A = Result (Unit {0}) Refusal} (Ok tt) (if is_some o then Err refusal.LeaseThere else Ok tt) → o ≡ None
+  no_row None h = refl
+  no_row (Some x) h = absurd cc
+
+  new_is : (log : Journal) (y : Shard) (k : ShardRef) (o : Option Row) (b : Bool) → same_key key k ≡ b → IsShard log key y
+      → (if b then Some (new_row k (shard_at log k.stream k.shard)) else o) ≡ (if b then Some (first_row key y.start y.parent y.adjacent) else o)
+  new_is log y k o false same of = refl
+  new_is log y k o true same of =
+      ap (λ (q : ShardRef). Some (new_row q (shard_at log q.stream q.shard))) (sym (same_ref key k same))
+      ∙ ap (λ x. Some (new_row key x)) of.at
+      ∙ ap (λ (z : Shard). Some (first_row key z.start z.parent z.adjacent)) (sym of.is_shown)
+
+  pub make_done : (y : Shard) → LeaseLines s → ◌≡◌ {A = Result (Unit {0}) Refusal} (Ok tt) (if is_some (row_of rs key) then Err refusal.LeaseThere else Ok tt) → ((log : Journal) → Stands (leases s rs ts) log → true ≡ is_listed_key log s.clock key)
+      → ((log : Journal) → Stands (leases s rs ts) log → Some y ≡ option_map shown (live_shard log key))
+      → Leads (leases s rs ts) (leases s (with_row (first_row key y.start y.parent y.adjacent) rs) ts) by (command.MakeLease key) (Ok reply.Done)
+  make_done y law h listed shard = λ log st.
+      let none = no_row (row_of rs key) h in
+      let new = first_row key y.start y.parent y.adjacent in
+      let line = plain_line s.clock by (entry.LeaseMade key) in
+      let stands = stands_of s (with_row new rs) ts (line ∷ log) (law log line st.shows refl refl)
+      (made_rows log line rs new none (ap (with_key key) st.keys_are ∙ sym (keys_with new rs)) (λ k o. new_is log y k o (same_key key k) refl (is_shard log key y (shard log st))) (λ e. cc) (rows_of s rs ts log st))
+      (same_tenures log line ts (λ n. refl) (λ u o. refl) (tenures_of s rs ts log st)) in
+      after_accepted (decide log s.clock by (command.MakeLease key)) (line ∷ []) reply.Done log (Stands (leases s (with_row new rs) ts))
+      (passed_if _ _ _ (ap not (sym (listed log st))) ∙ passed_if _ _ _ (ap is_some (st.row_is key ∙ none))) stands
+
+-- ---- a row is taken
+
+-- what the definitions ask of a taking
+abbrev taking : Option Row → ℕ → Bool → (Row → Decision) → Decision
+taking o counter spent next =
+    with o or refusal.NoLease then λ r.
+    refuse refusal.Moved r.counter if not (r.counter == counter) else
+    refuse refusal.Ended if is_end r.checkpoint else
+    refuse refusal.Spent if (r.counter == last_number) || spent else
+    next r
+
+refused_test : {A : Type 0} (b : Bool) (r q : Refusal) (x : Result A Refusal) (d : Decision) → Err r ≡ (if b then Err q else x) → (b ≡ false → Err r ≡ x → d ≡ Refused r) → (refuse q if b else d) ≡ Refused r
+refused_test true r q x d h rest = refused_if _ _ _ refl ∙ ap Refused (sym (err_same r q h))
+refused_test false r q x d h rest = passed_if _ _ _ refl ∙ rest refl h
+
+taking_refused : (o : Option Row) (counter : ℕ) (spent : Bool) (r : Refusal) (next : Row → Decision) → Err r ≡ start_answer o counter spent → taking o counter spent next ≡ Refused r
+taking_refused None counter spent r next h = with_none _ _ _ refl ∙ ap Refused (sym (err_same r refusal.NoLease h))
+taking_refused (Some x) counter spent r next h =
+    with_some _ _ _ x refl
+    ∙ refused_test (not (x.counter == counter)) r _ (if is_end x.checkpoint then Err refusal.Ended else if (x.counter == last_number) || spent then Err refusal.Spent else Ok x.checkpoint) _ h (λ moved h.
+    refused_test (is_end x.checkpoint) r _ (if (x.counter == last_number) || spent then Err refusal.Spent else Ok x.checkpoint) _ h (λ ended h.
+    refused_test ((x.counter == last_number) || spent) r _ (Ok x.checkpoint) _ h (λ full h. never h)))
+  where
+    never : {d : Decision} → ◌≡◌ {A = Result Checkpoint Refusal} (Err r) (Ok x.checkpoint) → d ≡ Refused r
+    never h = absurd cc
+
+if_ok : {A : Type 0} (b : Bool) (r : Refusal) (n : A) (x : Result A Refusal) → Ok n ≡ (if b then Err r else x) → (b ≡ false) × (Ok n ≡ x)
+if_ok true r n x h = absurd cc
+if_ok false r n x h = (refl, h)
+
+neither : (a b : Bool) → (a || b) ≡ false → (a ≡ false) × (b ≡ false)
+neither true b h = absurd cc
+neither false b h = (refl, h)
+
+pub record IsTaken (o : Option Row) (counter : ℕ) (spent : Bool) (start : Checkpoint) : Type 0 where
+  pub before : Row
+  pub at : o ≡ Some before
+  pub start_is : start ≡ before.checkpoint
+  pub counter_is : before.counter ≡ counter
+  pub room : (before.counter == last_number) ≡ false
+  pub unspent : spent ≡ false
+  pub goes : (next : Row → Decision) → taking o counter spent next ≡ next before
+  pub answered : take_answer o counter ≡ Ok (before.counter + 1)
+
+pub is_taken : (o : Option Row) (counter : ℕ) (spent : Bool) (start : Checkpoint) → Ok start ≡ start_answer o counter spent → IsTaken o counter spent start
+is_taken None counter spent start h = absurd cc
+is_taken (Some x) counter spent start h =
+    let moved = if_ok (not (x.counter == counter)) _ start _ h in
+    let ended = if_ok (is_end x.checkpoint) _ start _ moved.1 in
+    let full = if_ok ((x.counter == last_number) || spent) _ start _ ended.1 in
+    let both = neither (x.counter == last_number) spent full.0 in
+    record {
+      before = x;
+      at = refl;
+      start_is = ok_same start x.checkpoint full.1;
+      counter_is = equal_so x.counter counter moved.0;
+      room = both.0;
+      unspent = both.1;
+      goes = λ next. with_some _ _ _ x refl ∙ passed_if _ _ _ moved.0 ∙ passed_if _ _ _ ended.0 ∙ passed_if _ _ _ full.0;
+      answered =
+          ap (λ b. if b then Err (refusal.Moved x.counter) else if is_end x.checkpoint then Err refusal.Ended else counted x.counter) moved.0
+          ∙ ap (λ b. if b then Err refusal.Ended else counted x.counter) ended.0
+          ∙ ap (λ b. if b then Err refusal.Spent else Ok (x.counter + 1)) both.0;
+    }
+
+pub below_last : (n : ℕ) (b : Bool) → b ≡ (n == last_number) → b ≡ false → n ≤ last_number → n < last_number
+below_last n b is apart le = differ n (sym is ∙ apart) le
+  where
+    differ : (n : ℕ) → (n == last_number) ≡ false → n ≤ last_number → n < last_number
+    differ n e le = let apart : n ≢ last_number = unequal n last_number e in omega (arith, le, apart)
+      where
+        unequal : (n m : ℕ) → (n == m) ≡ false → n ≢ m
+        unequal n m e = grind (arith, nat_tests)
+
+module _ (s : Facing) (rs : List Row) (ts : List TenureValue) (by : ℕ) (key : ShardRef) (counter owner : ℕ) where
+  taken_next : Journal → Row → Decision
+  taken_next log r = Accepted (plain_line s.clock by (entry.Taken key (taken_count log + 1) (r.counter + 1) owner) ∷ []) (reply.Taken (taken_count log + 1) (r.counter + 1) r.checkpoint)
+
+  along : (log : Journal) → Stands (leases s rs ts) log → decide log s.clock by (command.Take key counter owner) ≡ taking (row_of rs key) counter (length ts == last_number) (taken_next log)
+  unfolding taken_next
+  along log st = ap (λ o. taking o counter (taken_count log == last_number) (taken_next log)) (st.row_is key) ∙ ap (λ n. taking (row_of rs key) counter (n == last_number) (taken_next log)) st.count_is
+
+  pub take_refused : (r : Refusal) → Err r ≡ start_answer (row_of rs key) counter (length ts == last_number) → Leads (leases s rs ts) (leases s rs ts) by (command.Take key counter owner) (Err r)
+  take_refused r h = λ log st.
+      after_refused (decide log s.clock by (command.Take key counter owner)) r log (Stands (leases s rs ts)) (along log st ∙ taking_refused (row_of rs key) counter (length ts == last_number) r (taken_next log) h) st
+
+  -- it is accepted
+  pub take_allowed : (start : Checkpoint) → Ok start ≡ start_answer (row_of rs key) counter (length ts == last_number) → (log : Journal) → Stands (leases s rs ts) log
+      → (r : Reply) × (answer_of (decide log s.clock by (command.Take key counter owner)) ≡ Ok r)
+  unfolding taken_next
+  take_allowed start h log st =
+      let of = is_taken (row_of rs key) counter (length ts == last_number) start h in
+      (reply.Taken (taken_count log + 1) (of.before.counter + 1) of.before.checkpoint, ap answer_of (along log st ∙ of.goes (taken_next log)))
+
+  pub take_done : (start : Checkpoint) (t n : ℕ) → LeaseLines s → Ok start ≡ start_answer (row_of rs key) counter (length ts == last_number) → length ts ≤ last_number → t ≡ length ts + 1 → Ok n ≡ take_answer (row_of rs key) counter
+      → Leads (leases s rs ts) (leases s (changed (taken_row t owner) key rs) (ts ++ (begun by key start ∷ []))) by (command.Take key counter owner) (Ok (reply.Taken t n start))
+  unfolding taken_next
+  take_done start t n law h few t_is n_is = λ log st.
+      let of = is_taken (row_of rs key) counter (length ts == last_number) start h in
+      let no : t ≡ taken_count log + 1 = t_is ∙ ap (λ m. m + 1) (sym st.count_is) in
+      let line = plain_line s.clock by (entry.Taken key (taken_count log + 1) (of.before.counter + 1) owner) in
+      let T = new_tenure by key (checkpoint_in (row log key)) in
+      let from : start ≡ checkpoint_in (row log key) = of.start_is ∙ sym (ap checkpoint_in (st.row_is key ∙ of.at)) in
+      let stands = stands_of s (changed (taken_row (taken_count log + 1) owner) key rs) (ts ++ (begun by key start ∷ [])) (line ∷ log) (law log line st.shows refl refl)
+      (changed_rows log line rs (taken_row (taken_count log + 1) owner) key (λ r. refl) (λ ks. refl) (λ k o. refl) (λ r here e. st.bounded key (ap checkpoint_in here ∙ e)) (rows_of s rs ts log st))
+      (tenure_begins log line ts T (begun by key start) (λ m. refl) (λ u o. refl) (ap (begun by key) from) (omega arith) (below_last (length ts) (length ts == last_number) refl of.unspent few) (tenures_of s rs ts log st)) in
+      let taken = after_accepted (decide log s.clock by (command.Take key counter owner)) (line ∷ []) (reply.Taken (taken_count log + 1) (of.before.counter + 1) of.before.checkpoint) log
+      (Stands (leases s (changed (taken_row (taken_count log + 1) owner) key rs) (ts ++ (begun by key start ∷ [])))) (along log st ∙ of.goes (taken_next log)) stands in (
+        ap (λ m. Ok (reply.Taken m n start)) no
+            ∙ ap (λ m. Ok (reply.Taken (taken_count log + 1) m start)) (ok_same n (of.before.counter + 1) (n_is ∙ of.answered))
+            ∙ ap (λ x. Ok (reply.Taken (taken_count log + 1) (of.before.counter + 1) x)) of.start_is
+            ∙ taken.0,
+        subst (λ m. Stands (leases s (changed (taken_row m owner) key rs) (ts ++ (begun by key start ∷ []))) (with_lines (lines_of (decide log s.clock by (command.Take key counter owner))) log)) (sym no) taken.1,
+      )
+
+-- ---- a row is cut
+
+abbrev cutting : Option Row → ℕ → Bool → Decision → Decision
+cutting o counter listed next =
+    with o or refusal.NoLease then λ r.
+    refuse refusal.Moved r.counter if not (r.counter == counter) else
+    refuse refusal.ShardListed if listed else
+    next
+
+cutting_refused : (o : Option Row) (counter : ℕ) (listed : Bool) (r : Refusal) (next : Decision) → Err r ≡ cut_answer o counter listed → cutting o counter listed next ≡ Refused r
+cutting_refused None counter listed r next h = with_none _ _ _ refl ∙ ap Refused (sym (err_same r refusal.NoLease h))
+cutting_refused (Some x) counter listed r next h =
+    with_some _ _ _ x refl
+    ∙ refused_test (not (x.counter == counter)) r _ (if listed then Err refusal.ShardListed else Ok tt) _ h (λ moved h.
+    refused_test listed r _ (Ok tt) _ h (λ out h. never h))
+  where
+    never : {d : Decision} → ◌≡◌ {A = Result (Unit {0}) Refusal} (Err r) (Ok tt) → d ≡ Refused r
+    never h = absurd cc
+
+cutting_done : (o : Option Row) (counter : ℕ) (listed : Bool) (next : Decision) → Ok tt ≡ cut_answer o counter listed → cutting o counter listed next ≡ next
+cutting_done None counter listed next h = absurd cc
+cutting_done (Some x) counter listed next h =
+    let moved = if_ok (not (x.counter == counter)) _ tt _ h in
+    let out = if_ok listed refusal.ShardListed tt (Ok tt) moved.1 in
+    with_some _ _ _ x refl ∙ passed_if _ _ _ moved.0 ∙ passed_if _ _ _ out.0
+
+module _ (s : Facing) (rs : List Row) (ts : List TenureValue) (by : ℕ) (key : ShardRef) (counter : ℕ) (listed : Bool) (listed_is : (log : Journal) → Stands (leases s rs ts) log → listed ≡ is_listed_key log s.clock key) where
+  cut_line : Line
+  cut_line = plain_line s.clock by (entry.LeaseCut key counter)
+
+  cut_along : (log : Journal) → Stands (leases s rs ts) log → decide log s.clock by (command.CutLease key counter) ≡ cutting (row_of rs key) counter listed (Accepted (cut_line ∷ []) reply.Done)
+  unfolding cut_line
+  cut_along log st =
+      ap (λ o. cutting o counter (is_listed_key log s.clock key) (Accepted (cut_line ∷ []) reply.Done)) (st.row_is key)
+      ∙ ap (λ b. cutting (row_of rs key) counter b (Accepted (cut_line ∷ []) reply.Done)) (sym (listed_is log st))
+
+  pub cut_refused : (r : Refusal) → Err r ≡ cut_answer (row_of rs key) counter listed → Leads (leases s rs ts) (leases s rs ts) by (command.CutLease key counter) (Err r)
+  cut_refused r h = λ log st.
+      after_refused (decide log s.clock by (command.CutLease key counter)) r log (Stands (leases s rs ts)) (cut_along log st ∙ cutting_refused (row_of rs key) counter listed r (Accepted (cut_line ∷ []) reply.Done) h) st
+
+  pub cut_done : LeaseLines s → Ok tt ≡ cut_answer (row_of rs key) counter listed → Leads (leases s rs ts) (leases s (without_row key rs) ts) by (command.CutLease key counter) (Ok reply.Done)
+  unfolding cut_line
+  cut_done law h = λ log st.
+      let line = plain_line s.clock by (entry.LeaseCut key counter) in
+      let stands = stands_of s (without_row key rs) ts (line ∷ log) (law log line st.shows refl refl)
+      (removed_rows log line rs key (ap (without_key key) st.keys_are ∙ sym (keys_without key rs)) (λ k o. refl) (rows_of s rs ts log st))
+      (same_tenures log line ts (λ n. refl) (λ u o. refl) (tenures_of s rs ts log st)) in
+      after_accepted (decide log s.clock by (command.CutLease key counter)) (line ∷ []) reply.Done log (Stands (leases s (without_row key rs) ts))
+      (cut_along log st ∙ cutting_done (row_of rs key) counter listed (Accepted (cut_line ∷ []) reply.Done) h) stands

@@ -1,0 +1,116 @@
+-- What leases know of shards, and which rows and tenures stand for a journal.
+use Rattle.std.specs.Prelude.{ℕ, ◌≡◌, ◌≢◌, ◌≤◌, if◌then◌else◌, List, [], ◌∷◌, drop, length, map, Option, Some, None, Result, IfSome}
+use Rattle.std.specs.Option.{option_map}
+use Rattle.kds_base.specs.declared.lease_key.Checkpoint.TheVariants.{At}
+use Rattle.kds_base.specs.declared.lease_key.ShardRef.{ShardRef}
+use Rattle.kds_defs.specs.declared.command.Command.{Command}
+use Rattle.kds_defs.specs.declared.entry.Entry.{Entry}
+use Rattle.kds_defs.specs.declared.entry.Entry.TheVariants as entry
+use Rattle.kds_defs.specs.declared.reply.Refusal.{Refusal}
+use Rattle.kds_defs.specs.declared.reply.Reply.{Reply}
+use Rattle.kds_defs.specs.declared.reply.Row.{Row}
+use Rattle.kds_defs.specs.Histories.{answer_of, decide, lines_of}
+use Rattle.kds_defs.specs.Journal.{Journal, Line, with_lines}
+use Rattle.kds_defs.specs.Leases.{ReadDone, TenureState, checkpoint_in, delivered, given_reads, last_ended, reach, row, row_keys, taken_count, tenure}
+use Rattle.kds_defs.specs.Records.{place_after}
+use Rattle.kds_defs.specs.Shards.{ShardState, shard_at}
+use Rattle.kds_defs.specs.StreamCommands.{last_number}
+use Rattle.kds_defs.specs.Streams.{is_live}
+use Rattle.kcl_book.specs.declared.tenure.PendingRead.{PendingRead}
+use Rattle.kcl_book.specs.Tenures.{TenureValue, tenure_at}
+use Rattle.kcl_table.specs.Rows.{row_of}
+
+-- the stream that an entry speaks of, if it isn't of a lease
+abbrev pub stream_of : Entry → Option ℕ
+stream_of (entry.Made s name count) = Some s
+stream_of (entry.Gone s) = Some s
+stream_of (entry.Put s sh number hash bytes) = Some s
+stream_of (entry.Split s sh at number low high) = Some s
+stream_of (entry.Merged s sh other number child) = Some s
+stream_of (entry.Kept s hours) = Some s
+stream_of _ = None
+
+-- the shard of a key in a journal, where its stream is live
+abbrev pub live_shard : Journal → ShardRef → Option ShardState
+live_shard log key = if is_live log key.stream then shard_at log key.stream key.shard else None
+
+-- what leases know of shards: the clock at which they stand, and the journals that they show
+pub record Facing : Type 1 where
+  pub clock : ℕ
+  pub shows : Journal → Type 0
+
+abbrev pub facing : ℕ → (Journal → Type 0) → Facing
+facing clock shows = record { clock = clock; shows = shows }
+
+-- a line of a lease at their clock changes no shard
+abbrev pub KeepsShards : ℕ → (Journal → Type 0) → Type 0
+KeepsShards clock shows = (log : Journal) (line : Line) → shows log → line.clock ≡ clock → stream_of line.what ≡ None → shows (line ∷ log)
+
+-- the shards, the rows of the leases, and the tenures in the order of their numbers
+pub record LeasesValue : Type 1 where
+  pub shards : Facing
+  pub rows : List Row
+  pub tenures : List TenureValue
+
+abbrev pub leases : Facing → List Row → List TenureValue → LeasesValue
+leases s rows ts = record { shards = s; rows = rows; tenures = ts }
+
+-- the rows and tenures beside shards that stand at a clock and show these journals
+abbrev pub over : ℕ → (Journal → Type 0) → List Row → List TenureValue → LeasesValue
+over clock shows rows ts = leases (facing clock shows) rows ts
+
+-- ---- tenures
+
+-- these reads as the book keeps them, where they begin at a place
+abbrev pub pending_from : ℕ → List ReadDone → List PendingRead
+pending_from place [] = []
+pending_from place (r ∷ rs) =
+    record { reach = place_after place r.numbers; end = r.ended } ∷ pending_from (place_after place r.numbers) rs
+
+-- a tenure as the book keeps it
+abbrev pub kept : TenureState → TenureValue
+kept T =
+    record {
+      by = T.by;
+      key = T.key;
+      start = T.start;
+      opened = T.opened;
+      reach = reach T;
+      delivered = delivered T;
+      pending = pending_from (delivered T) (drop T.given T.reads);
+      at_end = last_ended (given_reads T);
+    }
+
+-- no more reads are given than there are
+abbrev pub IsGiven : TenureState → Type 0
+IsGiven T = T.given ≤ length T.reads
+
+-- ---- rows
+
+-- no two rows have the same key
+abbrev pub AreDistinct : List Row → Type 0
+AreDistinct [] = Unit {0}
+AreDistinct (r ∷ rs) = (row_of rs r.key ≡ None) × AreDistinct rs
+
+-- after each checkpoint there is a number
+abbrev pub AreBounded : List Row → Type 0
+AreBounded rows = (key : ShardRef) → checkpoint_in (row_of rows key) ≢ At last_number
+
+-- ---- both
+
+-- the shards show the journal, and its rows and tenures are these
+pub record Stands (w : LeasesValue) (log : Journal) : Type 0 where
+  pub shows : w.shards.shows log
+  pub keys_are : row_keys log ≡ map (λ (r : Row). r.key) w.rows
+  pub row_is : (key : ShardRef) → row log key ≡ row_of w.rows key
+  pub distinct : AreDistinct w.rows
+  pub bounded : AreBounded w.rows
+  pub count_is : taken_count log ≡ length w.tenures
+  pub few : length w.tenures ≤ last_number
+  pub tenure_is : (t : ℕ) → option_map kept (tenure log t) ≡ tenure_at w.tenures t
+  pub given : (t : ℕ) → IfSome (tenure log t) IsGiven
+
+-- the command of this actor, at the shards' clock, is answered so and leads from one to the other
+abbrev pub Leads : LeasesValue → LeasesValue → ℕ → Command → Result Reply Refusal → Type 0
+Leads old new by what gives = (log : Journal) → Stands old log
+    → (gives ≡ answer_of (decide log old.shards.clock by what)) × Stands new (with_lines (lines_of (decide log old.shards.clock by what)) log)

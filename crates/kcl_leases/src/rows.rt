@@ -1,0 +1,137 @@
+//! The commands on rows: they are made, taken, renewed, freed and cut.
+ghost use Rattle.std.specs.Prelude.{◌≡◌, ◌≤◌, ℕ, List, length, IfOk, OnErr};
+ghost use Rattle.kds_defs.specs.declared.command.Command.TheVariants as command;
+ghost use Rattle.kds_defs.specs.StreamCommands.{last_number};
+ghost use Rattle.kcl_book.specs.Tenures.{TenureValue};
+ghost use Rattle.kcl_table.specs.Rows.{row_of};
+ghost use Rattle.kcl_leases.specs.Conditions.{start_answer};
+ghost use Rattle.kcl_leases.specs.Standing.{AreBounded, Leads, over};
+
+use crate::actors::own;
+use crate::shards::Shards;
+use kcl_book::Book;
+use kcl_table::Table;
+use kds_base::{Checkpoint, Memory, ShardRef, TenureNo, WorkerNo};
+use kds_defs::{Answer, Refusal, Reply};
+
+/// Makes the row of a listed shard.
+pub fn make<L: Shards>(shards: &L, table: &mut Table, key: &ShardRef) -> Result<Answer, Memory>
+    ensures leads { (by : ℕ) (ts : List TenureValue) → let at = over (L.clock shards.now) (L.shows shards.now) in IfOk result (Leads (at table.old ts) (at table.new ts) by (command.MakeLease key.now)) }
+    ensures kept { OnErr result (table.new ≡ table.old) }
+{
+    shards.lease_lines();
+    let Some(shard) = shards.shard(*key) else {
+        return Ok(Err(Refusal::ShardGone));
+    };
+    if !shards.is_listed(*key) {
+        return Ok(Err(Refusal::ShardGone));
+    }
+    match table.create(*key, shard.start, shard.parent, shard.adjacent)? {
+        Ok(()) => Ok(Ok(Reply::Done)),
+        Err(refusal) => Ok(Err(refusal)),
+    }
+}
+
+/// Where the tenure of a worker begins that takes the row of a key at its counter. `NoLease` where there is no
+/// row, `Moved` where the counter differs, `Ended` where the checkpoint is the shard's end, `Spent` where the
+/// counter is the greatest of a `u64`, or `spent` tells that the numbers of tenures are used up.
+pub fn start(
+    table: &Table,
+    key: &ShardRef,
+    counter: u64,
+    spent: bool,
+) -> Result<Checkpoint, Refusal>
+    ensures { result ≡ start_answer (row_of table.now key.now) counter spent }
+{
+    let Some(row) = table.row(*key) else {
+        return Err(Refusal::NoLease);
+    };
+    if row.counter != counter {
+        return Err(Refusal::Moved(row.counter));
+    }
+    if matches!(row.checkpoint, Checkpoint::ShardEnd) {
+        return Err(Refusal::Ended);
+    }
+    if row.counter == u64::MAX || spent {
+        return Err(Refusal::Spent);
+    }
+    Ok(row.checkpoint)
+}
+
+/// A worker takes a row, and a tenure begins.
+pub fn take<L: Shards>(
+    shards: &L,
+    table: &mut Table,
+    book: &mut Book,
+    by: u32,
+    key: &ShardRef,
+    counter: u64,
+    owner: WorkerNo,
+) -> Result<Answer, Memory>
+    requires bounded { AreBounded table.old }
+    requires few { length book.old.tenures ≤ last_number }
+    ensures leads { let at = over (L.clock shards.now) (L.shows shards.now) in IfOk result (Leads (at table.old book.old.tenures) (at table.new book.new.tenures) by (command.Take key.now counter owner)) }
+    ensures kept { OnErr result ((table.new ≡ table.old) × (book.new.tenures ≡ book.old.tenures)) }
+{
+    shards.lease_lines();
+    let start = match start(table, key, counter, book.spent()) {
+        Ok(start) => start,
+        Err(refusal) => return Ok(Err(refusal)),
+    };
+    // borrowed, so that it can be handed on more than once
+    let from = &start;
+    book.reserve()?;
+    let tenure = book.begin(by, *key, *from);
+    match table.take(*key, counter, owner, tenure) {
+        Ok(counter) => Ok(Ok(Reply::Taken {
+            tenure,
+            counter,
+            start: *from,
+        })),
+        Err(_) => unreachable!(),
+    }
+}
+
+/// The tenure's row is renewed.
+pub fn renew<L: Shards>(
+    shards: &L,
+    table: &mut Table,
+    book: &Book,
+    by: u32,
+    tenure: TenureNo,
+    counter: u64,
+) -> Answer
+    ensures { let at = over (L.clock shards.now) (L.shows shards.now) in Leads (at table.old book.now.tenures) (at table.new book.now.tenures) by (command.Renew tenure counter) result }
+{
+    shards.lease_lines();
+    let own = own(book, by, tenure)?;
+    let next = table.renew(own.key, tenure, counter)?;
+    Ok(Reply::Counter(next))
+}
+
+/// The tenure's row is freed.
+pub fn free<L: Shards>(
+    shards: &L,
+    table: &mut Table,
+    book: &Book,
+    by: u32,
+    tenure: TenureNo,
+    counter: u64,
+) -> Answer
+    ensures { let at = over (L.clock shards.now) (L.shows shards.now) in Leads (at table.old book.now.tenures) (at table.new book.now.tenures) by (command.Free tenure counter) result }
+{
+    shards.lease_lines();
+    let own = own(book, by, tenure)?;
+    let next = table.free(own.key, tenure, counter)?;
+    Ok(Reply::Counter(next))
+}
+
+/// Removes the row of a shard that isn't listed.
+pub fn cut<L: Shards>(shards: &L, table: &mut Table, key: &ShardRef, counter: u64) -> Answer
+    ensures { (by : ℕ) (ts : List TenureValue) → let at = over (L.clock shards.now) (L.shows shards.now) in Leads (at table.old ts) (at table.new ts) by (command.CutLease key.now counter) result }
+{
+    shards.lease_lines();
+    let listed = shards.is_listed(*key);
+    table.cut(*key, counter, listed)?;
+    Ok(Reply::Done)
+}

@@ -1,0 +1,70 @@
+//! The commands on tenures: they are opened, given and marked.
+ghost use Rattle.std.specs.Prelude.{◌≡◌, ℕ, List, IfOk, OnErr};
+ghost use Rattle.kds_defs.specs.declared.command.Command.TheVariants as command;
+ghost use Rattle.kds_defs.specs.declared.reply.Row.{Row};
+ghost use Rattle.kds_defs.specs.Journal.{Journal};
+ghost use Rattle.kcl_leases.specs.Standing.{Leads, over};
+
+use crate::actors::{held, own, past_parent};
+use crate::shards::Shards;
+use kcl_book::Book;
+use kcl_table::Table;
+use kds_base::{Memory, TenureNo};
+use kds_defs::{Answer, Refusal, Reply, Target};
+
+/// The tenure may read from now on, once the shard's parents are processed.
+pub fn open<L: Shards>(
+    shards: &L,
+    table: &Table,
+    book: &mut Book,
+    by: u32,
+    tenure: TenureNo,
+) -> Answer
+    ensures { let at = over (L.clock shards.now) (L.shows shards.now) in Leads (at table.now book.old.tenures) (at table.now book.new.tenures) by (command.OpenShard tenure) result }
+{
+    shards.lease_lines();
+    let own = held(table, book, by, tenure)?;
+    if own.opened {
+        return Err(Refusal::OpenedBefore);
+    }
+    // borrowed, so that it can be handed on more than once
+    let key = &own.key;
+    let Some(shard) = shards.shard(*key) else {
+        return Err(Refusal::ShardGone);
+    };
+    if !shards.is_listed(*key) {
+        return Err(Refusal::ShardGone);
+    }
+    past_parent(shards, table, key.stream, shard.parent)?;
+    past_parent(shards, table, key.stream, shard.adjacent)?;
+    book.open_tenure(tenure)?;
+    Ok(Reply::Done)
+}
+
+/// The oldest of the tenure's reads that isn't given is given.
+pub fn give<L: Shards>(shards: &L, book: &mut Book, by: u32, tenure: TenureNo) -> Answer
+    ensures { (rows : List Row) → let at = over (L.clock shards.now) (L.shows shards.now) in Leads (at rows book.old.tenures) (at rows book.new.tenures) by (command.Give tenure) result }
+{
+    shards.lease_lines();
+    own(book, by, tenure)?;
+    let delivered = book.give(tenure)?;
+    Ok(Reply::Given { delivered })
+}
+
+/// The checkpoint of the tenure's row is set.
+pub fn mark<L: Shards>(
+    shards: &L,
+    table: &mut Table,
+    book: &Book,
+    by: u32,
+    tenure: TenureNo,
+    counter: u64,
+    to: Target,
+) -> Answer
+    ensures { let at = over (L.clock shards.now) (L.shows shards.now) in Leads (at table.old book.now.tenures) (at table.new book.now.tenures) by (command.Mark tenure counter to) result }
+{
+    shards.lease_lines();
+    let own = own(book, by, tenure)?;
+    let next = table.mark(own.key, tenure, counter, to, own.delivered, own.at_end)?;
+    Ok(Reply::Counter(next))
+}
