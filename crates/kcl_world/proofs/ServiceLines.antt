@@ -17,11 +17,16 @@ use Rattle.kds_defs.specs.Kinds.{is_service}
 use Rattle.kds_defs.specs.Leases.{TenureState, row_after, row_keys_after, taken_count_after, tenure_after}
 use Rattle.kds_defs.specs.StreamCommands.{put_lines}
 use Rattle.kds_stream.specs.Showing.{stream_of}
-use Rattle.kds_service.specs.Shown.{ServiceValue}
+use Rattle.kcl_leases.specs.Standing.{Facing, facing}
+use Rattle.kds_service.specs.Shown.{ServiceValue, ShowsAll}
 use Rattle.kds_service.specs.Shown as service
 use Rattle.kcl_book.specs.Tenures.{TenureValue}
-use Rattle.kcl_world.proofs.LeaseSteps.{HasRows, HasTenures, rows_of, same_rows, same_tenures, stands_of, tenures_of}
+use Rattle.kcl_leases.proofs.LeaseSteps.{HasRows, HasTenures, rows_of, same_rows, same_tenures, stands_of, tenures_of}
 use Rattle.kcl_world.specs.Standing.{Leads, world}
+
+-- what leases see of the service
+abbrev pub seen : ServiceValue → Facing
+seen s = facing s.clock (ShowsAll s)
 
 -- each of the lines speaks of a stream
 abbrev AreOfStreams : List Line → Type 0
@@ -102,4 +107,4 @@ service_leads (Err e) s s' rs ts by what own led = tt
 service_leads (Ok gives) s s' rs ts by what own led = λ log st.
     let l = led log by st.shows in
     let of = service_lines log s.clock by what own in
-    (l.0, stands_of s' rs ts (with_lines (lines_of (decide log s.clock by what)) log) l.1 (rows_along rs (lines_of (decide log s.clock by what)) log of (rows_of s rs ts log st)) (tenures_along ts (lines_of (decide log s.clock by what)) log of (tenures_of s rs ts log st)))
+    (l.0, stands_of (seen s') rs ts (with_lines (lines_of (decide log s.clock by what)) log) l.1 (rows_along rs (lines_of (decide log s.clock by what)) log of (rows_of (seen s) rs ts log st)) (tenures_along ts (lines_of (decide log s.clock by what)) log of (tenures_of (seen s) rs ts log st)))

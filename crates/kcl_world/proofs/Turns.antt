@@ -10,8 +10,10 @@ use Rattle.kds_defs.specs.Histories.{answer, answer_of, clock as clock_of, decid
 use Rattle.kds_defs.specs.Journal.{Journal, with_lines}
 use Rattle.kds_service.specs.Shown.{ServiceValue, ShowsAll}
 use Rattle.kcl_book.specs.Tenures.{TenureValue, tenure_at}
-use Rattle.kcl_world.proofs.LeaseSteps.{rows_of, stands_of, tenures_of}
-use Rattle.kcl_world.specs.Standing.{Leads, Stands, StandsFor, kept, world}
+use Rattle.kcl_leases.proofs.LeaseSteps.{rows_of, stands_of, tenures_of}
+use Rattle.kcl_leases.specs.Standing.{kept}
+use Rattle.kcl_world.proofs.ServiceLines.{seen}
+use Rattle.kcl_world.specs.Standing.{Leads, Stands, StandsFor, world}
 
 no_tenure : (t : ℕ) → option_map kept None ≡ tenure_at [] t
 no_tenure zero = refl
@@ -21,13 +23,13 @@ no_tenure (suc n) = refl
 pub stands_new : (s : ServiceValue) → s.clock ≡ 0 → ShowsAll s [] → StandsFor (world s [] []) []
 stands_new s clock shows = record {
   clock_is = clock;
-  stands = stands_of s [] [] [] shows (record { keys_are = refl; row_is = λ k. refl; distinct = tt; bounded = λ k e. cc })
+  stands = stands_of (seen s) [] [] [] shows (record { keys_are = refl; row_is = λ k. refl; distinct = tt; bounded = λ k e. cc })
       (record { count_is = refl; few = omega arith; tenure_is = no_tenure; given = λ t. tt });
 }
 
 -- at another clock
 pub stands_at : (s s' : ServiceValue) (rs : List Row) (ts : List TenureValue) (log : Journal) → Stands (world s rs ts) log → ShowsAll s' log → Stands (world s' rs ts) log
-stands_at s s' rs ts log st shows = stands_of s' rs ts log shows (rows_of s rs ts log st) (tenures_of s rs ts log st)
+stands_at s s' rs ts log st shows = stands_of (seen s') rs ts log shows (rows_of (seen s) rs ts log st) (tenures_of (seen s) rs ts log st)
 
 -- the services: before the turn, at its clock, after the command, and settled
 pub turn_done : (s at mid last : ServiceValue) (rs rs' : List Row) (ts ts' : List TenureValue) (h : List Turn) (turn : Turn) (gives : Result Reply Refusal) → StandsFor (world s rs ts) h

@@ -6,32 +6,14 @@ ghost use Rattle.kds_defs.specs.Lawful.{IsLawfulCommand};
 ghost use Rattle.kds_defs.specs.Machines.{NeedsNoMemory};
 ghost use Rattle.kcl_world.specs.Standing.{Leads, Stands, world};
 
-use crate::rows::{cut, free, make, renew, survey, take};
-use crate::tenures::{give, mark, open, read};
+use crate::reads::{read, survey};
+use crate::shards::ServiceShards;
 use kcl_book::Book;
+use kcl_leases::{cut, free, give, make, mark, open, renew, take};
 use kcl_table::Table;
 use kds_base::Memory;
 use kds_defs::{Answer, Command};
 use kds_service::Service;
-
-/// Whether a command is one of the stream service.
-fn is_service(what: &Command) -> bool
-    ensures { result ≡ is_service what.now }
-{
-    !matches!(
-        what,
-        Command::Survey
-            | Command::MakeLease { .. }
-            | Command::Take { .. }
-            | Command::Renew { .. }
-            | Command::Free { .. }
-            | Command::OpenShard { .. }
-            | Command::Read { .. }
-            | Command::Give { .. }
-            | Command::Mark { .. }
-            | Command::CutLease { .. }
-    )
-}
 
 /// Answers a command on leases.
 fn lease_answer(
@@ -47,29 +29,32 @@ fn lease_answer(
     ensures kept { OnErr result ((table.new ≡ table.old) × (book.new.tenures ≡ book.old.tenures)) }
     ensures sure { NeedsNoMemory what → IsOk result }
 {
+    // borrowed, so that it can be handed on
+    let shards = ServiceShards { service };
+    let shards = &shards;
     match what {
         Command::Survey => survey(service, table),
-        Command::MakeLease { key } => make(service, table, &key),
+        Command::MakeLease { key } => make(shards, table, &key),
         Command::Take {
             key,
             counter,
             owner,
-        } => take(table, book, by, &key, counter, owner),
-        Command::Renew { tenure, counter } => Ok(renew(table, book, by, tenure, counter)),
-        Command::Free { tenure, counter } => Ok(free(table, book, by, tenure, counter)),
-        Command::OpenShard { tenure } => Ok(open(service, table, book, by, tenure)),
+        } => take(shards, table, book, by, &key, counter, owner),
+        Command::Renew { tenure, counter } => Ok(renew(shards, table, book, by, tenure, counter)),
+        Command::Free { tenure, counter } => Ok(free(shards, table, book, by, tenure, counter)),
+        Command::OpenShard { tenure } => Ok(open(shards, table, book, by, tenure)),
         Command::Read {
             tenure,
             position,
             limit,
         } => read(service, book, by, tenure, position, limit),
-        Command::Give { tenure } => Ok(give(book, by, tenure)),
+        Command::Give { tenure } => Ok(give(shards, book, by, tenure)),
         Command::Mark {
             tenure,
             counter,
             to,
-        } => Ok(mark(table, book, by, tenure, counter, to)),
-        Command::CutLease { key, counter } => Ok(cut(service, table, &key, counter)),
+        } => Ok(mark(shards, table, book, by, tenure, counter, to)),
+        Command::CutLease { key, counter } => Ok(cut(shards, table, &key, counter)),
         _ => unreachable!(),
     }
 }
@@ -89,7 +74,7 @@ pub fn answer(
     ensures kept { OnErr result ((service.new ≡ service.old) × (table.new ≡ table.old) × (book.new.tenures ≡ book.old.tenures)) }
     ensures sure { NeedsNoMemory what → IsOk result }
 {
-    if is_service(&what) {
+    if what.is_service() {
         service.serve(what)
     } else {
         lease_answer(service, table, book, by, what)

@@ -2,11 +2,8 @@
 #![tactic(auto)]
 
 mod answer;
-mod own;
-mod rows;
-mod tenures;
-#[cfg(test)]
-mod tests;
+mod reads;
+mod shards;
 mod world;
 
 pub use world::World;

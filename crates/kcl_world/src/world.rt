@@ -1,5 +1,5 @@
 //! The machine.
-ghost use Rattle.std.specs.Prelude.{◌≡◌, [], max};
+ghost use Rattle.std.specs.Prelude.{[]};
 ghost use Rattle.kcl_world.specs.Standing.{StandsFor};
 
 use crate::answer::answer;
@@ -47,13 +47,6 @@ impl World {
     }
 }
 
-/// The later of two moments.
-fn later(a: Moment, b: Moment) -> Moment
-    ensures { result ≡ max a b }
-{
-    if a < b { b } else { a }
-}
-
 impl Machine for World {
     ghost use Rattle.kcl_world.specs.Standing.{StandsFor};
 
@@ -62,7 +55,7 @@ impl Machine for World {
     fn apply(&mut self, turn: Turn) -> Result<Answer, Memory> {
         service_answers();
         lease_answers();
-        let clock = later(self.clock, turn.at);
+        let clock = self.clock.later(turn.at);
         self.service.advance(clock);
         match answer(
             &mut self.service,

@@ -6,7 +6,7 @@ use Rattle.kcl_world.proofs.answer.lease_answer.Goals as goal
 pub returns-in-Give-clause-leads : goal.returns-in-Give-clause-leads
 returns-in-Give-clause-leads c =
     let a = c.args in
-    subst (λ (what : Command). Leads (world a.service.now a.table.now a.book.now.tenures) (world a.service.now a.table.now c.give.new.book.tenures) a.by what c.give.result) (sym c.in-Give.is) (c.give.ensures a.service.now a.table.now)
+    subst (λ (what : Command). Leads (world a.service.now a.table.now a.book.now.tenures) (world a.service.now a.table.now c.give.new.book.tenures) a.by what c.give.result) (sym c.in-Give.is) (c.give.ensures a.table.now)
 
 pub returns-in-CutLease-clause-leads : goal.returns-in-CutLease-clause-leads
 returns-in-CutLease-clause-leads c =

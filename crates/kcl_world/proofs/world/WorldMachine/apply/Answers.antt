@@ -9,7 +9,7 @@ invariant_of-self c =
     let k = c.self.inside in
     let at : c.advance.new.self.clock ≡ c.later-clock.result = ap (λ (s : ServiceValue). s.clock) c.advance.ensures.value in
     let latest : c.advance.new.self.clock ≡ max k.service.clock c.args.turn.at = at ∙ c.later-clock.ensures ∙ ap (λ n. max n c.args.turn.at) (sym c.self.invariant.0) in
-    let last = ap (λ (s : ServiceValue). s.clock) c.settle.ensures.value in (
+    let last = c.settle.ensures.clock in (
       last ∙ c.in-Ok.ensures.clock ∙ at,
       turn_stands k.service c.advance.new.self c.answer.new.service c.settle.new.self k.table c.answer.new.table k.book.tenures c.answer.new.book.tenures c.args.turn c.in-Ok.answer
           c.self.invariant.1 c.advance.ensures.shows latest c.in-Ok.ensures.leads c.in-Ok.ensures.clock c.settle.ensures.shows last,
@@ -22,4 +22,4 @@ returns-in-Ok-clause-answered c h stood =
     let latest : c.advance.new.self.clock ≡ max k.service.clock c.args.turn.at = at ∙ c.later-clock.ensures ∙ ap (λ n. max n c.args.turn.at) (sym c.self.invariant.0) in
     let before = subst (λ (w : WorldValue). StandsFor w h) (sym c.self.view_is) stood in
     turn_done k.service c.advance.new.self c.answer.new.service c.settle.new.self k.table c.answer.new.table k.book.tenures c.answer.new.book.tenures h c.args.turn c.in-Ok.answer
-    before (c.advance.ensures.shows _ before.stands.shows) latest c.in-Ok.ensures.leads c.in-Ok.ensures.clock c.settle.ensures.shows (ap (λ (s : ServiceValue). s.clock) c.settle.ensures.value)
+    before (c.advance.ensures.shows _ before.stands.shows) latest c.in-Ok.ensures.leads c.in-Ok.ensures.clock c.settle.ensures.shows c.settle.ensures.clock

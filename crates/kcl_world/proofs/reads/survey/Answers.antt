@@ -1,5 +1,5 @@
-use Rattle.kcl_world.proofs.RowWrites.{survey_leads}
-use Rattle.kcl_world.proofs.rows.survey.Goals as goal
+use Rattle.kcl_world.proofs.Surveys.{survey_leads}
+use Rattle.kcl_world.proofs.reads.survey.Goals as goal
 
 pub returns : goal.returns
 returns c =

@@ -1,0 +1,50 @@
+//! The commands on leases that read the streams: a survey, and the read of a tenure.
+ghost use Rattle.std.specs.Prelude.{◌≡◌, ℕ, List, IfOk, OnErr};
+ghost use Rattle.kds_defs.specs.declared.command.Command.TheVariants as command;
+ghost use Rattle.kds_defs.specs.declared.reply.Row.{Row};
+ghost use Rattle.kds_defs.specs.Journal.{Journal};
+ghost use Rattle.kcl_book.specs.Tenures.{TenureValue};
+ghost use Rattle.kds_service.specs.Shown.{ShowsAll};
+ghost use Rattle.kcl_world.specs.Standing.{Leads, world};
+
+use crate::shards::ServiceShards;
+use kcl_book::Book;
+use kcl_leases::{place_after, reader};
+use kcl_table::Table;
+use kds_base::{Memory, TenureNo};
+use kds_defs::{Answer, Reply};
+use kds_service::{Service, lease_lines};
+
+/// All listed shards, and all rows.
+pub fn survey(service: &Service, table: &Table) -> Result<Answer, Memory>
+    ensures { (by : ℕ) (ts : List TenureValue) → let at = world service.now table.now ts in IfOk result (Leads at at by command.Survey) }
+{
+    let shards = service.listed()?;
+    let rows = table.rows()?;
+    Ok(Ok(Reply::Survey { shards, rows }))
+}
+
+/// The tenure reads at its reach at most `limit` records.
+pub fn read(
+    service: &Service,
+    book: &mut Book,
+    by: u32,
+    tenure: TenureNo,
+    position: u64,
+    limit: u32,
+) -> Result<Answer, Memory>
+    requires { (log : Journal) × ShowsAll service.now log }
+    ensures leads { (rows : List Row) → IfOk result (Leads (world service.now rows book.old.tenures) (world service.now rows book.new.tenures) by (command.Read tenure position limit)) }
+    ensures kept { OnErr result (book.new ≡ book.old) }
+{
+    lease_lines();
+    let shards = ServiceShards { service };
+    let own = match reader(&shards, book, by, tenure, position) {
+        Ok(own) => own,
+        Err(refusal) => return Ok(Err(refusal)),
+    };
+    let (batch, end) = service.read(own.key, position, limit)?;
+    let reach = place_after(position, batch.as_slice());
+    book.read(tenure, reach, end);
+    Ok(Ok(Reply::Read { batch, reach, end }))
+}
