@@ -1,14 +1,15 @@
 -- A shard's id reads as its number, and as no other.
-use Rattle.std.proofs.Common.{subst, Result, Ok, ◌≡◌, ◌≢◌, ℕ, zero, suc, ◌-◌, ◌^◌, ◌<◌, List, ◌++◌, length, drop, replicate, decimal, Bool, true, false, Option, Some, None, refl, sym, ap, ◌∙◌, arith}
+use Rattle.std.proofs.Common.{subst, rules, ◌≡◌, ◌≢◌, ℕ, zero, suc, ◌-◌, ◌^◌, ◌<◌, List, ◌++◌, length, drop, replicate, decimal, Bool, true, false, Option, Some, None, refl, sym, ap, ◌∙◌, arith}
 use Rattle.std.specs.Prelude.{◌&&◌, nat_lt, if◌then◌else◌}
 use Rattle.std.specs.Str.{bytes_eq}
-use Rattle.std.specs.Str.Parse.{AllDigits, digits_value, ParsesUnsigned}
+use Rattle.std.specs.Char.{is_ascii_digit}
+use Rattle.std.specs.List.{list_all}
+use Rattle.std.specs.Str.Parse.{AllDigits, digits_value}
 use Rattle.std.proofs.lemmas.Bool.Decides.{nat_tests}
-use Rattle.std.proofs.lemmas.Fmt.{decimal_is_IsNumeral, IsAscii-from_digits}
-use Rattle.std.proofs.lemmas.Str.Parse.{IsNumeralModel, numerals_by_value, tells_digits, parse_gives}
-use Rattle.std.specs.Result.{result_ok}
-use Rattle.std.specs.Str.{IsAscii}
+use Rattle.std.proofs.lemmas.Fmt.{decimal_is_IsNumeral}
+use Rattle.std.proofs.lemmas.Str.Parse.{IsNumeralModel, numerals_by_value}
 use Rattle.std.proofs.lemmas.Slice.Eq.{bytes_eq-Decides}
+use Rattle.kds_base.specs.NumberText.{are_digits, digits_of}
 use Rattle.kds_json.specs.Ids.{twelve_digits, shard_id, if_id, id_of}
 
 -- ---- the digits
@@ -63,22 +64,27 @@ id_spells text n h = (id_is text n h).0
 
 -- ---- as it is read
 
-own : IsNumeralModel (AllDigits 10) (digits_value 10)
-own = numerals_by_value (AllDigits 10) tells_digits
+-- a text of digits, as a fact
+abbrev IsDigits : List ℕ → Type 0
+IsDigits text = list_all is_ascii_digit text ≡ true
 
-tail_of : (text : List ℕ) (n : ℕ) → text ≡ shard_id n → drop 8 text ≡ twelve_digits n
-tail_of text n e = ap (drop 8) e
+own : IsNumeralModel IsDigits (digits_value 10)
+own = numerals_by_value IsDigits (search rules)
 
-pub tail_ascii : (text tail : List ℕ) (n : ℕ) → tail ≡ drop 8 text → text ≡ shard_id n → n < 2 ^ 64 → IsAscii tail
-tail_ascii text tail n cut e small =
-    subst IsAscii (sym (cut ∙ tail_of text n e)) (IsAscii-from_digits (twelve_digits n) (id_digits n small))
+some_digits : (ds : List ℕ) → AllDigits 10 ds → 0 < length ds → are_digits ds ≡ true
+some_digits ds all some =
+    let tested : list_all is_ascii_digit ds ≡ true = own.from ds all in
+    let long : nat_lt 0 (length ds) ≡ true = grind (arith, nat_tests) in
+    rw (long, tested) refl
 
-pub tail_parses : {E : Type 0} (text tail : List ℕ) (r : Result ℕ E) (n : ℕ) → tail ≡ drop 8 text → text ≡ shard_id n → n < 2 ^ 64 → ParsesUnsigned 64 10 tail r → result_ok r ≡ Some n
-tail_parses text tail r n cut e small h =
-    let is : tail ≡ twelve_digits n = cut ∙ tail_of text n e in
-    let parsed : ParsesUnsigned 64 10 (twelve_digits n) r = subst (λ (z : List ℕ). ParsesUnsigned 64 10 z r) is h in
-    let value = id_value n small in
-    ap result_ok (parse_gives own 64 (twelve_digits n) r parsed (id_digits n small) (id_some n small) (subst (λ (z : ℕ). z < 2 ^ 64) (sym value) small) ∙ ap Ok value)
+twelve_read : (n : ℕ) → n < 2 ^ 64 → digits_of 64 (twelve_digits n) ≡ Some n
+twelve_read n small =
+    let tested = some_digits (twelve_digits n) (id_digits n small) (id_some n small) in
+    let fits : nat_lt n (2 ^ 64) ≡ true = grind (arith, nat_tests) in
+    rw (tested, id_value n small, fits) refl
+
+pub tail_read : (text tail : List ℕ) (n : ℕ) → tail ≡ drop 8 text → text ≡ shard_id n → n < 2 ^ 64 → digits_of 64 tail ≡ Some n
+tail_read text tail n cut e small = ap (digits_of 64) (cut ∙ ap (drop 8) e) ∙ twelve_read n small
 
 -- a text that is the id of no other number than this one, and not of this one, is no id
 pub no_id : (text : List ℕ) (found o : Option ℕ) → id_of text ≡ o → ((n : ℕ) → n < 2 ^ 64 → text ≡ shard_id n → found ≡ Some n) → ((n : ℕ) → found ≡ Some n → text ≢ shard_id n) → None ≡ id_of text

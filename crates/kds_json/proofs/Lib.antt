@@ -8,4 +8,3 @@ pub mod ManyRecords
 pub mod MemberTexts
 pub mod Objects
 pub mod RecordTexts
-pub mod TwelveDigits

@@ -9,7 +9,7 @@ use Rattle.kds_base.specs.Hashes.{key_hash}
 use Rattle.kds_base.specs.Names.{name_of}
 use Rattle.kds_base.specs.NumberText.{number_of}
 use Rattle.kds_defs.specs.declared.limits.TheConstants.{KEY_CHARACTERS, RECORD_BYTES}
-use Rattle.kds_json.specs.declared.numbers.TheConstants.{MOST_SECONDS}
+use Rattle.kds_defs.specs.declared.limits.TheConstants.{MOST_SECONDS}
 use Rattle.kds_json.specs.declared.problem.Fault.{Fault}
 use Rattle.kds_json.specs.Ids.{id_of}
 use Rattle.kds_json.specs.Member.{member_of, optional_at}

@@ -11,7 +11,7 @@ use Rattle.kds_defs.specs.declared.command.Start.{Start}
 use Rattle.kds_defs.specs.declared.command.Start.TheVariants as start
 use Rattle.kds_defs.specs.declared.limits.TheConstants.{LEAST_SHARDS, MOST_SHARDS, LEAST_HOURS, MOST_HOURS, MOST}
 use Rattle.kds_token.specs.Tokens.{iter_of, page_of}
-use Rattle.kds_json.specs.declared.defaults.TheConstants.{RECORDS_LIMIT, SHARDS_LIMIT, DESCRIBED_LIMIT, NAMES_LIMIT}
+use Rattle.kds_defs.specs.declared.limits.TheConstants.{RECORDS_LIMIT, SHARDS_LIMIT, DESCRIBED_LIMIT, NAMES_LIMIT}
 use Rattle.kds_json.specs.declared.problem.Fault.{Fault}
 use Rattle.kds_json.specs.declared.problem.FaultKind.TheVariants.{Invalid}
 use Rattle.kds_json.specs.Reading.{◌>>=◌, fault_of}

@@ -1,20 +1,44 @@
-//! The ids of shards, as they are printed and read.
-ghost use Rattle.std.specs.Prelude.{◌≡◌, ◌<◌, ◌^◌, ℕ, List, Some, IfOk, string_bytes};
+//! The ids of shards, as they are printed and read, without memory.
+ghost use Rattle.std.specs.Prelude.{◌≡◌, ◌<◌, ◌≤◌, ◌-◌, ◌+◌, ◌++◌, ◌^◌, ℕ, List, Some, codes, length, replicate};
+ghost use Rattle.arrayvec.specs.ArrayString.{array_string_len};
 ghost use Rattle.kds_json.specs.Ids.{shard_id as id_text, id_of};
 
-use kds_base::{Memory, ShardNo};
-use std::alloc::Global;
+use arrayvec::ArrayString;
+use itoa::Buffer;
+use kds_base::{ShardNo, read_digits};
 
 /// What stands before the number.
 const PREFIX: &[u8] = b"shardId-";
 
+/// The digits to which the number of a shard is padded.
+const DIGITS: usize = 12;
+
+/// What stands before so many digits of a number.
+fn before(digits: usize) -> ArrayString<28>
+    requires { digits ≤ 20 }
+    ensures bytes { result.bytes ≡ codes "shardId-" ++ replicate (12 - digits) 48 }
+    ensures room { array_string_len result + digits ≤ 28 }
+{
+    let mut id = ArrayString::new();
+    id.push_str("shardId-");
+    let mut known = digits;
+    while known < DIGITS {
+        id.push('0');
+        known += 1;
+    }
+    id
+}
+
 /// A shard's id: `shardId-` and its number, padded with zeros to twelve digits
 /// (Kinesis API Reference, Shard, ShardId).
-pub fn shard_id(alloc: Global, shard: ShardNo) -> Result<String, Memory>
-    ensures { IfOk result (λ id. string_bytes id ≡ id_text shard) }
+pub fn shard_id(shard: ShardNo) -> ArrayString<28>
+    ensures { result.bytes ≡ id_text shard }
 {
-    let number = shard.0;
-    Ok(format!(in alloc; "shardId-{number:012}")?)
+    let mut buffer = Buffer::new();
+    let digits = buffer.format(shard.0);
+    let mut id = before(digits.len());
+    id.push_str(digits);
+    id
 }
 
 /// The number of the digits after the prefix. Where the text is an id, it is that shard's number.
@@ -22,26 +46,22 @@ fn number_of(text: &[u8]) -> Option<u64>
     ensures { (n : ℕ) → n < 2 ^ 64 → text.now ≡ id_text n → result ≡ Some n }
 {
     let digits = text.strip_prefix(PREFIX)?;
-    match str::from_utf8(digits) {
-        Ok(digits) => digits.parse::<u64>().ok(),
-        Err(_) => None,
-    }
+    read_digits(digits)
 }
 
 /// The shard whose id the text is, in its one spelling. `None` exactly where it is no shard's id.
-pub fn read_shard_id(alloc: Global, text: &[u8]) -> Result<Option<ShardNo>, Memory>
-    ensures { IfOk result (λ o. o ≡ id_of text.now) }
+pub fn read_shard_id(text: &[u8]) -> Option<ShardNo>
+    ensures { result ≡ id_of text.now }
 {
     match number_of(text) {
         Some(number) => {
-            let id = shard_id(alloc, ShardNo(number))?;
-            if id.as_bytes() == text {
-                Ok(Some(ShardNo(number)))
+            if shard_id(ShardNo(number)).as_bytes() == text {
+                Some(ShardNo(number))
             } else {
-                Ok(None)
+                None
             }
         }
-        None => Ok(None),
+        None => None,
     }
 }
 

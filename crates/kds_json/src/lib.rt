@@ -2,7 +2,6 @@
 //! (Kinesis API Reference, Actions and Common Errors).
 #![tactic(auto)]
 
-mod defaults;
 mod ids;
 mod many;
 mod member;
@@ -13,10 +12,6 @@ mod records;
 mod request;
 mod shards;
 mod streams;
-#[cfg(test)]
-mod test_words;
-#[cfg(test)]
-mod tests;
 mod texts;
 mod tokens;
 

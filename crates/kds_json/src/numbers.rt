@@ -1,5 +1,5 @@
 //! Members that are numbers, moments, hash keys, sequence numbers and the ids of shards.
-ghost use Rattle.std.specs.Prelude.{◌≡◌, None, IfOk};
+ghost use Rattle.std.specs.Prelude.{◌≡◌, None};
 ghost use Rattle.serde_json.specs.View.{view};
 ghost use Rattle.kds_json.specs.Reading.{Gives};
 ghost use Rattle.kds_json.specs.Member.{required_at, optional_at};
@@ -8,7 +8,8 @@ ghost use Rattle.kds_json.specs.Kinds.{number_in, moment_in, hash_in, hash_at, s
 use crate::ids::read_shard_id;
 use crate::member::{member, required_member, stop_at, value_at};
 use crate::problem::{FaultKind, Stop};
-use kds_base::{Memory, Moment, Octets, Seq, ShardNo, hash_of, read_u64, read_u128};
+use kds_base::{Moment, Octets, Seq, ShardNo, hash_of, read_u64, read_u128};
+use kds_defs::limits::MOST_SECONDS;
 use serde_json::Value;
 use std::alloc::Global;
 
@@ -58,9 +59,6 @@ pub fn optional_limit(
         None => Ok(default),
     }
 }
-
-/// The greatest moment that a request may name, in seconds.
-pub const MOST_SECONDS: u64 = 4_611_686_018_427_387;
 
 fn moment_value(value: &Value) -> Option<Moment>
     ensures { result ≡ moment_in (view value.now) }
@@ -131,12 +129,12 @@ pub fn sequence_member(alloc: Global, object: &Value, name: &str) -> Result<Seq,
     value_at(alloc, FaultKind::Invalid, name, sequence_value(value))
 }
 
-fn id_value(alloc: Global, value: &Value) -> Result<Option<ShardNo>, Memory>
-    ensures { IfOk result (λ o. o ≡ id_in (view value.now)) }
+fn id_value(value: &Value) -> Option<ShardNo>
+    ensures { result ≡ id_in (view value.now) }
 {
     match value.as_str() {
-        Some(text) => Ok(read_shard_id(alloc, text.as_bytes())?),
-        None => Ok(None),
+        Some(text) => read_shard_id(text.as_bytes()),
+        None => None,
     }
 }
 
@@ -146,7 +144,7 @@ pub fn id_member(alloc: Global, object: &Value, name: &str) -> Result<ShardNo, S
     ensures { Gives (λ x. x) result (required_at id_in name.now (view object.now)) }
 {
     let value = required_member(alloc, object, name)?;
-    value_at(alloc, FaultKind::Invalid, name, id_value(alloc, value)?)
+    value_at(alloc, FaultKind::Invalid, name, id_value(value))
 }
 
 /// A shard's id, if there is one.
@@ -157,7 +155,7 @@ pub fn optional_id(alloc: Global, object: &Value, name: &str) -> Result<Option<S
     let Some(value) = member(object, name) else {
         return Ok(None);
     };
-    match id_value(alloc, value)? {
+    match id_value(value) {
         Some(shard) => Ok(Some(shard)),
         None => Err(stop_at(alloc, FaultKind::Invalid, name)),
     }

@@ -4,14 +4,13 @@ ghost use Rattle.serde_json.specs.View.{view};
 ghost use Rattle.kds_json.specs.Reading.{Gives};
 ghost use Rattle.kds_json.specs.Operations.{split_shard as split_shard_of, merge_shards as merge_shards_of, list_from_start as list_from_start_of, list_from_token as list_from_token_of, list_shards as list_shards_of};
 
-use crate::defaults::SHARDS_LIMIT;
 use crate::member::{absent_member, has_member};
 use crate::numbers::{hash_member, id_member, optional_id, optional_limit};
 use crate::problem::Stop;
 use crate::texts::name_member;
 use crate::tokens::page_member;
 use kds_defs::Command;
-use kds_defs::limits::MOST;
+use kds_defs::limits::{MOST, SHARDS_LIMIT};
 use serde_json::Value;
 use std::alloc::Global;
 

@@ -4,12 +4,13 @@ ghost use Rattle.serde_json.specs.View.{view};
 ghost use Rattle.kds_json.specs.Reading.{Gives};
 ghost use Rattle.kds_json.specs.Operations.{create_stream as create_stream_of, delete_stream as delete_stream_of, list_streams as list_streams_of, describe_stream as describe_stream_of, describe_summary as describe_summary_of, keep as keep_of};
 
-use crate::defaults::{DESCRIBED_LIMIT, NAMES_LIMIT};
 use crate::numbers::{number_member, optional_id, optional_limit};
 use crate::problem::Stop;
 use crate::texts::{mode_member, name_member, optional_name};
 use kds_defs::Command;
-use kds_defs::limits::{LEAST_HOURS, LEAST_SHARDS, MOST, MOST_HOURS, MOST_SHARDS};
+use kds_defs::limits::{
+    DESCRIBED_LIMIT, LEAST_HOURS, LEAST_SHARDS, MOST, MOST_HOURS, MOST_SHARDS, NAMES_LIMIT,
+};
 use serde_json::Value;
 use std::alloc::Global;
 
