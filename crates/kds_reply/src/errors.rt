@@ -1,3 +1,4 @@
+//! The bodies of errors.
 ghost use Rattle.std.specs.Prelude.{◌≡◌, IfOk};
 ghost use Rattle.serde_json.specs.Written.{compact_text};
 ghost use Rattle.kds_reply.specs.Errors.{error_data};
@@ -14,5 +15,5 @@ pub fn error_body(alloc: Global, name: &str, message: &str) -> Result<Octets, Me
     ensures { IfOk result (λ o. o ≡ compact_text (error_data name.now message.now)) }
 {
     let body = json!(in alloc; {"__type": name, "message": message})?;
-    Ok(Octets::from_vec(body.to_vec(alloc)?))
+    Ok(Octets::unshared(body.to_vec(alloc)?))
 }

@@ -1,3 +1,4 @@
+//! The faults of requests, as they are told.
 ghost use Rattle.std.specs.Prelude.{◌≡◌, IsUtf8, IfOk, string_bytes};
 ghost use Rattle.kds_reply.specs.Errors.{fault_name as name_of, fault_message as message_of};
 ghost use Rattle.kds_reply.specs.Replies.{fault_reply};

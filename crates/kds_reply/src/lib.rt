@@ -3,20 +3,18 @@
 #![tactic(auto)]
 
 mod answers;
+mod batches;
+mod children;
 mod errors;
 mod faults;
 mod laws;
 mod places;
-mod records;
 mod refusals;
 mod seconds;
 mod shards;
 mod streams;
-#[cfg(test)]
-mod test_replies;
-#[cfg(test)]
-mod tests;
 mod tokens;
+mod writing;
 
 pub use answers::reply;
 pub use faults::fault;

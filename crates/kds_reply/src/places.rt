@@ -1,41 +1,67 @@
-//! Where records were put.
-ghost use Rattle.std.specs.Prelude.{◌≡◌, map, IfOk};
-ghost use Rattle.serde_json.specs.View.{view};
-ghost use Rattle.kds_reply.specs.Bodies.{place_data, places_data};
+//! Where records were put, written straight as text.
+ghost use Rattle.std.specs.Prelude.{◌≡◌, ◌++◌, IfOk, OnOk};
+ghost use Rattle.serde_json.specs.Written.{compact_text};
+ghost use Rattle.kds_reply.specs.Bodies.{list_data, place_data, places_data};
+ghost use Rattle.kds_reply.specs.Writing.{tokens_of};
 
-use kds_base::Memory;
+use crate::writing::{
+    begin_object, end_object, new_writer, put_name, put_number, put_sequence, put_text, written,
+};
+use json::Writer;
+use kds_base::{Memory, Octets};
 use kds_defs::Place;
 use kds_json::shard_id;
-use serde_json::{Value, json, push};
 use std::alloc::Global;
 
-/// Where a record was put (Kinesis API Reference, PutRecord, Response Elements).
-#[tactic(auto, unfolding(crate::specs::Bodies::place_data))]
-pub fn place_value(alloc: Global, place: &Place) -> Result<Value, Memory>
-    ensures { IfOk result (λ v. view v ≡ place_data place.now) }
+/// The most bytes of a place, and of what stands around the places.
+const PLACE_BYTES: usize = 96;
+
+/// Adds where a record was put (Kinesis API Reference, PutRecord, Response Elements).
+fn put_place(out: &mut Writer, place: &Place) -> Result<(), Memory>
+    ensures ok { OnOk result (out.new.tokens ≡ out.old.tokens ++ tokens_of (place_data place.now)) }
+    ensures before { out.new.before ≡ out.old.before }
 {
-    let number = place.seq.0;
-    let sequence_number = format!(in alloc; "{number}")?;
-    let shard = shard_id(alloc, place.shard)?;
-    Ok(json!(in alloc; {"SequenceNumber": sequence_number, "ShardId": shard})?)
+    let shard = shard_id(place.shard);
+    begin_object(out)?;
+    put_sequence(out, "SequenceNumber", place.seq)?;
+    put_text(out, "ShardId", shard.as_str())?;
+    end_object(out)?;
+    Ok(())
 }
 
-fn place_values(alloc: Global, places: &[Place]) -> Result<Vec<Value>, Memory>
-    ensures { IfOk result (λ vs. map view vs.items ≡ map place_data places.now) }
+/// Adds places as an array.
+fn put_places(out: &mut Writer, places: &[Place]) -> Result<(), Memory>
+    ensures ok { OnOk result (out.new.tokens ≡ out.old.tokens ++ tokens_of (list_data place_data places.now)) }
+    ensures before { out.new.before ≡ out.old.before }
 {
-    let mut values = Vec::new(alloc);
+    out.begin_array()?;
     for place in places {
-        let value = place_value(alloc, place)?;
-        push(&mut values, value)?;
+        put_place(out, place)?;
     }
-    Ok(values)
+    out.end_array()?;
+    Ok(())
 }
 
-/// Where each of some records was put. None fails (Kinesis API Reference, PutRecords, Response Elements).
-#[tactic(auto, unfolding(crate::specs::Bodies::places_data))]
-pub fn places_value(alloc: Global, places: &[Place]) -> Result<Value, Memory>
-    ensures { IfOk result (λ v. view v ≡ places_data places.now) }
+/// The text of where a record was put.
+pub fn place_text(alloc: Global, place: &Place) -> Result<Octets, Memory>
+    ensures { IfOk result (λ o. o ≡ compact_text (place_data place.now)) }
 {
-    let records = place_values(alloc, places)?;
-    Ok(json!(in alloc; {"FailedRecordCount": 0u64, "Records": records})?)
+    let mut out = new_writer(alloc, PLACE_BYTES)?;
+    put_place(&mut out, place)?;
+    Ok(written(out))
+}
+
+/// The text of where each of some records was put. None fails
+/// (Kinesis API Reference, PutRecords, Response Elements).
+pub fn places_text(alloc: Global, places: &[Place]) -> Result<Octets, Memory>
+    ensures { IfOk result (λ o. o ≡ compact_text (places_data places.now)) }
+{
+    let room = places.len().saturating_mul(PLACE_BYTES);
+    let mut out = new_writer(alloc, room.saturating_add(PLACE_BYTES))?;
+    begin_object(&mut out)?;
+    put_number(&mut out, "FailedRecordCount", 0)?;
+    put_name(&mut out, "Records")?;
+    put_places(&mut out, places)?;
+    end_object(&mut out)?;
+    Ok(written(out))
 }

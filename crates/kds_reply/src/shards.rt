@@ -1,9 +1,8 @@
 //! Shards as they are shown, and listings of them.
-ghost use Rattle.std.specs.Prelude.{◌≡◌, ◌++◌, map, option_map, IfOk, OnOk};
-ghost use Rattle.std.specs.Option.{option_to_list};
+ghost use Rattle.std.specs.Prelude.{◌≡◌, map, option_map, IfOk, OnOk};
 ghost use Rattle.serde_json.specs.View.{view, members_view};
 ghost use Rattle.kds_reply.specs.Bodies.{id_data, put_if};
-ghost use Rattle.kds_reply.specs.Shards.{range_data, sequence_data, shard_data, parents_of, child_data, shards_data};
+ghost use Rattle.kds_reply.specs.Shards.{range_data, sequence_data, shard_data, shards_data};
 
 use crate::tokens::listing_token;
 use kds_base::{Memory, Range, Seq, ShardNo};
@@ -44,7 +43,8 @@ fn sequence_value(alloc: Global, start: Seq, end: &Option<Seq>) -> Result<Value,
 fn id_value(alloc: Global, shard: ShardNo) -> Result<Value, Memory>
     ensures { IfOk result (λ v. view v ≡ id_data shard) }
 {
-    Ok(Value::from(shard_id(alloc, shard)?))
+    let id = String::from_str(alloc, shard_id(shard).as_str())?;
+    Ok(Value::from(id))
 }
 
 /// Adds a shard's id as a member, if there is one.
@@ -86,53 +86,6 @@ fn shard_value(alloc: Global, shard: &Shard) -> Result<Value, Memory>
         &shard.adjacent,
     )?;
     Ok(Value::Object(members))
-}
-
-/// Adds a shard's id to a list, if there is one.
-fn push_id(alloc: Global, ids: &mut Vec<Value>, shard: &Option<ShardNo>) -> Result<(), Memory>
-    ensures { OnOk result (map view ids.new.items ≡ map view ids.old.items ++ map id_data (option_to_list shard.now)) }
-{
-    match shard {
-        Some(shard) => {
-            let id = id_value(alloc, *shard)?;
-            push(ids, id)?;
-            Ok(())
-        }
-        None => Ok(()),
-    }
-}
-
-/// The ids of a shard's parents, the adjacent one last.
-fn parent_ids(alloc: Global, shard: &Shard) -> Result<Vec<Value>, Memory>
-    ensures { IfOk result (λ ids. map view ids.items ≡ map id_data (parents_of shard.now)) }
-{
-    let mut ids = Vec::new(alloc);
-    push_id(alloc, &mut ids, &shard.parent)?;
-    push_id(alloc, &mut ids, &shard.adjacent)?;
-    Ok(ids)
-}
-
-/// A child of a shard (Kinesis API Reference, ChildShard).
-#[tactic(auto, unfolding(crate::specs::Shards::child_data))]
-fn child_value(alloc: Global, shard: &Shard) -> Result<Value, Memory>
-    ensures { IfOk result (λ v. view v ≡ child_data shard.now) }
-{
-    let range = range_value(alloc, &shard.range)?;
-    let parents = parent_ids(alloc, shard)?;
-    let id = id_value(alloc, shard.no)?;
-    Ok(json!(in alloc; {"HashKeyRange": range, "ParentShards": parents, "ShardId": id})?)
-}
-
-/// The children of a shard.
-pub fn child_values(alloc: Global, shards: &[Shard]) -> Result<Vec<Value>, Memory>
-    ensures { IfOk result (λ vs. map view vs.items ≡ map child_data shards.now) }
-{
-    let mut values = Vec::new(alloc);
-    for shard in shards {
-        let value = child_value(alloc, shard)?;
-        push(&mut values, value)?;
-    }
-    Ok(values)
 }
 
 /// Shards in their order.

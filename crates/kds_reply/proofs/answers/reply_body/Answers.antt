@@ -1,11 +1,14 @@
-use Rattle.std.proofs.Common.{◌≡◌, Some, rules}
-use Rattle.serde_json.specs.View.{view}
-use Rattle.kds_reply.specs.Replies.{reply_data}
-use Rattle.kds_reply.proofs.Plain.{reply_plain}
+use Rattle.kds_reply.proofs.Plain.{streams_plain, described_plain, summary_plain, shards_plain}
 use Rattle.kds_reply.proofs.answers.reply_body.Goals as goal
 
-pub text_of-requires : goal.text_of-requires
-text_of-requires c =
-    let told : reply_data c.args.reply.now ≡ Some (view c.in-Some.value) = search rules in
-    let plain = rw told at (reply_plain c.args.reply.now) in
-    plain
+pub value_text-requires : goal.value_text-requires
+value_text-requires c = rw c.in_ok-value-in-Streams.ensures (streams_plain _ _)
+
+pub value_text-requires-in-Described : goal.value_text-requires-in-Described
+value_text-requires-in-Described c = rw c.in_ok-value-in-Described.ensures (described_plain _ _ _)
+
+pub value_text-requires-in-Summary : goal.value_text-requires-in-Summary
+value_text-requires-in-Summary c = rw c.in_ok-value-in-Summary.ensures (summary_plain _ _)
+
+pub value_text-requires-in-Shards : goal.value_text-requires-in-Shards
+value_text-requires-in-Shards c = rw c.in_ok-value-in-Shards.ensures (shards_plain _ _)
