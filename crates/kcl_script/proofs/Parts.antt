@@ -1,6 +1,6 @@
 -- Parts of a text, which a byte parts.
 use Rattle.std.proofs.Common.{◌≡◌, ℕ, zero, suc, ◌+◌, ◌<◌, List, length, [], ◌∷◌, ◌++◌, take, drop, Bool, true, false, Option, Some, None, refl, ap, ◌∙◌, inl, inr, subst, arith}
-use Rattle.std.proofs.lemmas.Bool.{cases_Bool, eqb-true, eq-eqb}
+use Rattle.std.proofs.lemmas.Bool.{cases_Bool, eqb-true}
 use Rattle.std.specs.Prelude.{◌==◌, ◌&&◌, if◌then◌else◌, option_map}
 use Rattle.std.specs.List.{list_all}
 use Rattle.memchr.specs.Find.{NoneBefore, Passes, is_byte}

@@ -8,6 +8,7 @@ use Rattle.std.specs.Char.{is_ascii_alphanumeric}
 use Rattle.std.specs.Str.{bytes_eq}
 use Rattle.kds_base.specs.NumberText.{number_of}
 use Rattle.kds_base.proofs.NumberLemmas.{decimal_of_number, number_of_decimal}
+use Rattle.kds_defs.specs.declared.limits.TheConstants.{MOST_ACTOR}
 use Rattle.kcl_script.specs.declared.line.Line.{Line}
 use Rattle.kcl_script.specs.declared.line.Line.TheVariants.{Api, Raw}
 use Rattle.kcl_script.specs.Fields.{field, Lacks, in_time, moment_of, count_of}
@@ -52,10 +53,10 @@ api_spells true at operation body l early c h =
 raw_spells : (at : ℕ) (actor text : List ℕ) (l : Line) → at < 2 ^ 62 → raw_line at actor text ≡ Some l → Spells at (codes "raw") actor text l
 unfolding raw_line
 raw_spells at actor text l early h =
-    let a = bind_some (count_of 999 actor) _ l h in
+    let a = bind_some (count_of MOST_ACTOR actor) _ l h in
     let b = bind_some (command_of text) _ l a.2 in
     let same : Raw at a.0 b.0.0 b.0.1 ≡ l = cc (b.2) in
-    let x = (count_form 999 (omega arith)).spells actor a.0 a.1 in
+    let x = (count_form MOST_ACTOR (omega arith)).spells actor a.0 a.1 in
     let y = command_spells text b.0 b.1 in
     let parts : decimal at ++ 32 ∷ (codes "raw" ++ 32 ∷ (actor ++ 32 ∷ text)) ≡ spelling (Raw at a.0 b.0.0 b.0.1) =
     ap (λ z. decimal at ++ 32 ∷ (codes "raw" ++ 32 ∷ (z ++ 32 ∷ text))) x.1 ∙ ap (λ z. decimal at ++ 32 ∷ (codes "raw" ++ 32 ∷ (decimal a.0 ++ 32 ∷ z))) y.1 in
@@ -99,6 +100,6 @@ line_again (Raw at by what long) h =
       parted_at 32 (decimal at) (codes "raw " ++ (decimal by ++ 32 ∷ raw_text what long)) digits refl,
       moment_again at h.0,
       parted_at 32 (decimal by) (raw_text what long) actor refl,
-      (count_form 999 (omega arith)).again by h.1.0,
+      (count_form MOST_ACTOR (omega arith)).again by h.1.0,
       command_again what long h.1.1.0 h.1.1.1,
     ) refl

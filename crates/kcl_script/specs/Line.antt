@@ -3,14 +3,17 @@ use Rattle.std.specs.Prelude.{◌≡◌, ℕ, ◌^◌, ◌<◌, ◌≤◌, List,
 use Rattle.std.specs.Char.{is_ascii_alphanumeric}
 use Rattle.std.specs.List.{list_all}
 use Rattle.std.specs.Str.{bytes_eq}
+use Rattle.kds_defs.specs.declared.limits.TheConstants.{OPERATION_BYTES, MOST_ACTOR}
 use Rattle.kcl_script.specs.declared.line.Line.{Line}
 use Rattle.kcl_script.specs.declared.line.Line.TheVariants.{Api, Raw}
+use Rattle.kcl_script.specs.declared.line.LineView.{LineView}
+use Rattle.kcl_script.specs.declared.line.LineView.TheVariants as view
 use Rattle.kcl_script.specs.Fields.{◌>>=◌, field, moment_of, count_of}
 use Rattle.kcl_script.specs.Commands.{command_of, raw_text, IsRaw, IsLong}
 
--- 1 to 64 letters and digits
+-- letters and digits, at least one and at most so many
 abbrev pub is_operation : List ℕ → Bool
-is_operation text = nat_lt 0 (length text) && nat_le (length text) 64 && list_all is_ascii_alphanumeric text
+is_operation text = nat_lt 0 (length text) && nat_le (length text) OPERATION_BYTES && list_all is_ascii_alphanumeric text
 
 -- `AT api OPERATION BODY`
 abbrev pub api_line : ℕ → List ℕ → List ℕ → Option Line
@@ -19,7 +22,7 @@ api_line at operation body = if is_operation operation then Some (Api at operati
 -- `AT raw BY COMMAND`
 unfoldable pub raw_line : ℕ → List ℕ → List ℕ → Option Line
 raw_line at actor text = do
-  by ← count_of 999 actor
+  by ← count_of MOST_ACTOR actor
   what ← command_of text
   Some (Raw at by what.0 what.1)
 
@@ -46,9 +49,14 @@ spelling (Raw at by what long) = decimal at ++ (codes " raw " ++ (decimal by ++ 
 
 -- an actor of raw lines
 abbrev pub IsActor : ℕ → Type 0
-IsActor by = (1 ≤ by) × (by ≤ 999)
+IsActor by = (1 ≤ by) × (by ≤ MOST_ACTOR)
 
 -- which lines have one
 abbrev pub IsLine : Line → Type 0
 IsLine (Api at operation body) = (at < 2 ^ 62) × (is_operation operation ≡ true)
 IsLine (Raw at by what long) = (at < 2 ^ 62) × (IsActor by × (IsRaw what × IsLong what long))
+
+-- the line that is seen in a text
+abbrev pub seen : LineView → Line
+seen (view.Api at operation body) = Api at operation.now body.now
+seen (view.Raw at by what long) = Raw at by what long

@@ -1,5 +1,5 @@
 //! Answers to commands for leases as text.
-ghost use Rattle.std.specs.Prelude.{◌≡◌, ◌∷◌, ◌++◌, flat_map, codes, length, true, OnOk};
+ghost use Rattle.std.specs.Prelude.{◌≡◌, ◌∷◌, ◌++◌, flat_map, codes, length, true, OnOk, OnErr};
 ghost use Rattle.kds_defs.specs.Kinds.{is_lease_answer, is_lease_reply};
 ghost use Rattle.kcl_script.specs.Fields.{key_text};
 ghost use Rattle.kcl_script.specs.Answers.{checkpoint_text, owner_text, row_text, rows_text, number_text, end_text, survey_text, reply_text, refusal_name as name_of, refusal_value, refusal_text, answer_text};
@@ -125,7 +125,7 @@ fn end_word(end: bool, to: &mut Octets) -> Result<(), Memory>
     }
 }
 
-fn print_reply(alloc: Global, reply: &Reply, long: bool, to: &mut Octets) -> Result<(), Memory>
+fn fill_reply(alloc: Global, reply: &Reply, long: bool, to: &mut Octets) -> Result<(), Memory>
     requires { is_lease_reply reply.now ≡ true }
     ensures { OnOk result (to.new ≡ to.old ++ reply_text long reply.now) }
 {
@@ -209,7 +209,7 @@ fn value(alloc: Global, refusal: &Refusal, to: &mut Octets) -> Result<(), Memory
     }
 }
 
-fn print_refusal(alloc: Global, refusal: &Refusal, to: &mut Octets) -> Result<(), Memory>
+fn fill_refusal(alloc: Global, refusal: &Refusal, to: &mut Octets) -> Result<(), Memory>
     ensures { OnOk result (to.new ≡ to.old ++ refusal_text refusal.now) }
 {
     to.extend(b"refused ".as_slice())?;
@@ -217,8 +217,19 @@ fn print_refusal(alloc: Global, refusal: &Refusal, to: &mut Octets) -> Result<()
     value(alloc, refusal, to)
 }
 
+/// Adds the text of an answer. After `Memory` a front of it may have been added.
+fn fill_answer(alloc: Global, answer: &Answer, long: bool, to: &mut Octets) -> Result<(), Memory>
+    requires { is_lease_answer answer.now ≡ true }
+    ensures { OnOk result (to.new ≡ to.old ++ answer_text long answer.now) }
+{
+    match answer {
+        Ok(reply) => fill_reply(alloc, reply, long, to),
+        Err(refusal) => fill_refusal(alloc, refusal, to),
+    }
+}
+
 /// Adds the text of an answer. `long` asks for the rows of a survey in place of their number. Condition: it is the
-/// answer to a command for leases. After `Memory` a front of the text may have been added.
+/// answer to a command for leases. After `Memory` nothing was added.
 pub fn print_answer(
     alloc: Global,
     answer: &Answer,
@@ -226,10 +237,10 @@ pub fn print_answer(
     to: &mut Octets,
 ) -> Result<(), Memory>
     requires { is_lease_answer answer.now ≡ true }
-    ensures { OnOk result (to.new ≡ to.old ++ answer_text long answer.now) }
+    ensures ok { OnOk result (to.new ≡ to.old ++ answer_text long answer.now) }
+    ensures err { OnErr result (to.new ≡ to.old) }
 {
-    match answer {
-        Ok(reply) => print_reply(alloc, reply, long, to),
-        Err(refusal) => print_refusal(alloc, refusal, to),
-    }
+    let mut text = Octets::new(alloc);
+    fill_answer(alloc, answer, long, &mut text)?;
+    to.extend(text.as_slice())
 }

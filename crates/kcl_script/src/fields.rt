@@ -1,6 +1,6 @@
 //! Fields of a line, and the numbers, workers and keys in them.
 ghost use Rattle.std.specs.Prelude.{◌≡◌, ◌∷◌, option_map};
-ghost use Rattle.kcl_script.specs.Fields.{parted, field, two, moment_of, number, from_one_to, count_of, worker_of, key_of};
+ghost use Rattle.kcl_script.specs.Fields.{parted, field as field_of, two, moment_of, number, from_one_to, count_of, worker_of, key_of};
 
 use kds_base::{Moment, ShardNo, ShardRef, StreamNo, WorkerNo, read_u64};
 use memchr::memchr;
@@ -20,8 +20,8 @@ pub fn part(text: &[u8], sep: u8) -> Option<(&[u8], &[u8])>
 }
 
 /// The part before the first space, and what follows that space.
-pub fn cut(text: &[u8]) -> Option<(&[u8], &[u8])>
-    ensures { option_map (λ p. (p.0.now, p.1.now)) result ≡ field text.now }
+pub fn field(text: &[u8]) -> Option<(&[u8], &[u8])>
+    ensures { option_map (λ p. (p.0.now, p.1.now)) result ≡ field_of text.now }
 {
     part(text, b' ')
 }
@@ -30,10 +30,7 @@ pub fn cut(text: &[u8]) -> Option<(&[u8], &[u8])>
 pub fn moment(text: &[u8]) -> Option<Moment>
     ensures { result ≡ moment_of text.now }
 {
-    match read_u64(text) {
-        Some(ms) => Moment::new(ms),
-        None => None,
-    }
+    Moment::new(read_u64(text)?)
 }
 
 fn from_one(n: u64, most: u32) -> Option<u32>
@@ -50,10 +47,7 @@ fn from_one(n: u64, most: u32) -> Option<u32>
 pub fn count(text: &[u8], most: u32) -> Option<u32>
     ensures { result ≡ count_of most text.now }
 {
-    match read_u64(text) {
-        Some(n) => from_one(n, most),
-        None => None,
-    }
+    from_one(read_u64(text)?, most)
 }
 
 /// Two numbers, which such a byte parts.

@@ -1,5 +1,5 @@
-//! Lines and commands as text.
-ghost use Rattle.std.specs.Prelude.{◌≡◌, ◌∷◌, ◌++◌, false, OnOk};
+//! Lines and commands as text, each made in a room of its own and added whole.
+ghost use Rattle.std.specs.Prelude.{◌≡◌, ◌∷◌, ◌++◌, false, OnOk, OnErr};
 ghost use Rattle.kds_defs.specs.Kinds.{is_service};
 ghost use Rattle.kcl_script.specs.Fields.{worker_text};
 ghost use Rattle.kcl_script.specs.Commands.{target_text, command_text, raw_text};
@@ -27,9 +27,8 @@ fn target_field(alloc: Global, target: Target, to: &mut Octets) -> Result<(), Me
     }
 }
 
-/// Adds the one text of a command. Condition: it is a command for leases. After `Memory` a front of the text
-/// may have been added.
-pub fn print_command(alloc: Global, what: &Command, to: &mut Octets) -> Result<(), Memory>
+/// Adds the one text of a command. After `Memory` a front of it may have been added.
+fn fill_command(alloc: Global, what: &Command, to: &mut Octets) -> Result<(), Memory>
     requires { is_service what.now ≡ false }
     ensures { OnOk result (to.new ≡ to.old ++ command_text what.now) }
 {
@@ -77,20 +76,19 @@ pub fn print_command(alloc: Global, what: &Command, to: &mut Octets) -> Result<(
     }
 }
 
-fn print_raw(alloc: Global, what: &Command, long: bool, to: &mut Octets) -> Result<(), Memory>
+fn fill_raw(alloc: Global, what: &Command, long: bool, to: &mut Octets) -> Result<(), Memory>
     requires { is_service what.now ≡ false }
     ensures { OnOk result (to.new ≡ to.old ++ raw_text what.now long) }
 {
     if long {
         to.extend(b"rows".as_slice())
     } else {
-        print_command(alloc, what, to)
+        fill_command(alloc, what, to)
     }
 }
 
-/// Adds the one text of a line, without its line feed. Condition: it is the value of a line of a schedule. After
-/// `Memory` a front of the text may have been added.
-pub fn print_line(alloc: Global, line: &Line, to: &mut Octets) -> Result<(), Memory>
+/// Adds the one text of a line. After `Memory` a front of it may have been added.
+fn fill_line(alloc: Global, line: &Line, to: &mut Octets) -> Result<(), Memory>
     requires { IsLine line.now }
     ensures { OnOk result (to.new ≡ to.old ++ spelling line.now) }
 {
@@ -110,7 +108,30 @@ pub fn print_line(alloc: Global, line: &Line, to: &mut Octets) -> Result<(), Mem
             write_u64(alloc, at.ms(), to)?;
             with_number(alloc, b" raw".as_slice(), *by as u64, to)?;
             to.extend(b" ".as_slice())?;
-            print_raw(alloc, what, *long, to)
+            fill_raw(alloc, what, *long, to)
         }
     }
+}
+
+/// Adds the one text of a command. Condition: it is a command for leases. After `Memory` nothing was added.
+pub fn print_command(alloc: Global, what: &Command, to: &mut Octets) -> Result<(), Memory>
+    requires { is_service what.now ≡ false }
+    ensures ok { OnOk result (to.new ≡ to.old ++ command_text what.now) }
+    ensures err { OnErr result (to.new ≡ to.old) }
+{
+    let mut text = Octets::new(alloc);
+    fill_command(alloc, what, &mut text)?;
+    to.extend(text.as_slice())
+}
+
+/// Adds the one text of a line, without its line feed. Condition: it is the value of a line of a schedule. After
+/// `Memory` nothing was added.
+pub fn print_line(alloc: Global, line: &Line, to: &mut Octets) -> Result<(), Memory>
+    requires { IsLine line.now }
+    ensures ok { OnOk result (to.new ≡ to.old ++ spelling line.now) }
+    ensures err { OnErr result (to.new ≡ to.old) }
+{
+    let mut text = Octets::new(alloc);
+    fill_line(alloc, line, &mut text)?;
+    to.extend(text.as_slice())
 }

@@ -3,7 +3,7 @@ ghost use Rattle.std.specs.Prelude.{◌≡◌, option_map};
 ghost use Rattle.kcl_script.specs.Fields.{two, number, count_of, worker_of, key_of};
 ghost use Rattle.kcl_script.specs.Commands.{target_of, make_of, take_of, renew_of, free_of, open_of, read_of, give_of, mark_of, cut_of, words_of, longer_of, command_of};
 
-use crate::fields::{count, cut, key, two_numbers, worker};
+use crate::fields::{count, field, key, two_numbers, worker};
 use kds_base::{Seq, TenureNo, read_u64};
 use kds_defs::limits::MOST;
 use kds_defs::{Command, Target};
@@ -30,9 +30,9 @@ fn make(text: &[u8]) -> Option<Command>
 fn take(text: &[u8]) -> Option<Command>
     ensures { result ≡ take_of text.now }
 {
-    let (first, rest) = cut(text)?;
+    let (first, rest) = field(text)?;
     let key = key(first)?;
-    let (second, third) = cut(rest)?;
+    let (second, third) = field(rest)?;
     let counter = read_u64(second)?;
     let owner = worker(third)?;
     Some(Command::Take {
@@ -75,9 +75,9 @@ fn open_shard(text: &[u8]) -> Option<Command>
 fn read(text: &[u8]) -> Option<Command>
     ensures { result ≡ read_of text.now }
 {
-    let (first, rest) = cut(text)?;
+    let (first, rest) = field(text)?;
     let tenure = read_u64(first)?;
-    let (second, third) = cut(rest)?;
+    let (second, third) = field(rest)?;
     let position = read_u64(second)?;
     let limit = count(third, MOST)?;
     Some(Command::Read {
@@ -100,9 +100,9 @@ fn give(text: &[u8]) -> Option<Command>
 fn mark(text: &[u8]) -> Option<Command>
     ensures { result ≡ mark_of text.now }
 {
-    let (first, rest) = cut(text)?;
+    let (first, rest) = field(text)?;
     let tenure = read_u64(first)?;
-    let (second, third) = cut(rest)?;
+    let (second, third) = field(rest)?;
     let counter = read_u64(second)?;
     let to = target(third)?;
     Some(Command::Mark {
@@ -116,7 +116,7 @@ fn mark(text: &[u8]) -> Option<Command>
 fn cut_lease(text: &[u8]) -> Option<Command>
     ensures { result ≡ cut_of text.now }
 {
-    let (first, second) = cut(text)?;
+    let (first, second) = field(text)?;
     let key = key(first)?;
     let counter = read_u64(second)?;
     Some(Command::CutLease { key, counter })
@@ -153,7 +153,7 @@ fn words(word: &[u8], text: &[u8]) -> Option<Command>
 fn longer(text: &[u8]) -> Option<Command>
     ensures { result ≡ longer_of text.now }
 {
-    let (word, rest) = cut(text)?;
+    let (word, rest) = field(text)?;
     words(word, rest)
 }
 
