@@ -1,21 +1,20 @@
 -- The turns of a schedule are lawful.
-use Rattle.std.proofs.Common.{◌≡◌, ℕ, ◌+◌, ◌<◌, ◌^◌, List, [], ◌∷◌, length, Bool, true, false, Option, Some, None, Result, Ok, Err, refl}
-use Rattle.std.specs.Prelude.{cond}
+use Rattle.std.proofs.Common.{◌≡◌, ℕ, ◌+◌, ◌<◌, ◌^◌, List, [], ◌∷◌, Option, Some, None, Result, Ok, Err, refl, subst, ◌++◌}
 use Rattle.std.specs.List.{AllByRecursion}
 use Rattle.kds_defs.specs.declared.command.Command.{Command}
-use Rattle.kds_defs.specs.declared.command.Turn.{Turn}
 use Rattle.kds_defs.specs.Lawful.{IsHistory}
 use Rattle.kds_json.specs.declared.problem.Fault.{Fault}
 use Rattle.kds_json.specs.Asked.{asked, IsRequest}
 use Rattle.kcl_script.specs.declared.line.Line.{Line}
 use Rattle.kcl_script.specs.declared.line.Line.TheVariants.{Api, Raw}
 use Rattle.kcl_script.specs.Line.{line_of, IsLine}
-use Rattle.kcl_sim.specs.Output.{with_request, with_line, with_schedule}
-use Rattle.kcl_sim.specs.Schedule.{Judged, pieces, is_over, decided, too_long, judge_form, judge, judged, history}
+use Rattle.kds_lines.specs.Lines.{End, lined}
+use Rattle.kcl_sim.specs.Output.{Ran, fresh, with_request, with_line, with_schedule}
+use Rattle.kcl_sim.specs.Schedule.{Judged, judge_form, judge, judged, history}
 
-pub request_lawful : (h : List Turn) (at : ℕ) (r : Result Command Fault) → at < 2 ^ 62 → ((what : Command) → r ≡ Ok what → IsRequest what) → IsHistory h → IsHistory (with_request h at r)
-request_lawful h at (Ok what) early lawful past = ((early, (lawful what refl).0), past)
-request_lawful h at (Err f) early lawful past = past
+pub request_lawful : (ran : Ran) (at : ℕ) (r : Result Command Fault) → at < 2 ^ 62 → ((what : Command) → r ≡ Ok what → IsRequest what) → IsHistory ran.history → IsHistory (with_request ran at r).history
+request_lawful ran at (Ok what) early lawful past = ((early, (lawful what refl).0), past)
+request_lawful ran at (Err f) early lawful past = past
 
 -- the lines of a judgement are lines
 abbrev pub AreLines : Judged → Type 0
@@ -29,32 +28,30 @@ abbrev pub ReadLines : Type 0
 ReadLines = (text : List ℕ) (line : Line) → line_of text ≡ Some line → IsLine line
 
 module _ (asks : AskLawfully) (reads : ReadLines) where
-  line_lawful : (h : List Turn) (l : Line) → IsLine l → IsHistory h → IsHistory (with_line h l)
-  line_lawful h (Api at operation body) is past = request_lawful h at (asked operation body) is.0 (asks operation body) past
-  line_lawful h (Raw at by what long) is past = ((is.0, is.1.1.0.lawful), past)
+  line_lawful : (ran : Ran) (l : Line) → IsLine l → IsHistory ran.history → IsHistory (with_line ran l).history
+  line_lawful ran (Api at operation body) is past = request_lawful ran at (asked operation body) is.0 (asks operation body) past
+  line_lawful ran (Raw at by what long) is past = ((is.0, is.1.1.0.lawful), past)
 
-  schedule_lawful : (h : List Turn) (ls : List Line) → AllByRecursion IsLine ls → IsHistory h → IsHistory (with_schedule h ls)
-  schedule_lawful h [] are past = past
-  schedule_lawful h (l ∷ ls) are past = schedule_lawful (with_line h l) ls are.1 (line_lawful h l are.0 past)
+  schedule_lawful : (ran : Ran) (ls : List Line) → AllByRecursion IsLine ls → IsHistory ran.history → IsHistory (with_schedule ran ls).history
+  schedule_lawful ran [] are past = past
+  schedule_lawful ran (l ∷ ls) are past = schedule_lawful (with_line ran l) ls are.1 (line_lawful ran l are.0 past)
 
   form_lines : (count : ℕ) (text : List ℕ) (o : Option Line) (later : Judged) → line_of text ≡ o → AreLines later → AreLines (judge_form count o later)
   form_lines count text None later is are = tt
   form_lines count text (Some l) later is are = (reads text l is, are)
 
-  either_lines : (b : Bool) (j k : Judged) → AreLines j → AreLines k → AreLines (cond b j k)
-  either_lines true j k are are' = are
-  either_lines false j k are are' = are'
-
-  last_lines : (count used : ℕ) (text : List ℕ) → AreLines (judge count used (text ∷ []))
-  last_lines count used [] = tt
-  last_lines count used (b ∷ bs) = tt
-
-  judge_lines : (count used : ℕ) (ps : List (List ℕ)) → AreLines (judge count used ps)
-  judge_lines count used [] = tt
-  judge_lines count used (p ∷ []) = last_lines count used p
-  judge_lines count used (p ∷ q ∷ ps) =
-      either_lines (is_over (length p) (used + length p + 1)) (decided too_long) _ tt
-      (form_lines count p (line_of p) _ refl (judge_lines (count + 1) (used + length p + 1) (q ∷ ps)))
+  judge_lines : (count : ℕ) (texts : List (List ℕ)) (end : End) → AreLines (judge count texts end)
+  judge_lines count [] end = tt
+  judge_lines count (text ∷ texts) end = form_lines count text (line_of text) _ refl (judge_lines (count + 1) texts end)
 
   pub history_lawful : (bytes : List ℕ) → IsHistory (history bytes)
-  history_lawful bytes = schedule_lawful [] (judged bytes).lines (judge_lines 0 0 (pieces bytes)) tt
+  history_lawful bytes = schedule_lawful fresh (judged bytes).lines (judge_lines 0 (lined bytes).texts (lined bytes).end) tt
+
+  front_lines : (ls ks : List Line) → AllByRecursion IsLine (ls ++ ks) → AllByRecursion IsLine ls
+  front_lines [] ks are = tt
+  front_lines (l ∷ ls) ks are = (are.0, front_lines ls ks are.1)
+
+  pub front_lawful : (bytes : List ℕ) (lines later : List Line) → (judged bytes).lines ≡ lines ++ later → IsHistory (with_schedule fresh lines).history
+  front_lawful bytes lines later parts =
+      let are : AllByRecursion IsLine (lines ++ later) = subst (λ (z : List Line). AllByRecursion IsLine z) parts (judge_lines 0 (lined bytes).texts (lined bytes).end) in
+      schedule_lawful fresh lines (front_lines lines later are) tt

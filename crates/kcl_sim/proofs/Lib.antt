@@ -1,3 +1,3 @@
+pub mod Judging
 pub mod LawfulLines
-pub mod Pieces
 pub mod Reversed

@@ -1,18 +1,74 @@
-//! A line of output.
-ghost use Rattle.std.specs.Prelude.{◌≡◌, ◌++◌, OnOk};
+//! Lines of output. Each is made in a room that is used again, and added whole.
+ghost use Rattle.std.specs.Prelude.{◌≡◌, [], ◌∷◌, ◌++◌, true, IsUtf8, OnOk, OnErr};
+ghost use Rattle.kds_defs.specs.Kinds.{is_lease_answer};
+ghost use Rattle.kds_reply.specs.Replies.{fault_reply};
+ghost use Rattle.kcl_script.specs.Answers.{answer_text};
 ghost use Rattle.kcl_sim.specs.Output.{printed};
 
+use kcl_script::print_answer;
 use kds_base::{Memory, Octets, write_u64};
+use kds_defs::Answer;
+use kds_json::Fault;
+use kds_reply::fault;
 use std::alloc::Global;
 
 /// Adds a status and a body as a line. After `Memory` a front of it may have been added.
-pub fn print(alloc: Global, status: u16, body: &[u8], to: &mut Octets) -> Result<(), Memory>
-    ensures { OnOk result (to.new ≡ to.old ++ printed (status, body.now)) }
+fn fill(alloc: Global, status: u16, body: &[u8], line: &mut Octets) -> Result<(), Memory>
+    ensures { OnOk result (line.new ≡ line.old ++ printed (status, body.now)) }
 {
-    write_u64(alloc, status as u64, to)?;
+    write_u64(alloc, status as u64, line)?;
     if !body.is_empty() {
-        to.extend(b" ".as_slice())?;
-        to.extend(body)?;
+        line.extend(b" ".as_slice())?;
+        line.extend(body)?;
     }
-    to.extend(b"\n".as_slice())
+    line.extend(b"\n".as_slice())
+}
+
+/// Adds a status and a body as a line. After `Memory` nothing was added.
+pub fn print(
+    alloc: Global,
+    status: u16,
+    body: &[u8],
+    line: &mut Octets,
+    to: &mut Octets,
+) -> Result<(), Memory>
+    ensures ok { OnOk result (to.new ≡ to.old ++ printed (status, body.now)) }
+    ensures err { OnErr result (to.new ≡ to.old) }
+{
+    line.clear();
+    fill(alloc, status, body, line)?;
+    to.extend(line.as_slice())
+}
+
+/// Adds the line of output of a request with a fault, which is no turn. After `Memory` nothing was added.
+pub fn print_fault(
+    alloc: Global,
+    problem: &Fault,
+    line: &mut Octets,
+    to: &mut Octets,
+) -> Result<(), Memory>
+    requires { IsUtf8 problem.now.member }
+    ensures ok { OnOk result (to.new ≡ to.old ++ printed (fault_reply problem.now)) }
+    ensures err { OnErr result (to.new ≡ to.old) }
+{
+    let (status, body) = fault(alloc, problem)?;
+    print(alloc, status, body.as_slice(), line, to)
+}
+
+/// Adds the text of an answer to a command for leases as a line. After `Memory` nothing was added.
+pub fn print_raw(
+    alloc: Global,
+    answer: &Answer,
+    long: bool,
+    line: &mut Octets,
+    to: &mut Octets,
+) -> Result<(), Memory>
+    requires { is_lease_answer answer.now ≡ true }
+    ensures ok { OnOk result (to.new ≡ to.old ++ (answer_text long answer.now ++ 10 ∷ [])) }
+    ensures err { OnErr result (to.new ≡ to.old) }
+{
+    line.clear();
+    print_answer(alloc, answer, long, line)?;
+    line.extend(b"\n".as_slice())?;
+    to.extend(line.as_slice())
 }

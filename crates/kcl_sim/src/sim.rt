@@ -1,98 +1,99 @@
 //! A machine whose turns come from a schedule.
-ghost use Rattle.std.specs.Prelude.{◌≡◌, [], ◌∷◌, ◌++◌, ◌<◌, ◌^◌, List, reverse, max, true, false, IfOk, IsUtf8, OnOk, OnErr};
-ghost use Rattle.kds_defs.specs.declared.command.Turn.{Turn};
+ghost use Rattle.std.specs.Prelude.{◌≡◌, ◌⊎◌, [], ◌++◌, ◌<◌, ◌^◌, List, reverse, true, false, IfOk, OnOk, OnErr};
 ghost use Rattle.kds_defs.specs.Histories.{answer, clock as clock_of};
 ghost use Rattle.kds_defs.specs.Kinds.{is_lease_answer, is_service, is_service_answer};
 ghost use Rattle.kds_defs.specs.Lawful.{IsLawful};
-ghost use Rattle.kds_json.specs.Asked.{IsRequest};
-ghost use Rattle.kds_reply.specs.Replies.{reply_of, fault_reply};
-ghost use Rattle.kcl_script.specs.Line.{IsLine};
-ghost use Rattle.kcl_sim.specs.Output.{printed, turn_at, raw_output, with_line, output_of};
+ghost use Rattle.kds_defs.specs.Requests.{request_turn};
+ghost use Rattle.kds_json.specs.Asked.{IsRequest, asked};
+ghost use Rattle.kds_reply.specs.Replies.{reply_of};
+ghost use Rattle.kcl_script.specs.Line.{IsLine, seen};
+ghost use Rattle.kcl_sim.specs.Output.{printed, fresh, with_turn, raw_output, with_request, request_output, with_line, output_of};
 
-use crate::print::print;
-use kcl_script::{Line, print_answer};
-use kds_base::{Items, Memory, Moment, Octets};
+use crate::print::{print, print_fault, print_raw};
+use kcl_script::{Line, LineView, one_spelling, view_line};
+use kds_base::{Memory, Moment, Octets};
 use kds_defs::{Answer, Command, Machine, Turn};
-use kds_json::{Fault, ask};
-use kds_reply::{fault, reply};
+use kds_json::ask;
+use kds_lines::Taker;
+use kds_reply::reply;
 use std::alloc::Global;
+use std::marker::Model;
 
-/// The actor of a request.
-const API_ACTOR: u32 = 0;
-
-/// A machine, and the turns that it made so far, in the order in which they ran.
+/// A machine that stands for the turns that it made so far.
 #[derive(Drop)]
-pub struct Sim<M> {
-    pub machine: M,
-    pub turns: Items<Turn>,
-    pub clock: Moment,
-    ghost timed: { clock ≡ clock_of (reverse turns) },
+pub struct Sim<M: Machine> {
+    machine: M,
+    /// In the order in which they ran.
+    turns: Vec<Turn>,
+    clock: Moment,
+    /// Room for a line of output.
+    line: Octets,
 }
 
-/// The later of two moments.
-fn later(a: Moment, b: Moment) -> Moment
-    ensures { result ≡ max a b }
-{
-    if a < b { b } else { a }
+impl<M: Machine> Model for Sim<M> {
+    ghost use Rattle.std.specs.Prelude.{◌≡◌, reverse};
+    ghost use Rattle.kds_defs.specs.Histories.{clock as clock_of};
+    ghost use Rattle.kcl_sim.specs.Output.{Ran};
+
+    ghost Value = { Ran };
+
+    ghost view = { λ s. record { history = reverse s.turns.items } };
+
+    ghost invariant = { λ s. M.stands_for s.machine (reverse s.turns.items) × (s.clock ≡ clock_of (reverse s.turns.items)) };
 }
 
 impl<M: Machine> Sim<M> {
     /// No turn was made. Condition: the machine stands for the empty history.
     pub fn new(alloc: Global, machine: M) -> Sim<M>
         requires { M.stands_for machine [] }
-        ensures machine { result.machine ≡ machine }
-        ensures turns { result.turns ≡ [] }
+        ensures { result ≡ fresh }
     {
         Sim {
             machine,
-            turns: Items::new(alloc),
+            turns: Vec::new(alloc),
             clock: Moment::start(),
+            line: Octets::new(alloc),
         }
     }
 
     /// The turns that ran, in order.
     pub fn turns(&self) -> &[Turn]
-        ensures { result.now ≡ self.now.turns }
+        ensures { result.now ≡ reverse self.now.history }
     {
         self.turns.as_slice()
     }
 
     /// The greatest moment of a turn that ran, or 0.
     pub fn clock(&self) -> Moment
-        ensures { result ≡ clock_of (reverse self.now.turns) }
+        ensures { result ≡ clock_of self.now.history }
     {
         self.clock
     }
 
-    /// Applies a turn, and adds it to those that ran. After `Memory` they may lack it.
+    /// Applies a turn, and adds it to those that ran. After `Memory` neither was done.
     fn run(&mut self, alloc: Global, turn: Turn) -> Result<Answer, Memory>
         requires { IsLawful turn }
-        ensures answered { IfOk result (λ a. (h : List Turn) → M.stands_for self.old.machine h → a ≡ answer h turn) }
-        ensures after { OnOk result ((h : List Turn) → M.stands_for self.old.machine h
-            → M.stands_for self.new.machine (turn ∷ h)) }
-        ensures ran { OnOk result (self.new.turns ≡ self.old.turns ++ turn ∷ []) }
+        ensures answered { IfOk result (λ a. a ≡ answer self.old.history turn) }
+        ensures ran { OnOk result (self.new ≡ with_turn self.old turn) }
+        ensures err { OnErr result (self.new ≡ self.old) }
         ensures own { is_service turn.what ≡ true → IfOk result (λ a. is_service_answer a ≡ true) }
         ensures leased { is_service turn.what ≡ false → IfOk result (λ a. is_lease_answer a ≡ true) }
     {
         let kept = turn.copy(alloc)?;
+        self.turns.reserve(1)?;
+        let clock = self.clock.later(turn.at);
         let answer = self.machine.apply(turn)?;
-        self.keep(kept)?;
-        Ok(answer)
+        match self.turns.push(kept) {
+            Ok(()) => {
+                self.clock = clock;
+                Ok(answer)
+            }
+            Err(_) => unreachable!(),
+        }
     }
 
-    /// Adds a turn to those that ran. After `Memory` they are as before.
-    fn keep(&mut self, turn: Turn) -> Result<(), Memory>
-        ensures machine { self.new.machine ≡ self.old.machine }
-        ensures ok { OnOk result (self.new.turns ≡ self.old.turns ++ turn ∷ []) }
-        ensures err { OnErr result (self.new.turns ≡ self.old.turns) }
-    {
-        let clock = later(self.clock, turn.at);
-        self.turns.push(turn)?;
-        self.clock = clock;
-        Ok(())
-    }
-
-    /// The turn of a request, by actor 0, and its line of output. After `Memory` the turns may lack the last one.
+    /// The turn of a request, by the actor of requests, and its line of output. After `Memory` nothing was added to the
+    /// output, and the turn ran or not.
     fn request(
         &mut self,
         alloc: Global,
@@ -102,70 +103,114 @@ impl<M: Machine> Sim<M> {
     ) -> Result<(), Memory>
         requires early { at < 2 ^ 62 }
         requires lawful { IsRequest what }
-        ensures output { OnOk result ((h : List Turn) → M.stands_for self.old.machine h
-            → to.new ≡ to.old ++ printed (reply_of (answer h (turn_at at what)))) }
-        ensures after { OnOk result ((h : List Turn) → M.stands_for self.old.machine h
-            → M.stands_for self.new.machine (turn_at at what ∷ h)) }
-        ensures ran { OnOk result (self.new.turns ≡ self.old.turns ++ turn_at at what ∷ []) }
+        ensures output { OnOk result (to.new ≡ to.old ++ printed (reply_of (answer self.old.history (request_turn at what)))) }
+        ensures ran { OnOk result (self.new ≡ with_turn self.old (request_turn at what)) }
+        ensures breaks { OnErr result ((self.new ≡ self.old) ⊎ (self.new ≡ with_turn self.old (request_turn at what))) }
+        ensures same { OnErr result (to.new ≡ to.old) }
     {
-        let turn = Turn {
-            by: API_ACTOR,
-            at,
-            what,
-        };
-        let answer = self.run(alloc, turn)?;
+        let answer = self.run(alloc, Turn::request(at, what))?;
         let (status, body) = reply(alloc, &answer)?;
-        print(alloc, status, body.as_slice(), to)
+        print(alloc, status, body.as_slice(), &mut self.line, to)
     }
 
-    /// The turn of a raw line, and the text of its answer as a line of output. After `Memory` the turns may lack the
-    /// last one.
+    /// The turn of a raw line, and the text of its answer as a line of output. After `Memory` nothing was added to the
+    /// output, and the turn ran or not.
     fn raw(&mut self, alloc: Global, turn: Turn, long: bool, to: &mut Octets) -> Result<(), Memory>
         requires lawful { IsLawful turn }
         requires lease { is_service turn.what ≡ false }
-        ensures output { OnOk result ((h : List Turn) → M.stands_for self.old.machine h
-            → to.new ≡ to.old ++ raw_output h turn long) }
-        ensures after { OnOk result ((h : List Turn) → M.stands_for self.old.machine h
-            → M.stands_for self.new.machine (turn ∷ h)) }
-        ensures ran { OnOk result (self.new.turns ≡ self.old.turns ++ turn ∷ []) }
+        ensures output { OnOk result (to.new ≡ to.old ++ raw_output self.old turn long) }
+        ensures ran { OnOk result (self.new ≡ with_turn self.old turn) }
+        ensures breaks { OnErr result ((self.new ≡ self.old) ⊎ (self.new ≡ with_turn self.old turn)) }
+        ensures same { OnErr result (to.new ≡ to.old) }
     {
         let answer = self.run(alloc, turn)?;
-        print_answer(alloc, &answer, long, to)?;
-        to.extend(b"\n".as_slice())
+        print_raw(alloc, &answer, long, &mut self.line, to)
     }
 
-    /// Runs a line, and adds its output. Condition: it is the value of a line of a schedule. After `Memory`
-    /// the run is to end, and the turns may lack the last one.
+    /// A request as it comes from outside: its turn and its line of output, or the line of its fault, which is no turn.
+    fn api(
+        &mut self,
+        alloc: Global,
+        at: Moment,
+        operation: &[u8],
+        body: &[u8],
+        to: &mut Octets,
+    ) -> Result<(), Memory>
+        requires { at < 2 ^ 62 }
+        ensures output { OnOk result (to.new ≡ to.old ++ request_output self.old at (asked operation.now body.now)) }
+        ensures ran { OnOk result (self.new ≡ with_request self.old at (asked operation.now body.now)) }
+        ensures breaks { OnErr result ((self.new ≡ self.old) ⊎ (self.new ≡ with_request self.old at (asked operation.now body.now))) }
+        ensures same { OnErr result (to.new ≡ to.old) }
+    {
+        match ask(alloc, operation, body)? {
+            Ok(what) => self.request(alloc, at, what, to),
+            Err(problem) => print_fault(alloc, &problem, &mut self.line, to),
+        }
+    }
+
+    /// Runs a line as it stands in its text.
+    fn view(&mut self, alloc: Global, line: LineView<'_>, to: &mut Octets) -> Result<(), Memory>
+        requires { IsLine (seen line) }
+        ensures output { OnOk result (to.new ≡ to.old ++ output_of self.old (seen line.entry)) }
+        ensures ran { OnOk result (self.new ≡ with_line self.old (seen line.entry)) }
+        ensures breaks { OnErr result ((self.new ≡ self.old) ⊎ (self.new ≡ with_line self.old (seen line.entry))) }
+        ensures same { OnErr result (to.new ≡ to.old) }
+    {
+        match line {
+            LineView::Api {
+                at,
+                operation,
+                body,
+            } => self.api(alloc, at, operation, body, to),
+            LineView::Raw { at, by, what, long } => {
+                self.raw(alloc, Turn { by, at, what }, long, to)
+            }
+        }
+    }
+
+    /// Runs a line, and adds its output. Condition: it is the value of a line of a schedule. After `Memory` nothing was
+    /// added to the output, and the line's turn ran or not.
     pub fn line(&mut self, alloc: Global, line: Line, to: &mut Octets) -> Result<(), Memory>
         requires { IsLine line }
-        ensures output { OnOk result ((h : List Turn) → M.stands_for self.old.machine h
-            → to.new ≡ to.old ++ output_of h line) }
-        ensures after { OnOk result ((h : List Turn) → M.stands_for self.old.machine h
-            → M.stands_for self.new.machine (with_line h line)) }
-        ensures ran { OnOk result ((h : List Turn) → self.old.turns ≡ reverse h → self.new.turns ≡ reverse (with_line h line)) }
+        ensures output { OnOk result (to.new ≡ to.old ++ output_of self.old line) }
+        ensures ran { OnOk result (self.new ≡ with_line self.old line) }
+        ensures breaks { OnErr result ((self.new ≡ self.old) ⊎ (self.new ≡ with_line self.old line)) }
+        ensures same { OnErr result (to.new ≡ to.old) }
     {
         match line {
             Line::Api {
                 at,
                 operation,
                 body,
-            } => match ask(alloc, operation.as_slice(), body.as_slice())? {
-                Ok(what) => self.request(alloc, at, what, to),
-                Err(problem) => refused(alloc, &problem, to),
-            },
+            } => self.api(alloc, at, operation.as_slice(), body.as_slice(), to),
             Line::Raw { at, by, what, long } => {
-                let turn = Turn { by, at, what };
-                self.raw(alloc, turn, long, to)
+                self.view(alloc, LineView::Raw { at, by, what, long }, to)
             }
         }
     }
 }
 
-/// The line of output of a request with a fault, which is no turn.
-fn refused(alloc: Global, problem: &Fault, to: &mut Octets) -> Result<(), Memory>
-    requires { IsUtf8 problem.now.member }
-    ensures { OnOk result (to.new ≡ to.old ++ printed (fault_reply problem.now)) }
-{
-    let (status, body) = fault(alloc, problem)?;
-    print(alloc, status, body.as_slice(), to)
+/// A run takes the lines of a schedule, and stops at a text that is none.
+impl<M: Machine> Taker for Sim<M> {
+    ghost use Rattle.std.specs.Prelude.{refl};
+    ghost use Rattle.kcl_sim.specs.Taking.{Took, IsNoLine, texts_output};
+
+    ghost took = { λ s texts. Took s texts };
+
+    ghost refuses = { IsNoLine };
+
+    ghost output = { texts_output };
+
+    ghost nothing = { refl };
+
+    fn take(&mut self, alloc: Global, text: &[u8], to: &mut Octets) -> Result<bool, Memory> {
+        one_spelling();
+        match view_line(text) {
+            Some(line) => match self.view(alloc, line, to) {
+                Ok(()) => Ok(true),
+                Err(memory) => Err(memory),
+            },
+            None => Ok(false),
+        }
+    }
 }

@@ -1,0 +1,74 @@
+-- The lines of a schedule, one after another.
+use Rattle.std.proofs.Common.{◌≡◌, ℕ, ◌+◌, List, [], ◌∷◌, ◌++◌, length, Option, Some, None, refl, sym, ap, subst, ◌∙◌, arith, ◌⊎◌, inl, inr}
+use Rattle.std.proofs.lemmas.List.{append_assoc, append-nil}
+use Rattle.kds_lines.specs.Lines as input
+use Rattle.kds_lines.specs.Lines.{End}
+use Rattle.kds_lines.specs.Taking.{Goes, Breaks}
+use Rattle.kcl_script.specs.declared.line.Line.{Line}
+use Rattle.kcl_script.specs.Line.{line_of}
+use Rattle.kcl_sim.specs.Output.{Ran, fresh, with_line, output_of, with_schedule, outputs}
+use Rattle.kcl_sim.specs.Schedule.{whole, judge_form, judge, preceded_by}
+use Rattle.kcl_sim.specs.Taking.{judged_texts, Took, texts_output}
+
+pub outputs-append : (ran : Ran) (ls ks : List Line) → outputs ran (ls ++ ks) ≡ outputs ran ls ++ outputs (with_schedule ran ls) ks
+outputs-append ran [] ks = refl
+outputs-append ran (l ∷ ls) ks =
+    ap (λ z. output_of ran l ++ z) (outputs-append (with_line ran l) ls ks)
+    ∙ sym (append_assoc (output_of ran l) (outputs (with_line ran l) ls) _)
+
+pub with_schedule-append : (ran : Ran) (ls ks : List Line) → with_schedule ran (ls ++ ks) ≡ with_schedule (with_schedule ran ls) ks
+with_schedule-append ran [] ks = refl
+with_schedule-append ran (l ∷ ls) ks = with_schedule-append (with_line ran l) ls ks
+
+-- lines that are all good go on to what follows
+judge_form_more : (count : ℕ) (texts more : List (List ℕ)) (o : Option Line) (end : End)
+    → ((judge (count + 1) texts input.whole).ending ≡ whole → judge (count + 1) (texts ++ more) end ≡ preceded_by (judge (count + 1) texts input.whole).lines (judge (count + 1 + length texts) more end))
+    → (judge_form count o (judge (count + 1) texts input.whole)).ending ≡ whole
+    → judge_form count o (judge (count + 1) (texts ++ more) end) ≡ preceded_by (judge_form count o (judge (count + 1) texts input.whole)).lines (judge (count + 1 + length texts) more end)
+judge_form_more count texts more None end later are = absurd (cc)
+judge_form_more count texts more (Some l) end later are = ap (λ j. record { lines = l ∷ j.lines; ending = j.ending }) (later are)
+
+judge_from : (count : ℕ) (texts more : List (List ℕ)) (end : End) → (judge count texts input.whole).ending ≡ whole
+    → judge count (texts ++ more) end ≡ preceded_by (judge count texts input.whole).lines (judge (count + length texts) more end)
+judge_from count [] more end are = let none : count + 0 ≡ count = omega arith in rw none refl
+judge_from count (text ∷ texts) more end are =
+    let next : count + length (text ∷ texts) ≡ count + 1 + length texts = omega arith in
+    rw next (judge_form_more count texts more (line_of text) end (judge_from (count + 1) texts more end) are)
+
+pub judge_more : (texts more : List (List ℕ)) (end : End) → (judged_texts texts).ending ≡ whole
+    → judge 0 (texts ++ more) end ≡ preceded_by (judged_texts texts).lines (judge (length texts) more end)
+judge_more texts more end are = let none : 0 + length texts ≡ length texts = omega arith in rw none at (judge_from 0 texts more end are)
+
+-- one more line
+one_more : (texts : List (List ℕ)) (text : List ℕ) (l : Line) → (judged_texts texts).ending ≡ whole → line_of text ≡ Some l
+    → judged_texts (texts ++ text ∷ []) ≡ record { lines = (judged_texts texts).lines ++ l ∷ []; ending = whole }
+one_more texts text l are is = judge_more texts (text ∷ []) input.whole are ∙ ap (λ o. preceded_by (judged_texts texts).lines (judge_form (length texts) o (judge (length texts + 1) [] input.whole))) is
+
+pub took_nothing : (ran : Ran) → ran ≡ fresh → Took ran []
+took_nothing ran is = record { are_lines = refl; made = is }
+
+pub took_more : (old new : Ran) (texts : List (List ℕ)) (text : List ℕ) (l : Line) → Took old texts → line_of text ≡ Some l → new ≡ with_line old l → Took new (texts ++ text ∷ [])
+took_more old new texts text l t is made =
+    let j = one_more texts text l t.are_lines is in record {
+      are_lines = ap (λ z. z.ending) j;
+      made = made ∙ ap (λ r. with_line r l) t.made ∙ sym (with_schedule-append fresh (judged_texts texts).lines (l ∷ [])) ∙ ap (λ z. with_schedule fresh z.lines) (sym j);
+    }
+
+output_more : (old : Ran) (texts : List (List ℕ)) (text : List ℕ) (l : Line) → Took old texts → line_of text ≡ Some l → texts_output (texts ++ text ∷ []) ≡ texts_output texts ++ output_of old l
+output_more old texts text l t is =
+    ap (λ z. outputs fresh z.lines) (one_more texts text l t.are_lines is) ∙ outputs-append fresh (judged_texts texts).lines (l ∷ [])
+    ∙ ap (λ z. texts_output texts ++ z) (append-nil _) ∙ ap (λ r. texts_output texts ++ output_of r l) (sym t.made)
+
+pub takes : (old new : Ran) (text : List ℕ) (l : Line) (before after : List ℕ) → line_of text ≡ Some l → new ≡ with_line old l → after ≡ before ++ output_of old l
+    → (texts : List (List ℕ)) → Took old texts → Goes (λ z. Took new z) texts_output texts text before after
+takes old new text l before after is made wrote texts t = record {
+  taken = took_more old new texts text l t is made;
+  added = output_of old l;
+  grows = output_more old texts text l t is;
+  wrote = wrote;
+}
+
+pub breaks : (old new : Ran) (text : List ℕ) (l : Line) → line_of text ≡ Some l → (new ≡ old) ⊎ (new ≡ with_line old l)
+    → (texts : List (List ℕ)) → Took old texts → Breaks (λ z. Took new z) texts_output texts text
+breaks old new text l is (inl same) texts t = inl (subst (λ (r : Ran). Took r texts) (sym same) t)
+breaks old new text l is (inr made) texts t = inr (took_more old new texts text l t is made, (output_of old l, output_more old texts text l t is))
