@@ -1,13 +1,12 @@
 -- A text of 1 to 19 digits is a number below 2 ^ 64.
-use Rattle.std.proofs.Common.{sym, ap, ◌∙◌, Some, None, ◌≡◌, ℕ, ◌^◌, ◌<◌, ◌≤◌, List, length, true, false, Result, Ok, Err, arith, refl, rules}
+use Rattle.std.proofs.Common.{sym, Some, None, ◌≡◌, ℕ, ◌^◌, ◌<◌, ◌≤◌, List, length, Bool, true, false, arith, refl, rules}
 use Rattle.std.proofs.lemmas.Grind.{common_steps}
-use Rattle.std.proofs.lemmas.Str.Parse.{IsNumeralModel, numerals_by_value, parse_digits, digits_value_short}
-use Rattle.std.proofs.lemmas.Fmt.{IsAscii-from_digits}
+use Rattle.std.proofs.lemmas.Str.Parse.{IsNumeralModel, numerals_by_value, digits_value_short}
 use Rattle.std.specs.Char.{is_ascii_digit}
 use Rattle.std.specs.List.{list_all}
-use Rattle.std.specs.Result.{result_ok, OkIff}
-use Rattle.std.specs.Str.{IsAscii}
-use Rattle.std.specs.Str.Parse.{digits_value, ParsesUnsigned}
+use Rattle.std.specs.Str.Parse.{digits_value}
+use Rattle.std.specs.Prelude.{nat_lt}
+use Rattle.kds_base.specs.NumberText.{are_digits, digits_of}
 use Rattle.kds_head.specs.Values.{is_byte_count, byte_count}
 
 -- a text of digits, as a fact
@@ -30,16 +29,23 @@ is_some_count : (bs : List ℕ) → is_byte_count bs ≡ true → byte_count bs 
 unfolding byte_count
 is_some_count bs p = rw p refl
 
-parsed : {E : Type 0} (bs : List ℕ) (r : Result ℕ E) → is_byte_count bs ≡ true → OkIff r ((0 < length bs) × (digits_value 10 bs < 2 ^ 64)) (digits_value 10 bs) → result_ok r ≡ byte_count bs
-parsed bs (Ok x) p h = ap Some h.1 ∙ sym (is_some_count bs p)
-parsed bs (Err e) p h = absurd (h ((count_digits bs p).1, count_small bs p))
-
-pub count_from_parse : {E : Type 0} (bs : List ℕ) (r : Result ℕ E) → is_byte_count bs ≡ true → ParsesUnsigned 64 10 bs r → result_ok r ≡ byte_count bs
-count_from_parse bs r p h = parsed bs r p (parse_digits own 64 bs r h (count_digits bs p).0)
-
-pub count_ascii : (text : List ℕ) → is_byte_count text ≡ true → IsAscii text
-count_ascii text p = IsAscii-from_digits text (own.to text (count_digits text p).0)
-
-pub no_count : (text : List ℕ) → is_byte_count text ≡ false → byte_count text ≡ None
+no_count : (text : List ℕ) → is_byte_count text ≡ false → byte_count text ≡ None
 unfolding byte_count
 no_count text p = rw p refl
+
+read_is : (b : Bool) (text : List ℕ) → are_digits text ≡ b → length text ≤ 19 → digits_of 64 text ≡ byte_count text
+read_is true text e short =
+    let count : is_byte_count text ≡ true = grind (arith, common_steps) in
+    let small = count_small text count in
+    let fits : nat_lt (digits_value 10 text) (2 ^ 64) ≡ true = grind (arith, common_steps) in
+    rw (e, fits) (sym (is_some_count text count))
+read_is false text e short =
+    let none : is_byte_count text ≡ false = grind (arith, common_steps) in
+    rw e (sym (no_count text none))
+
+-- no more digits than always fit
+pub counted : (text : List ℕ) → length text ≤ 19 → digits_of 64 text ≡ byte_count text
+counted text short = read_is (are_digits text) text refl short
+
+pub too_long : (text : List ℕ) → 19 < length text → byte_count text ≡ None
+too_long text long = let none : is_byte_count text ≡ false = grind (arith, common_steps) in no_count text none

@@ -12,7 +12,7 @@ use Rattle.httparse.specs.Grammar.{NeverHasRequest, HasNoRequest, MayBecomeReque
 use Rattle.httparse.specs.Spans.{RequestExceeds, name_and_value}
 use Rattle.kds_head.specs.declared.found.Found.{Found}
 use Rattle.kds_head.specs.declared.found.Found.TheVariants.{Need, Refused, Whole}
-use Rattle.kds_base.specs.declared.limits.TheConstants.{HEAD_BYTES, BODY_BYTES}
+use Rattle.kds_head.specs.declared.numbers.TheConstants.{HEAD_BYTES, BODY_BYTES}
 use Rattle.kds_head.specs.Headers.{Headers}
 use Rattle.kds_head.specs.Response.{is_refusal}
 use Rattle.kds_head.specs.Table.{judged, judged_by, refused◌if◌else◌}

@@ -22,6 +22,10 @@ reason_phrase status =
 abbrev pub is_refusal : ℕ → Bool
 is_refusal status = status == 400 || status == 404 || status == 405 || status == 411 || status == 413 || status == 431 || status == 501
 
+-- the statuses of responses
+abbrev pub is_status : ℕ → Bool
+is_status status = status == 200 || is_refusal status
+
 -- an answer of the service in JSON, or a refusal without a body, after which the connection closes
 abbrev pub IsResponse : ℕ → List ℕ → Bool → Bool → Type 0
 IsResponse status body true close = (status ≡ 200) ⊎ (status ≡ 400)

@@ -1,13 +1,15 @@
 -- What a whole head leads to: the first case of the table that holds.
-use Rattle.std.specs.Prelude.{ℕ, List, Bool, ◌==◌, not, nat_lt, length, codes, map, if◌then◌else◌, is_none, unwrap_or}
+use Rattle.std.specs.Prelude.{ℕ, List, Bool, ◌==◌, not, nat_lt, length, codes, map, slice_range, if◌then◌else◌, is_none, unwrap_or}
 use Rattle.std.specs.Str.{bytes_eq}
 use Rattle.httparse.specs.Grammar.{RequestHead, print_request}
-use Rattle.httparse.specs.Spans.{name_and_value}
+use Rattle.httparse.specs.Spans.{header_bytes, name_and_value}
+use Rattle.httparse.specs.declared.spans.HeaderSpan.{HeaderSpan}
+use Rattle.httparse.specs.declared.spans.RequestSpans.{RequestSpans}
 use Rattle.kds_head.specs.Headers.{Headers, count_named}
 use Rattle.kds_head.specs.Values.{body_length, operation, says_json, closes}
 use Rattle.kds_head.specs.declared.found.Found.{Found}
 use Rattle.kds_head.specs.declared.found.Found.TheVariants.{Refused, Whole}
-use Rattle.kds_base.specs.declared.limits.TheConstants.{HEADERS, BODY_BYTES}
+use Rattle.kds_head.specs.declared.numbers.TheConstants.{HEADERS, BODY_BYTES}
 
 -- a case that refuses with a status where a test holds, and the cases after it
 infixr 1 refused◌if◌else◌
@@ -31,6 +33,12 @@ judged_by bytes method target minor headers =
       json = says_json headers;
       close = closes minor headers;
     })
+
+-- the same of a head in these bytes, whose parts and headers stand in these spans
+abbrev pub judged_in : List ℕ → List HeaderSpan → RequestSpans → Found
+judged_in front headers spans =
+    judged_by spans.len (slice_range front spans.method.start spans.method.end)
+    (slice_range front spans.path.start spans.path.end) spans.version (map (header_bytes front) headers)
 
 -- what a whole head of the grammar leads to
 abbrev pub judged : RequestHead → Found

@@ -5,7 +5,7 @@ use Rattle.std.specs.List.{list_all, starts_with}
 use Rattle.std.specs.Char.{is_ascii_digit}
 use Rattle.std.specs.Str.{bytes_eq}
 use Rattle.std.specs.Str.Parse.{digits_value}
-use Rattle.kds_base.specs.declared.limits.TheConstants.{LENGTH_DIGITS}
+use Rattle.kds_head.specs.declared.numbers.TheConstants.{LENGTH_DIGITS}
 use Rattle.kds_head.specs.Headers.{Headers, only_value, any_has}
 
 -- a number of bytes: 1 to 19 digits (RFC 9110, section 8.6)

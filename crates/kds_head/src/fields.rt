@@ -27,7 +27,8 @@ fn same_word(word: &[u8], other: &[u8]) -> bool
 fn has_name(front: &[u8], header: &HeaderSpan, name: &[u8]) -> bool
     ensures { result ≡ spec.has_name name.now (header_bytes front.now header.now) }
 {
-    same_word(covered(front, header.name), name)
+    let word = covered(front, header.name);
+    word.len() == name.len() && same_word(word, name)
 }
 
 fn has_name_and_value(front: &[u8], header: &HeaderSpan, name: &[u8], value: &[u8]) -> bool

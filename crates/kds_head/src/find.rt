@@ -1,15 +1,16 @@
 //! What stands at the front of the bytes of a connection.
-ghost use Rattle.std.specs.Prelude.{◌≡◌, ◌≤◌, ◌+◌, ◌*◌, length, take, IfOk};
+ghost use Rattle.std.specs.Prelude.{◌≡◌, length, take, None, IfOk, IfSome};
+ghost use Rattle.httparse.specs.Spans.{RequestExceeds};
 ghost use Rattle.kds_head.specs.Find.{IsFoundIn, IsFound, IsWithinLimits};
 ghost use Rattle.kds_head.specs.Find as spec;
 
 use crate::found::Found;
 use crate::judge::judge;
+use crate::numbers::{HEAD_BYTES, HEADERS};
 use crate::target::ends_in_target;
 use httparse::spans::{EMPTY_HEADER_SPAN, HeaderSpan, parse_request};
 use httparse::{Error, Status};
 use kds_base::Memory;
-use kds_base::limits::HEAD_BYTES;
 use std::alloc::Global;
 
 /// The bytes that a head may have.
@@ -35,39 +36,53 @@ fn undecided(front: &[u8]) -> Found
     }
 }
 
-/// What is found of the bytes that a head may have. The parser can't lack room for the headers,
-/// each of which has three bytes or more: a name, a colon and a line feed.
-fn find_in(alloc: Global, front: &[u8], spans: &mut [HeaderSpan]) -> Result<Found, Memory>
-    requires { length front.now ≤ 3 * length spans.old + 2 }
-    ensures { IfOk result (IsFoundIn front.now) }
+/// What is found of the bytes that a head may have, with room for so many headers. `None` where a head has more.
+fn find_in(alloc: Global, front: &[u8], spans: &mut [HeaderSpan]) -> Result<Option<Found>, Memory>
+    ensures found { IfOk result (λ o. IfSome o (IsFoundIn front.now)) }
+    ensures room { IfOk result (λ o. o ≡ None → RequestExceeds (length spans.old) front.now) }
 {
     match parse_request(front, spans) {
         Ok(Status::Complete(found)) => {
             let (headers, _) = spans.split_at(found.headers);
-            judge(alloc, front, headers, &found)
+            Ok(Some(judge(alloc, front, headers, &found)?))
         }
-        Ok(Status::Partial) => Ok(undecided(front)),
-        Err(Error::TooManyHeaders) => unreachable!(),
+        Ok(Status::Partial) => Ok(Some(undecided(front))),
+        Err(Error::TooManyHeaders) => Ok(None),
         Err(_) => {
             // Whether a target is UTF-8 is judged at its end, not before.
             if ends_in_target(front) {
-                Ok(undecided(front))
+                Ok(Some(undecided(front)))
             } else {
-                Ok(Found::Refused(400))
+                Ok(Some(Found::Refused(400)))
             }
         }
+    }
+}
+
+/// What is found of the bytes that a head may have, however many headers there are. Each of them has three bytes or
+/// more: a name, a colon and a line feed.
+fn find_long(alloc: Global, front: &[u8]) -> Result<Found, Memory>
+    ensures { IfOk result (IsFoundIn front.now) }
+{
+    let mut spans = vec![in alloc; EMPTY_HEADER_SPAN; front.len() / 3]?;
+    match find_in(alloc, front, spans.as_mut_slice())? {
+        Some(found) => Ok(found),
+        None => unreachable!(),
     }
 }
 
 /// What stands at the front of the bytes of a connection: a head that the service takes, the status
 /// with which it refuses, or too few bytes to say (RFC 9112, sections 2 to 6).
 ///
-/// `Memory` comes only where the spans of the headers or the operation's name find no memory.
+/// `Memory` comes only where the operation's name finds no memory, or the headers where they are more than `HEADERS`.
 pub fn head(alloc: Global, bytes: &[u8]) -> Result<Found, Memory>
     ensures found { IfOk result (IsFound bytes.now) }
     ensures limits { IfOk result (IsWithinLimits bytes.now) }
 {
     let front = front_of(bytes);
-    let mut spans = vec![in alloc; EMPTY_HEADER_SPAN; front.len() / 3]?;
-    find_in(alloc, front, spans.as_mut_slice())
+    let mut spans = [EMPTY_HEADER_SPAN; HEADERS + 1];
+    match find_in(alloc, front, spans.as_mut_slice())? {
+        Some(found) => Ok(found),
+        None => find_long(alloc, front),
+    }
 }

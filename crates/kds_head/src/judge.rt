@@ -2,13 +2,13 @@
 ghost use Rattle.std.specs.Prelude.{◌≡◌, length, map, slice_range, IfOk, nat_lt, codes};
 ghost use Rattle.std.specs.Str.{bytes_eq};
 ghost use Rattle.httparse.specs.Spans.{header_bytes};
-ghost use Rattle.kds_head.specs.Table.{judged_by};
+ghost use Rattle.kds_head.specs.Table.{judged_in};
 
 use crate::fields::covered;
 use crate::found::{Found, Head};
+use crate::numbers::{BODY_BYTES, HEADERS};
 use crate::values::{body_length, closes, encodings, lengths, operation, says_json};
 use httparse::spans::{HeaderSpan, RequestSpans, Span};
-use kds_base::limits::{BODY_BYTES, HEADERS};
 use kds_base::{Memory, Octets};
 use std::alloc::Global;
 
@@ -37,10 +37,7 @@ pub fn judge(
     headers: &[HeaderSpan],
     spans: &RequestSpans,
 ) -> Result<Found, Memory>
-    ensures { IfOk result (λ found. found ≡ judged_by spans.now.len
-        (slice_range front.now spans.now.method.start spans.now.method.end)
-        (slice_range front.now spans.now.path.start spans.now.path.end)
-        spans.now.version (map (header_bytes front.now) headers.now)) }
+    ensures { IfOk result (λ found. found ≡ judged_in front.now headers.now spans.now) }
 {
     if too_many(front, headers) {
         return Ok(Found::Refused(400));

@@ -7,6 +7,7 @@ mod find;
 mod found;
 mod judge;
 mod laws;
+mod numbers;
 mod target;
 #[cfg(test)]
 mod tests;
@@ -16,4 +17,5 @@ mod write;
 pub use find::head;
 pub use found::{Found, Head};
 pub use laws::{decided_stays, found_within_limits, no_bytes_need_more, one_finding};
+pub use numbers::{BODY_BYTES, HEAD_BYTES, HEADERS, LENGTH_DIGITS, limits};
 pub use write::response;

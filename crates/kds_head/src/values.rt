@@ -1,37 +1,22 @@
 //! What the values of the headers say: how long the body is, the operation, and its form.
 ghost use Rattle.std.specs.Prelude.{◌≡◌, map, codes};
-ghost use Rattle.std.specs.List.{list_all};
-ghost use Rattle.std.specs.Char.{is_ascii_digit};
 ghost use Rattle.httparse.specs.Spans.{header_bytes};
 ghost use Rattle.kds_head.specs.Headers as spec;
 ghost use Rattle.kds_head.specs.Values as value;
 
 use crate::fields::{any_has, count_named, only_value};
+use crate::numbers::LENGTH_DIGITS;
 use httparse::spans::HeaderSpan;
-use kds_base::limits::LENGTH_DIGITS;
-
-fn all_digits(text: &[u8]) -> bool
-    ensures { result ≡ list_all is_ascii_digit text.now }
-{
-    text.iter().all(|b| b.is_ascii_digit())
-}
-
-fn is_byte_count(text: &[u8]) -> bool
-    ensures { result ≡ value.is_byte_count text.now }
-{
-    !text.is_empty() && text.len() <= LENGTH_DIGITS && all_digits(text)
-}
+use kds_base::read_digits;
 
 /// The number that 1 to `LENGTH_DIGITS` digits write.
 fn byte_count(text: &[u8]) -> Option<u64>
     ensures { result ≡ value.byte_count text.now }
 {
-    if !is_byte_count(text) {
-        return None;
-    }
-    match str::from_utf8(text) {
-        Ok(digits) => digits.parse::<u64>().ok(),
-        Err(_) => None,
+    if text.len() > LENGTH_DIGITS {
+        None
+    } else {
+        read_digits(text)
     }
 }
 

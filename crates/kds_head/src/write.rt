@@ -1,91 +1,97 @@
 //! The text of responses (RFC 9112, section 4).
-ghost use Rattle.std.specs.Prelude.{◌≡◌, ◌++◌, codes, decimal, OnOk, OnErr, IfOk};
-ghost use Rattle.kds_head.specs.Response.{line, reason_phrase, content_type, connection, IsResponse, response_text};
+ghost use Rattle.std.specs.Prelude.{◌≡◌, ◌≤◌, ◌+◌, ◌++◌, codes, decimal, length, OnOk, OnErr, true};
+ghost use Rattle.std.specs.Vec.{vec_len, vec_capacity};
+ghost use Rattle.kds_head.specs.Response.{line, reason_phrase, content_type, connection, is_status, IsResponse, response_text};
 
-use kds_base::{Memory, Octets, write_u64};
+use itoa::Buffer;
+use kds_base::{Memory, Octets};
 use std::alloc::Global;
 
-fn reason(status: u16) -> &'static [u8]
-    ensures { result.now ≡ reason_phrase status }
+/// Room for all of a response but its body.
+const FRONT_BYTES: usize = 256;
+
+/// The first line of a response of this status.
+fn status_line(status: u16) -> &'static [u8]
+    requires { is_status status ≡ true }
+    ensures line { result.now ≡ line (codes "HTTP/1.1 " ++ decimal status ++ codes " " ++ reason_phrase status) }
+    ensures short { length result.now ≤ 50 }
 {
     match status {
-        200 => b"OK",
-        400 => b"Bad Request",
-        404 => b"Not Found",
-        405 => b"Method Not Allowed",
-        411 => b"Length Required",
-        413 => b"Content Too Large",
-        431 => b"Request Header Fields Too Large",
-        501 => b"Not Implemented",
-        _ => b"",
+        200 => b"HTTP/1.1 200 OK\r\n",
+        400 => b"HTTP/1.1 400 Bad Request\r\n",
+        404 => b"HTTP/1.1 404 Not Found\r\n",
+        405 => b"HTTP/1.1 405 Method Not Allowed\r\n",
+        411 => b"HTTP/1.1 411 Length Required\r\n",
+        413 => b"HTTP/1.1 413 Content Too Large\r\n",
+        431 => b"HTTP/1.1 431 Request Header Fields Too Large\r\n",
+        _ => b"HTTP/1.1 501 Not Implemented\r\n",
     }
 }
 
-fn put_status(alloc: Global, status: u16, to: &mut Octets) -> Result<(), Memory>
-    ensures { OnOk result (to.new ≡ to.old ++ line (codes "HTTP/1.1 " ++ decimal status ++ codes " " ++ reason_phrase status)) }
-{
-    to.extend(b"HTTP/1.1 ".as_slice())?;
-    write_u64(alloc, status as u64, to)?;
-    to.extend(b" ".as_slice())?;
-    to.extend(reason(status))?;
-    to.extend(b"\r\n".as_slice())?;
-    Ok(())
-}
-
-fn put_content_type(json: bool, to: &mut Octets) -> Result<(), Memory>
-    ensures { OnOk result (to.new ≡ to.old ++ content_type json) }
+/// The line of the media type, where the body is JSON.
+fn content_type_line(json: bool) -> &'static [u8]
+    ensures line { result.now ≡ content_type json }
+    ensures short { length result.now ≤ 50 }
 {
     if json {
-        to.extend(b"Content-Type: application/x-amz-json-1.1\r\n".as_slice())?;
+        b"Content-Type: application/x-amz-json-1.1\r\n"
+    } else {
+        b""
     }
-    Ok(())
 }
 
-fn put_content_length(alloc: Global, length: usize, to: &mut Octets) -> Result<(), Memory>
-    ensures { OnOk result (to.new ≡ to.old ++ line (codes "Content-Length: " ++ decimal length)) }
+/// The line that says that the connection closes.
+fn connection_line(close: bool) -> &'static [u8]
+    ensures line { result.now ≡ connection close }
+    ensures short { length result.now ≤ 50 }
 {
-    to.extend(b"Content-Length: ".as_slice())?;
-    write_u64(alloc, length as u64, to)?;
-    to.extend(b"\r\n".as_slice())?;
-    Ok(())
+    if close { b"Connection: close\r\n" } else { b"" }
 }
 
-fn put_connection(close: bool, to: &mut Octets) -> Result<(), Memory>
-    ensures { OnOk result (to.new ≡ to.old ++ connection close) }
+/// Adds bytes for which there is room.
+fn add(to: &mut Vec<u8>, bytes: &[u8])
+    requires { vec_len to.old + length bytes.now ≤ vec_capacity to.old }
+    ensures items { to.new.items ≡ to.old.items ++ bytes.now }
+    ensures len { vec_len to.new ≡ vec_len to.old + length bytes.now }
+    ensures capacity { vec_capacity to.old ≤ vec_capacity to.new }
 {
-    if close {
-        to.extend(b"Connection: close\r\n".as_slice())?;
+    match to.extend_from_slice(bytes) {
+        Ok(()) => {}
+        Err(_) => unreachable!(),
     }
-    Ok(())
 }
 
-/// The whole response, in memory of its own.
+/// Adds the text of a response to a vector. After `Memory` nothing was added.
 #[tactic(auto, unfolding(crate::specs::Response::response_text))]
-fn written(
-    alloc: Global,
+fn add_response(
     status: u16,
     body: &[u8],
     json: bool,
     close: bool,
-) -> Result<Octets, Memory>
-    ensures { IfOk result (λ o. o ≡ response_text status body.now json close) }
+    to: &mut Vec<u8>,
+) -> Result<(), Memory>
+    requires { IsResponse status body.now json close }
+    ensures ok { OnOk result (to.new.items ≡ to.old.items ++ response_text status body.now json close) }
+    ensures err { OnErr result (to.new.items ≡ to.old.items) }
 {
-    let mut text = Octets::new(alloc);
-    put_status(alloc, status, &mut text)?;
-    put_content_type(json, &mut text)?;
-    put_content_length(alloc, body.len(), &mut text)?;
-    put_connection(close, &mut text)?;
-    text.extend(b"\r\n".as_slice())?;
-    text.extend(body)?;
-    Ok(text)
+    let mut digits = Buffer::new();
+    to.reserve(FRONT_BYTES + body.len())?;
+    add(to, status_line(status));
+    add(to, content_type_line(json));
+    add(to, b"Content-Length: ".as_slice());
+    add(to, digits.format(body.len()).as_bytes());
+    add(to, b"\r\n".as_slice());
+    add(to, connection_line(close));
+    add(to, b"\r\n".as_slice());
+    add(to, body);
+    Ok(())
 }
 
-/// Adds a response: with `json` an answer of the service, of status 200 or 400, whose body is JSON;
-/// else a refusal of the connection, with no body, after which it closes (RFC 9112, section 9.6).
-///
-/// After `Memory` nothing was added.
+/// Adds a response: with `json` an answer of the service, of status 200 or 400, whose body is JSON; else a refusal of
+/// the connection, with no body, after which it closes (RFC 9112, section 9.6). The body is copied once. After `Memory`
+/// nothing was added.
 pub fn response(
-    alloc: Global,
+    _alloc: Global,
     status: u16,
     body: &[u8],
     json: bool,
@@ -96,6 +102,8 @@ pub fn response(
     ensures ok { OnOk result (to.new ≡ to.old ++ response_text status body.now json close) }
     ensures err { OnErr result (to.new ≡ to.old) }
 {
-    let text = written(alloc, status, body, json, close)?;
-    to.extend(text.as_slice())
+    let mut text = to.take()?;
+    let added = add_response(status, body, json, close, &mut text);
+    *to = Octets::unshared(text);
+    added
 }
