@@ -1,16 +1,18 @@
 -- Bytes fall into messages in one way at most, and more bytes change no message that was read.
-use Rattle.std.proofs.Common.{◌≡◌, ◌≢◌, ℕ, ◌+◌, ◌-◌, ◌<◌, ◌≤◌, List, [], ◌∷◌, ◌++◌, length, take, drop, sym, ap, ◌∙◌, subst, arith, refl, inl, inr, Bool, true, false}
+use Rattle.std.proofs.Common.{◌≡◌, ◌≢◌, ℕ, ◌+◌, ◌-◌, ◌<◌, ◌≤◌, Option, Some, None, List, [], ◌∷◌, ◌++◌, length, take, drop, sym, ap, ◌∙◌, subst, arith, refl, inl, inr, Bool, true, false}
 use Rattle.std.specs.Prelude.{MatchBool, ◌==◌, ◌||◌, nat_le}
 use Rattle.std.proofs.lemmas.Bool.Decides.{nat_tests}
 use Rattle.std.proofs.lemmas.List.{append_assoc, append-nil, length-append, take-append-le, drop-append-le, length-drop}
 use Rattle.kds_head.specs.declared.found.Head.{Head}
 use Rattle.kds_head.specs.declared.found.Found.{Found}
 use Rattle.kds_head.specs.declared.found.Found.TheVariants.{Need, Refused, Whole}
-use Rattle.kds_base.specs.declared.limits.TheConstants.{HEAD_BYTES, BODY_BYTES}
+use Rattle.kds_head.specs.declared.numbers.TheConstants.{HEAD_BYTES, BODY_BYTES}
 use Rattle.kds_head.specs.Find.{IsFound, IsWithinLimits}
-use Rattle.kds_base.specs.declared.limits.TheConstants.{REQUESTS}
+use Rattle.kds_session.specs.declared.limits.TheConstants.{REQUESTS}
 use Rattle.kds_session.specs.Messages.{Message, message_at, Begins, size, rest_of, Ending, boundary, inside, closed, refused, IsWhole, IsShort, IsUnfinished, Ends, Falls, closes}
+use Rattle.kds_session.specs.declared.limits.TheConstants.{UNREAD_BYTES}
 use Rattle.kds_session.specs.Standing.{GoesOn, going, end_in}
+use Rattle.kds_session.specs.Steps.{IsKept}
 
 -- what is decided of a head stays so
 abbrev pub HeadStays : Type 0
@@ -240,3 +242,12 @@ unfinished_short limits bytes (inl need) = let few = limits bytes Need need in o
 unfinished_short limits bytes (inr short) =
     let within = limits bytes (Whole short.0) short.1.found in
     few_bytes (length bytes) (size short.0) short.0.length short.0.body short.1.short refl within.head within.body
+
+-- ---- a head that is kept
+
+pub kept_more : HeadStays → (bytes more new : List ℕ) (kept : Option Head) → new ≡ bytes ++ more → IsKept bytes kept → IsKept new kept
+kept_more stays bytes more new None e k = tt
+kept_more stays bytes more new (Some h) e k = subst (λ (z : List ℕ). IsFound z (Whole h)) (sym e) (stays bytes more (Whole h) k (λ e. need_whole h (sym e)))
+
+pub fed_fits : (bytes more new : List ℕ) → new ≡ bytes ++ more → length more ≤ UNREAD_BYTES - length bytes → length bytes ≤ UNREAD_BYTES → length new ≤ UNREAD_BYTES
+fed_fits bytes more new e room few = let n : length new ≡ length bytes + length more = ap length e ∙ length-append bytes more in omega (arith, n, room, few)

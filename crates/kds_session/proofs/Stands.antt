@@ -1,5 +1,5 @@
 -- What a session stands for, one step later.
-use Rattle.std.proofs.Common.{◌≡◌, ◌≢◌, ℕ, ◌+◌, ◌-◌, ◌<◌, List, [], ◌∷◌, ◌++◌, length, drop, sym, ap, ◌∙◌, subst, arith, refl, Bool, true, false, Ok, Err, Result, Option, Some, None, drop-drop, inl, inr}
+use Rattle.std.proofs.Common.{◌≡◌, ◌≢◌, ℕ, ◌+◌, ◌-◌, ◌<◌, ◌≤◌, List, [], ◌∷◌, ◌++◌, length, drop, sym, ap, ◌∙◌, subst, arith, refl, Bool, true, false, Ok, Err, Result, Option, Some, None, drop-drop, inl, inr}
 use Rattle.std.specs.Prelude.{◌||◌, nat_le}
 use Rattle.std.proofs.lemmas.Bool.Decides.{nat_tests}
 use Rattle.std.proofs.lemmas.List.{append_assoc, append-nil, length-append}
@@ -13,7 +13,9 @@ use Rattle.kds_head.specs.declared.found.Found.TheVariants.{Refused as RefusedHe
 use Rattle.kds_head.specs.declared.found.Found.{Found}
 use Rattle.kds_head.specs.Find.{IsFound, IsWithinLimits}
 use Rattle.kds_head.specs.Response.{response_text}
-use Rattle.kds_base.specs.declared.limits.TheConstants.{REQUESTS}
+use Rattle.kds_head.specs.declared.numbers.TheConstants.{HEAD_BYTES, BODY_BYTES}
+use Rattle.kds_session.specs.declared.limits.TheConstants.{REQUESTS}
+use Rattle.kds_session.specs.declared.limits.TheConstants.{PIECE_BYTES, UNREAD_BYTES}
 use Rattle.kds_session.specs.declared.reading.Reading.{Reading}
 use Rattle.kds_session.specs.declared.state.Standing.{Standing}
 use Rattle.kds_session.specs.declared.state.Standing.TheVariants.{Live, Closed, Refused}
@@ -22,32 +24,32 @@ use Rattle.kds_session.specs.declared.state.Waiting.TheVariants.{Nothing, Answer
 use Rattle.kds_session.specs.Messages.{Message, message_at, closes, rest_of, IsWhole, Falls}
 use Rattle.kds_session.specs.Text.{Answers, asked_by, command_of, commands, answered, responses}
 use Rattle.kds_session.specs.States.{SessionState, waiting_for, is_last, standing_after}
-use Rattle.kds_session.specs.Standing.{Stage, going, over, stage_of, stage_text, Leads, GoesOn, IsAwaited, Awaits, StandsFor, IsQuiet, still, to_come}
-use Rattle.kds_session.specs.Next.{IsNext, IsNearer, IsFewer, IsShort, IsReadOut}
+use Rattle.kds_session.specs.Standing.{Stage, going, over, stage_of, stage_text, Leads, GoesOn, IsAwaited, Awaits, Traffic, fed_more, given_one, told_one, sent_more, StandsFor, IsQuiet, still, to_come}
+use Rattle.kds_session.specs.Next.{IsNext, IsNearer, IsFewer, IsShort, IsReadOut, HasRoom}
 use Rattle.kds_session.specs.Steps.{IsFree, read_state, with_reading}
 use Rattle.kds_session.proofs.Readings.{HeadLaws, HeadStays, begins_at, last_is, goes_fed, goes_past, goes_last, goes_refused, unfinished_short}
 use Rattle.kds_session.proofs.Responses.{commands-push, responses-push, adds}
 
 -- ---- a session that is live, and of which no command waits
 
-pub record Runs (s : SessionState) (fed : List ℕ) (given : List Command) (told : Answers) (sent : List ℕ) : Type 0 where
+pub record Runs (s : SessionState) (past : Traffic) : Type 0 where
   pub done : List Message
-  pub given_is : given ≡ commands done
-  pub told_all : length told ≡ length (commands done)
-  pub goes : GoesOn fed done s.left s.unread
-  pub written : sent ++ s.output ≡ responses 0 done told
+  pub given_is : past.given ≡ commands done
+  pub told_all : length past.told ≡ length (commands done)
+  pub goes : GoesOn past.fed done s.left s.unread
+  pub written : past.sent ++ s.output ≡ responses 0 done past.told
 
 stage_live : (s : Standing) (w : Waiting) → s ≡ Live → w ≡ Nothing → stage_of s w ≡ going
 stage_live s w e f = ap (λ a. stage_of a w) e ∙ ap (λ b. stage_of Live b) f
 
-runs_of : (s : SessionState) (fed : List ℕ) (given : List Command) (told : Answers) (sent : List ℕ) → StandsFor s fed given told sent → IsFree s → Runs s fed given told sent
-runs_of s fed given told sent st free =
+runs_of : (s : SessionState) (past : Traffic) → StandsFor s past → IsFree s → Runs s past
+runs_of s past st free =
     let stage = stage_live s.standing s.waiting free.live free.free in record {
       done = st.done;
       given_is = st.given_is;
-      told_all = subst (λ (w : Waiting). Awaits w st.done told) free.free st.awaited;
-      goes = subst (λ (z : Stage). Leads z fed st.done s.left s.unread) stage st.leads;
-      written = st.written ∙ ap (λ z. responses 0 st.done told ++ stage_text z) stage ∙ append-nil _;
+      told_all = subst (λ (w : Waiting). Awaits w st.done past.told) free.free st.awaited;
+      goes = subst (λ (z : Stage). Leads z past.fed st.done s.left s.unread) stage st.leads;
+      written = st.written ∙ ap (λ z. responses 0 st.done past.told ++ stage_text z) stage ∙ append-nil _;
     }
 
 -- ---- bytes are fed
@@ -56,33 +58,33 @@ leads_fed : (stage : Stage) (fed : List ℕ) (done : List Message) (left : ℕ) 
 leads_fed going fed done left unread bytes g = goes_fed fed done left unread bytes g
 leads_fed (over ending) fed done left unread bytes g = λ more. subst (λ (z : List ℕ). Falls 0 z done ending) (sym (append_assoc fed bytes more)) (g (bytes ++ more))
 
-pub feeds : (s : SessionState) (fed : List ℕ) (given : List Command) (told : Answers) (sent bytes : List ℕ) → StandsFor s fed given told sent
-    → (new : SessionState) → new ≡ record s { unread = s.unread ++ bytes } → StandsFor new (fed ++ bytes) given told sent
-feeds s fed given told sent bytes st new e = subst (λ (n : SessionState). StandsFor n (fed ++ bytes) given told sent) (sym e) (record {
+pub feeds : (s : SessionState) (past : Traffic) (bytes : List ℕ) → StandsFor s past
+    → (new : SessionState) → new ≡ record s { unread = s.unread ++ bytes } → StandsFor new (fed_more bytes past)
+feeds s past bytes st new e = subst (λ (n : SessionState). StandsFor n (fed_more bytes past)) (sym e) (record {
   done = st.done;
   given_is = st.given_is;
   awaited = st.awaited;
   live = st.live;
-  leads = leads_fed (stage_of s.standing s.waiting) fed st.done s.left s.unread bytes st.leads;
+  leads = leads_fed (stage_of s.standing s.waiting) past.fed st.done s.left s.unread bytes st.leads;
   written = st.written;
 })
 
 -- ---- the connection is refused
 
-pub refused_now : HeadStays → (s : SessionState) (status : ℕ) (fed : List ℕ) (given : List Command) (told : Answers) (sent : List ℕ) → StandsFor s fed given told sent → IsFree s
+pub refused_now : HeadStays → (s : SessionState) (status : ℕ) (past : Traffic) → StandsFor s past → IsFree s
     → IsFound s.unread (RefusedHead status) → (new : SessionState) → new ≡ record s { output = s.output ++ response_text status [] false true; standing = Refused status }
-    → StandsFor new fed given told sent × IsQuiet new
-refused_now stays s status fed given told sent st free found new e =
-    let f = runs_of s fed given told sent st free in
+    → StandsFor new past × IsQuiet new
+refused_now stays s status past st free found new e =
+    let f = runs_of s past st free in
     let text = response_text status [] false true in
-    subst (λ (n : SessionState). StandsFor n fed given told sent × IsQuiet n) (sym e) (
+    subst (λ (n : SessionState). StandsFor n past × IsQuiet n) (sym e) (
       record {
         done = f.done;
         given_is = f.given_is;
-        awaited = subst (λ (w : Waiting). Awaits w f.done told) (sym free.free) f.told_all;
+        awaited = subst (λ (w : Waiting). Awaits w f.done past.told) (sym free.free) f.told_all;
         live = λ waits. absurd (waits free.free);
-        leads = goes_refused stays fed f.done s.left s.unread status f.goes found;
-        written = sym (append_assoc sent s.output text) ∙ ap (λ z. z ++ text) f.written;
+        leads = goes_refused stays past.fed f.done s.left s.unread status f.goes found;
+        written = sym (append_assoc past.sent s.output text) ∙ ap (λ z. z ++ text) f.written;
       },
       (λ h. absurd (cc h), free.free),
     )
@@ -94,95 +96,95 @@ close_is : (close : Bool) (done left : ℕ) (head : Head) → done + left ≡ RE
 close_is close done left head e some c = ap (λ b. head.close || b) (last_is done left e some) ∙ sym c
 
 -- one more message, and what it adds
-record OneMore (s : SessionState) (fed : List ℕ) (given : List Command) (told : Answers) (sent : List ℕ) (head : Head) (close : Bool) : Type 0 where
-  pub was : Runs s fed given told sent
+record OneMore (s : SessionState) (past : Traffic) (head : Head) (close : Bool) : Type 0 where
+  pub was : Runs s past
   pub close_is : closes (length was.done + 1) head ≡ close
-  pub commands_are : given ++ command_of (asked_by (message_at s.unread head)) ≡ commands (was.done ++ message_at s.unread head ∷ [])
-  pub adds_are : (left : Answers) → responses 0 (was.done ++ message_at s.unread head ∷ []) (told ++ left) ≡ (sent ++ s.output) ++ adds (asked_by (message_at s.unread head)) close left
+  pub commands_are : past.given ++ command_of (asked_by (message_at s.unread head)) ≡ commands (was.done ++ message_at s.unread head ∷ [])
+  pub adds_are : (left : Answers) → responses 0 (was.done ++ message_at s.unread head ∷ []) (past.told ++ left) ≡ (past.sent ++ s.output) ++ adds (asked_by (message_at s.unread head)) close left
 
-one_more : (s : SessionState) (fed : List ℕ) (given : List Command) (told : Answers) (sent : List ℕ) (head : Head) (close : Bool) → StandsFor s fed given told sent → IsFree s
-    → close ≡ (head.close || nat_le s.left 1) → OneMore s fed given told sent head close
-one_more s fed given told sent head close st free c =
-    let f = runs_of s fed given told sent st free in
+one_more : (s : SessionState) (past : Traffic) (head : Head) (close : Bool) → StandsFor s past → IsFree s
+    → close ≡ (head.close || nat_le s.left 1) → OneMore s past head close
+one_more s past head close st free c =
+    let f = runs_of s past st free in
     let m = message_at s.unread head in
     let closing = close_is close (length f.done) s.left head f.goes.count f.goes.some_left c in record {
       was = f;
       close_is = closing;
       commands_are = ap (λ z. z ++ command_of (asked_by m)) f.given_is ∙ sym (commands-push f.done m);
       adds_are = λ left.
-          responses-push 0 f.done m told left f.told_all
-          ∙ ap (λ n. responses 0 f.done told ++ adds (asked_by m) (closes (n + 1) head) left) (let z : 0 + length f.done ≡ length f.done = omega arith in z)
-          ∙ ap (λ b. responses 0 f.done told ++ adds (asked_by m) b left) closing
+          responses-push 0 f.done m past.told left f.told_all
+          ∙ ap (λ n. responses 0 f.done past.told ++ adds (asked_by m) (closes (n + 1) head) left) (let z : 0 + length f.done ≡ length f.done = omega arith in z)
+          ∙ ap (λ b. responses 0 f.done past.told ++ adds (asked_by m) b left) closing
           ∙ ap (λ t. t ++ adds (asked_by m) close left) (sym f.written);
     }
 
 -- ---- a request that has a fault is answered
 
-fault_text_is : (s : SessionState) (fed : List ℕ) (given : List Command) (told : Answers) (sent : List ℕ) (head : Head) (close : Bool) (f : Fault) → (o : OneMore s fed given told sent head close)
-    → asked_by (message_at s.unread head) ≡ Err f → sent ++ (s.output ++ answered (fault_reply f) close) ≡ responses 0 (o.was.done ++ message_at s.unread head ∷ []) told
-fault_text_is s fed given told sent head close f o asks =
-    sym (append_assoc sent s.output (answered (fault_reply f) close))
-    ∙ ap (λ z. (sent ++ s.output) ++ z) (sym (append-nil (answered (fault_reply f) close)))
-    ∙ ap (λ r. (sent ++ s.output) ++ adds r close []) (sym asks)
+fault_text_is : (s : SessionState) (past : Traffic) (head : Head) (close : Bool) (f : Fault) → (o : OneMore s past head close)
+    → asked_by (message_at s.unread head) ≡ Err f → past.sent ++ (s.output ++ answered (fault_reply f) close) ≡ responses 0 (o.was.done ++ message_at s.unread head ∷ []) past.told
+fault_text_is s past head close f o asks =
+    sym (append_assoc past.sent s.output (answered (fault_reply f) close))
+    ∙ ap (λ z. (past.sent ++ s.output) ++ z) (sym (append-nil (answered (fault_reply f) close)))
+    ∙ ap (λ r. (past.sent ++ s.output) ++ adds r close []) (sym asks)
     ∙ sym (o.adds_are [])
-    ∙ ap (λ t. responses 0 (o.was.done ++ message_at s.unread head ∷ []) t) (append-nil told)
+    ∙ ap (λ t. responses 0 (o.was.done ++ message_at s.unread head ∷ []) t) (append-nil past.told)
 
-fault_commands : (s : SessionState) (fed : List ℕ) (given : List Command) (told : Answers) (sent : List ℕ) (head : Head) (close : Bool) (f : Fault) → (o : OneMore s fed given told sent head close)
-    → asked_by (message_at s.unread head) ≡ Err f → given ≡ commands (o.was.done ++ message_at s.unread head ∷ [])
-fault_commands s fed given told sent head close f o asks =
-    sym (append-nil given) ∙ ap (λ r. given ++ command_of r) (sym asks) ∙ o.commands_are
+fault_commands : (s : SessionState) (past : Traffic) (head : Head) (close : Bool) (f : Fault) → (o : OneMore s past head close)
+    → asked_by (message_at s.unread head) ≡ Err f → past.given ≡ commands (o.was.done ++ message_at s.unread head ∷ [])
+fault_commands s past head close f o asks =
+    sym (append-nil past.given) ∙ ap (λ r. past.given ++ command_of r) (sym asks) ∙ o.commands_are
 
 -- and the connection goes on
-pub fault_goes : HeadLaws → (s : SessionState) (fed : List ℕ) (given : List Command) (told : Answers) (sent : List ℕ) (head : Head) (close : Bool) (f : Fault) → StandsFor s fed given told sent → IsFree s
+pub fault_goes : HeadLaws → (s : SessionState) (past : Traffic) (head : Head) (close : Bool) (f : Fault) → StandsFor s past → IsFree s
     → close ≡ (head.close || nat_le s.left 1) → close ≡ false → IsWhole s.unread head → asked_by (message_at s.unread head) ≡ Err f
     → (new : SessionState) → new ≡ record s { unread = rest_of s.unread (message_at s.unread head); left = s.left - 1; output = s.output ++ answered (fault_reply f) close }
-    → StandsFor new fed given told sent
-fault_goes laws s fed given told sent head close f st free c goes_on whole asks new e =
-    let o = one_more s fed given told sent head close st free c in
+    → StandsFor new past
+fault_goes laws s past head close f st free c goes_on whole asks new e =
+    let o = one_more s past head close st free c in
     let m = message_at s.unread head in
     let done = o.was.done ++ m ∷ [] in
-    let given_is = fault_commands s fed given told sent head close f o asks in
-    let goes = goes_past laws fed o.was.done s.left s.unread m o.was.goes (begins_at s.unread head whole) (o.close_is ∙ goes_on) in
+    let given_is = fault_commands s past head close f o asks in
+    let goes = goes_past laws past.fed o.was.done s.left s.unread m o.was.goes (begins_at s.unread head whole) (o.close_is ∙ goes_on) in
     let stage = stage_live s.standing s.waiting free.live free.free in
-    subst (λ (n : SessionState). StandsFor n fed given told sent) (sym e) (record {
+    subst (λ (n : SessionState). StandsFor n past) (sym e) (record {
       done = done;
       given_is = given_is;
-      awaited = subst (λ (w : Waiting). Awaits w done told) (sym free.free) (o.was.told_all ∙ ap length (sym o.was.given_is) ∙ ap length given_is);
+      awaited = subst (λ (w : Waiting). Awaits w done past.told) (sym free.free) (o.was.told_all ∙ ap length (sym o.was.given_is) ∙ ap length given_is);
       live = λ waits. absurd (waits free.free);
-      leads = subst (λ (z : Stage). Leads z fed done (s.left - 1) (rest_of s.unread m)) (sym stage) goes;
-      written = fault_text_is s fed given told sent head close f o asks ∙ sym (append-nil _) ∙ ap (λ z. responses 0 done told ++ stage_text z) (sym stage);
+      leads = subst (λ (z : Stage). Leads z past.fed done (s.left - 1) (rest_of s.unread m)) (sym stage) goes;
+      written = fault_text_is s past head close f o asks ∙ sym (append-nil _) ∙ ap (λ z. responses 0 done past.told ++ stage_text z) (sym stage);
     })
 
 -- and the connection closes
-pub fault_closes : HeadLaws → (s : SessionState) (fed : List ℕ) (given : List Command) (told : Answers) (sent : List ℕ) (head : Head) (close : Bool) (f : Fault) → StandsFor s fed given told sent → IsFree s
+pub fault_closes : HeadLaws → (s : SessionState) (past : Traffic) (head : Head) (close : Bool) (f : Fault) → StandsFor s past → IsFree s
     → close ≡ (head.close || nat_le s.left 1) → close ≡ true → IsWhole s.unread head → asked_by (message_at s.unread head) ≡ Err f
     → (new : SessionState) → new ≡ record s { unread = rest_of s.unread (message_at s.unread head); left = s.left - 1; output = s.output ++ answered (fault_reply f) close; standing = Closed }
-    → StandsFor new fed given told sent × IsQuiet new
-fault_closes laws s fed given told sent head close f st free c ends_now whole asks new e =
-    let o = one_more s fed given told sent head close st free c in
+    → StandsFor new past × IsQuiet new
+fault_closes laws s past head close f st free c ends_now whole asks new e =
+    let o = one_more s past head close st free c in
     let m = message_at s.unread head in
     let done = o.was.done ++ m ∷ [] in
-    let given_is = fault_commands s fed given told sent head close f o asks in
-    subst (λ (n : SessionState). StandsFor n fed given told sent × IsQuiet n) (sym e) (
+    let given_is = fault_commands s past head close f o asks in
+    subst (λ (n : SessionState). StandsFor n past × IsQuiet n) (sym e) (
       record {
         done = done;
         given_is = given_is;
-        awaited = subst (λ (w : Waiting). Awaits w done told) (sym free.free) (o.was.told_all ∙ ap length (sym o.was.given_is) ∙ ap length given_is);
+        awaited = subst (λ (w : Waiting). Awaits w done past.told) (sym free.free) (o.was.told_all ∙ ap length (sym o.was.given_is) ∙ ap length given_is);
         live = λ waits. absurd (waits free.free);
-        leads = goes_last laws fed o.was.done s.left s.unread m o.was.goes (begins_at s.unread head whole) (o.close_is ∙ ends_now);
-        written = fault_text_is s fed given told sent head close f o asks ∙ sym (append-nil _);
+        leads = goes_last laws past.fed o.was.done s.left s.unread m o.was.goes (begins_at s.unread head whole) (o.close_is ∙ ends_now);
+        written = fault_text_is s past head close f o asks ∙ sym (append-nil _);
       },
       (λ h. absurd (cc h), free.free),
     )
 
 -- ---- a command is given
 
-command_parts : (s : SessionState) (fed : List ℕ) (given : List Command) (told : Answers) (sent : List ℕ) (head : Head) (close : Bool) (what : Command) → (o : OneMore s fed given told sent head close)
+command_parts : (s : SessionState) (past : Traffic) (head : Head) (close : Bool) (what : Command) → (o : OneMore s past head close)
     → asked_by (message_at s.unread head) ≡ Ok what
-    → (given ++ what ∷ [] ≡ commands (o.was.done ++ message_at s.unread head ∷ [])) × (sent ++ s.output ≡ responses 0 (o.was.done ++ message_at s.unread head ∷ []) told) × IsAwaited close (o.was.done ++ message_at s.unread head ∷ []) told
-command_parts s fed given told sent head close what o asks = (
-  ap (λ r. given ++ command_of r) (sym asks) ∙ o.commands_are,
-  sym (append-nil (sent ++ s.output)) ∙ ap (λ r. (sent ++ s.output) ++ adds r close []) (sym asks) ∙ sym (o.adds_are []) ∙ ap (λ t. responses 0 (o.was.done ++ message_at s.unread head ∷ []) t) (append-nil told),
+    → (past.given ++ what ∷ [] ≡ commands (o.was.done ++ message_at s.unread head ∷ [])) × (past.sent ++ s.output ≡ responses 0 (o.was.done ++ message_at s.unread head ∷ []) past.told) × IsAwaited close (o.was.done ++ message_at s.unread head ∷ []) past.told
+command_parts s past head close what o asks = (
+  ap (λ r. past.given ++ command_of r) (sym asks) ∙ o.commands_are,
+  sym (append-nil (past.sent ++ s.output)) ∙ ap (λ r. (past.sent ++ s.output) ++ adds r close []) (sym asks) ∙ sym (o.adds_are []) ∙ ap (λ t. responses 0 (o.was.done ++ message_at s.unread head ∷ []) t) (append-nil past.told),
   record { before = o.was.done; last = message_at s.unread head; what = what; done_is = refl; asks = asks; told_before = o.was.told_all; close_is = o.close_is },
 )
 
@@ -190,38 +192,38 @@ pub waits_for : (close : Bool) → waiting_for close ≢ Nothing
 waits_for true e = cc
 waits_for false e = cc
 
-pub command_given : HeadLaws → (s : SessionState) (fed : List ℕ) (given : List Command) (told : Answers) (sent : List ℕ) (head : Head) (close : Bool) (what : Command) → StandsFor s fed given told sent → IsFree s
+pub command_given : HeadLaws → (s : SessionState) (past : Traffic) (head : Head) (close : Bool) (what : Command) → StandsFor s past → IsFree s
     → close ≡ (head.close || nat_le s.left 1) → IsWhole s.unread head → asked_by (message_at s.unread head) ≡ Ok what
     → (new : SessionState) → new ≡ record s { unread = rest_of s.unread (message_at s.unread head); left = s.left - 1; waiting = waiting_for close }
-    → StandsFor new fed (given ++ what ∷ []) told sent × (new.waiting ≢ Nothing)
-command_given laws s fed given told sent head close what st free c whole asks new e =
-    let o = one_more s fed given told sent head close st free c in
-    let p = command_parts s fed given told sent head close what o asks in
-    subst (λ (n : SessionState). StandsFor n fed (given ++ what ∷ []) told sent × (n.waiting ≢ Nothing)) (sym e)
+    → StandsFor new (given_one what past) × (new.waiting ≢ Nothing)
+command_given laws s past head close what st free c whole asks new e =
+    let o = one_more s past head close st free c in
+    let p = command_parts s past head close what o asks in
+    subst (λ (n : SessionState). StandsFor n (given_one what past) × (n.waiting ≢ Nothing)) (sym e)
     (by_close close o p o.close_is, waits_for close)
   where
     m : Message
     m = message_at s.unread head
 
-    by_close : (b : Bool) (o : OneMore s fed given told sent head close)
-        → (p : (given ++ what ∷ [] ≡ commands (o.was.done ++ m ∷ [])) × (sent ++ s.output ≡ responses 0 (o.was.done ++ m ∷ []) told) × IsAwaited b (o.was.done ++ m ∷ []) told)
+    by_close : (b : Bool) (o : OneMore s past head close)
+        → (p : (past.given ++ what ∷ [] ≡ commands (o.was.done ++ m ∷ [])) × (past.sent ++ s.output ≡ responses 0 (o.was.done ++ m ∷ []) past.told) × IsAwaited b (o.was.done ++ m ∷ []) past.told)
         → closes (length o.was.done + 1) head ≡ b
-        → StandsFor (record s { unread = rest_of s.unread m; left = s.left - 1; waiting = waiting_for b }) fed (given ++ what ∷ []) told sent
+        → StandsFor (record s { unread = rest_of s.unread m; left = s.left - 1; waiting = waiting_for b }) (given_one what past)
     by_close true o p b = record {
       done = o.was.done ++ m ∷ [];
       given_is = p.0;
       awaited = p.2;
       live = λ waits. free.live;
-      leads = subst (λ (a : Standing). Leads (stage_of a LastAnswer) fed (o.was.done ++ m ∷ []) (s.left - 1) (rest_of s.unread m)) (sym free.live) (goes_last laws fed o.was.done s.left s.unread m o.was.goes (begins_at s.unread head whole) b);
-      written = p.1 ∙ sym (append-nil _) ∙ ap (λ a. responses 0 (o.was.done ++ m ∷ []) told ++ stage_text (stage_of a LastAnswer)) (sym free.live);
+      leads = subst (λ (a : Standing). Leads (stage_of a LastAnswer) past.fed (o.was.done ++ m ∷ []) (s.left - 1) (rest_of s.unread m)) (sym free.live) (goes_last laws past.fed o.was.done s.left s.unread m o.was.goes (begins_at s.unread head whole) b);
+      written = p.1 ∙ sym (append-nil _) ∙ ap (λ a. responses 0 (o.was.done ++ m ∷ []) past.told ++ stage_text (stage_of a LastAnswer)) (sym free.live);
     }
     by_close false o p b = record {
       done = o.was.done ++ m ∷ [];
       given_is = p.0;
       awaited = p.2;
       live = λ waits. free.live;
-      leads = subst (λ (a : Standing). Leads (stage_of a Answer) fed (o.was.done ++ m ∷ []) (s.left - 1) (rest_of s.unread m)) (sym free.live) (goes_past laws fed o.was.done s.left s.unread m o.was.goes (begins_at s.unread head whole) b);
-      written = p.1 ∙ sym (append-nil _) ∙ ap (λ a. responses 0 (o.was.done ++ m ∷ []) told ++ stage_text (stage_of a Answer)) (sym free.live);
+      leads = subst (λ (a : Standing). Leads (stage_of a Answer) past.fed (o.was.done ++ m ∷ []) (s.left - 1) (rest_of s.unread m)) (sym free.live) (goes_past laws past.fed o.was.done s.left s.unread m o.was.goes (begins_at s.unread head whole) b);
+      written = p.1 ∙ sym (append-nil _) ∙ ap (λ a. responses 0 (o.was.done ++ m ∷ []) past.told ++ stage_text (stage_of a Answer)) (sym free.live);
     }
 
 -- ---- a reading is begun, goes on and is taken over
@@ -256,12 +258,12 @@ pub refused_state : (bytes : List ℕ) (r p : Reading) (status : ℕ) → p ≡ 
 refused_state bytes r p status e = ap (λ (x : Reading). read_state bytes x) e
 
 -- what the session had written before counts as sent
-pub reading_begins : (s : SessionState) (fed : List ℕ) (given : List Command) (told : Answers) (sent : List ℕ) → StandsFor s fed given told sent → IsFree s
+pub reading_begins : (s : SessionState) (past : Traffic) → StandsFor s past → IsFree s
     → (start : Reading) → start ≡ record { read = 0; left = s.left; answers = []; standing = Live; waiting = Nothing }
-    → StandsFor (read_state s.unread start) fed given told (sent ++ s.output)
-reading_begins s fed given told sent st free start e =
-    let f = runs_of s fed given told sent st free in
-    subst (λ (r : Reading). StandsFor (read_state s.unread r) fed given told (sent ++ s.output)) (sym e) (record {
+    → StandsFor (read_state s.unread start) (sent_more s.output past)
+reading_begins s past st free start e =
+    let f = runs_of s past st free in
+    subst (λ (r : Reading). StandsFor (read_state s.unread r) (sent_more s.output past)) (sym e) (record {
       done = f.done;
       given_is = f.given_is;
       awaited = f.told_all;
@@ -270,32 +272,32 @@ reading_begins s fed given told sent st free start e =
       written = append-nil _ ∙ f.written ∙ sym (append-nil _);
     })
 
-stands_then : (s : SessionState) (r : Reading) (fed : List ℕ) (given : List Command) (told : Answers) (sent : List ℕ) → StandsFor (read_state s.unread r) fed given told (sent ++ s.output) → StandsFor (with_reading s r) fed given told sent
-stands_then s r fed given told sent st = record {
+stands_then : (s : SessionState) (r : Reading) (past : Traffic) → StandsFor (read_state s.unread r) (sent_more s.output past) → StandsFor (with_reading s r) past
+stands_then s r past st = record {
   done = st.done;
   given_is = st.given_is;
   awaited = st.awaited;
   live = st.live;
   leads = st.leads;
-  written = sym (append_assoc sent s.output r.answers) ∙ st.written;
+  written = sym (append_assoc past.sent s.output r.answers) ∙ st.written;
 }
 
-pub taken_over : (s : SessionState) (r : Reading) (o : Option Command) (fed : List ℕ) (given : List Command) (told : Answers) (sent : List ℕ) → IsNext o (read_state s.unread r) fed given told (sent ++ s.output)
-    → (new : SessionState) → new ≡ with_reading s r → IsNext o new fed given told sent
-taken_over s r None fed given told sent n new e = subst (λ (x : SessionState). IsNext None x fed given told sent) (sym e) (stands_then s r fed given told sent n.0, n.1)
-taken_over s r (Some what) fed given told sent n new e = subst (λ (x : SessionState). IsNext (Some what) x fed given told sent) (sym e) (stands_then s r fed (given ++ what ∷ []) told sent n.0, n.1)
+pub taken_over : (s : SessionState) (r : Reading) (o : Option Command) (past : Traffic) → IsNext o (read_state s.unread r) (sent_more s.output past)
+    → (new : SessionState) → new ≡ with_reading s r → IsNext o new past
+taken_over s r None past n new e = subst (λ (x : SessionState). IsNext None x past) (sym e) (stands_then s r past n.0, n.1)
+taken_over s r (Some what) past n new e = subst (λ (x : SessionState). IsNext (Some what) x past) (sym e) (stands_then s r (given_one what past) n.0, n.1)
 
 -- what the reading comes to, the session comes to
 pub next_by : (s v : SessionState) (bytes : List ℕ) (start r : Reading) (o : Option Command) → v ≡ s → bytes ≡ v.unread → start ≡ record { read = 0; left = v.left; answers = []; standing = Live; waiting = Nothing } → IsFree s
-    → ((fed : List ℕ) (given : List Command) (told : Answers) (sent : List ℕ) → StandsFor (read_state bytes start) fed given told sent → IsNext o (read_state bytes r) fed given told sent)
+    → ((past : Traffic) → StandsFor (read_state bytes start) past → IsNext o (read_state bytes r) past)
     → (new : SessionState) → new ≡ with_reading s r
-    → (fed : List ℕ) (given : List Command) (told : Answers) (sent : List ℕ) → StandsFor s fed given told sent → IsNext o new fed given told sent
-next_by s v bytes start r o ev eb es free go new e fed given told sent st =
+    → (past : Traffic) → StandsFor s past → IsNext o new past
+next_by s v bytes start r o ev eb es free go new e past st =
     let bytes_is : bytes ≡ s.unread = eb ∙ ap (λ (x : SessionState). x.unread) ev in
     let start_is = es ∙ ap (λ (x : SessionState). let y : Reading = record { read = 0; left = x.left; answers = []; standing = Live; waiting = Nothing } in y) ev in
-    let begun = subst (λ (b : List ℕ). StandsFor (read_state b start) fed given told (sent ++ s.output)) (sym bytes_is) (reading_begins s fed given told sent st free start start_is) in
-    let next = subst (λ (b : List ℕ). IsNext o (read_state b r) fed given told (sent ++ s.output)) bytes_is (go fed given told (sent ++ s.output) begun) in
-    taken_over s r o fed given told sent next new e
+    let begun = subst (λ (b : List ℕ). StandsFor (read_state b start) (sent_more s.output past)) (sym bytes_is) (reading_begins s past st free start start_is) in
+    let next = subst (λ (b : List ℕ). IsNext o (read_state b r) (sent_more s.output past)) bytes_is (go (sent_more s.output past) begun) in
+    taken_over s r o past next new e
 
 -- ---- an answer is told
 
@@ -314,31 +316,31 @@ awaited_text close done told a w =
       length-append told (a ∷ []) ∙ ap (λ k. k + 1) w.told_before ∙ sym (length-append (commands w.before) (w.what ∷ [])) ∙ sym (ap length all),
     )
 
-pub answer_told : (s : SessionState) (fed : List ℕ) (given : List Command) (told : Answers) (sent : List ℕ) (a : Result Reply Refusal) → StandsFor s fed given told sent → s.waiting ≢ Nothing
+pub answer_told : (s : SessionState) (past : Traffic) (a : Result Reply Refusal) → StandsFor s past → s.waiting ≢ Nothing
     → (new : SessionState) → new ≡ record s { output = s.output ++ answered (reply_of a) (is_last s.waiting); waiting = Nothing; standing = standing_after (is_last s.waiting) s.standing }
-    → StandsFor new fed given (told ++ a ∷ []) sent
-answer_told s fed given told sent a st waits new e = subst (λ (n : SessionState). StandsFor n fed given (told ++ a ∷ []) sent) (sym e) (by_waiting s.waiting s.standing waits (st.live waits) st.awaited st.leads st.written)
+    → StandsFor new (told_one a past)
+answer_told s past a st waits new e = subst (λ (n : SessionState). StandsFor n (told_one a past)) (sym e) (by_waiting s.waiting s.standing waits (st.live waits) st.awaited st.leads st.written)
   where
-    by_waiting : (w : Waiting) (d : Standing) → w ≢ Nothing → d ≡ Live → Awaits w st.done told → Leads (stage_of d w) fed st.done s.left s.unread → sent ++ s.output ≡ responses 0 st.done told ++ stage_text (stage_of d w)
-        → StandsFor (record s { output = s.output ++ answered (reply_of a) (is_last w); waiting = Nothing; standing = standing_after (is_last w) d }) fed given (told ++ a ∷ []) sent
+    by_waiting : (w : Waiting) (d : Standing) → w ≢ Nothing → d ≡ Live → Awaits w st.done past.told → Leads (stage_of d w) past.fed st.done s.left s.unread → past.sent ++ s.output ≡ responses 0 st.done past.told ++ stage_text (stage_of d w)
+        → StandsFor (record s { output = s.output ++ answered (reply_of a) (is_last w); waiting = Nothing; standing = standing_after (is_last w) d }) (told_one a past)
     by_waiting Nothing d n v w l t = absurd (n refl)
     by_waiting Answer Live n v w l t =
-        let p = awaited_text false st.done told a w in record {
+        let p = awaited_text false st.done past.told a w in record {
           done = st.done;
           given_is = st.given_is;
           awaited = p.1;
           live = λ waits. absurd (waits refl);
           leads = l;
-          written = sym (append_assoc sent s.output _) ∙ ap (λ z. z ++ answered (reply_of a) false) (t ∙ append-nil _) ∙ sym p.0 ∙ sym (append-nil _);
+          written = sym (append_assoc past.sent s.output _) ∙ ap (λ z. z ++ answered (reply_of a) false) (t ∙ append-nil _) ∙ sym p.0 ∙ sym (append-nil _);
         }
     by_waiting LastAnswer Live n v w l t =
-        let p = awaited_text true st.done told a w in record {
+        let p = awaited_text true st.done past.told a w in record {
           done = st.done;
           given_is = st.given_is;
           awaited = p.1;
           live = λ waits. absurd (waits refl);
           leads = l;
-          written = sym (append_assoc sent s.output _) ∙ ap (λ z. z ++ answered (reply_of a) true) (t ∙ append-nil _) ∙ sym p.0 ∙ sym (append-nil _);
+          written = sym (append_assoc past.sent s.output _) ∙ ap (λ z. z ++ answered (reply_of a) true) (t ∙ append-nil _) ∙ sym p.0 ∙ sym (append-nil _);
         }
     by_waiting Answer Closed n v w l t = absurd (cc v)
     by_waiting Answer (Refused status) n v w l t = absurd (cc v)
@@ -433,3 +435,10 @@ fewer_by o s v new bytes start r ev eb es free h e =
     let all : to_come (read_state bytes start) ≡ to_come s = ap (λ (x : Reading). to_come (read_state bytes x)) es ∙ ap (λ (x : SessionState). x.left + 1) ev ∙ sym (all_to_come s free) in
     let unread : drop start.read bytes ≡ s.unread = ap (λ (x : Reading). drop x.read bytes) es ∙ bytes_is in
     fewer_same o (read_state bytes start) (read_state bytes r) s new all (sym (ap to_come e)) unread (ap (λ b. drop r.read b) bytes_is ∙ sym (ap (λ (x : SessionState). x.unread) e)) h
+
+few_then_room : (n : ℕ) → n < HEAD_BYTES + BODY_BYTES → PIECE_BYTES ≤ UNREAD_BYTES - n
+few_then_room n h = omega (arith, h)
+
+pub read_out_room : (o : Option Command) (new : SessionState) → IsReadOut o new → HasRoom o new
+read_out_room (Some what) new r = tt
+read_out_room None new r = λ live. few_then_room (length new.unread) (r.1 live)

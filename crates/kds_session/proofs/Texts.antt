@@ -11,14 +11,11 @@ use Rattle.kds_session.specs.declared.state.Waiting.TheVariants.{Nothing, Answer
 use Rattle.kds_session.specs.Messages.{Message, Ending, closed, refused, Falls, IsUnfinished}
 use Rattle.kds_session.specs.Text.{Answers, commands, responses, end_text, IsHttp}
 use Rattle.kds_session.specs.States.{SessionState}
-use Rattle.kds_session.specs.Standing.{Stage, going, over, stage_of, stage_text, Leads, Awaits, StandsFor, IsQuiet, end_in, end_of}
+use Rattle.kds_session.specs.Standing.{Stage, going, over, stage_of, stage_text, Leads, Awaits, Traffic, fed_more, given_one, StandsFor, IsQuiet, end_in, end_of}
+use Rattle.kds_session.specs.Laws.{OneReading, IsFirstPart}
 use Rattle.kds_session.specs.Next.{IsNext}
 use Rattle.kds_session.proofs.Readings.{goes_ending}
 use Rattle.kds_session.proofs.Responses.{responses-front, responses-enough, commands-append}
-
--- the law that bytes have one reading
-abbrev pub OneReading : Type 0
-OneReading = (before : ℕ) (bytes : List ℕ) (ms ns : List Message) (ending other : Ending) → Falls before bytes ms ending → Falls before bytes ns other → (ms ≡ ns) × (ending ≡ other)
 
 -- ---- all that was fed, where the session is quiet
 
@@ -34,17 +31,17 @@ live_by Live w e = refl
 live_by Closed w e = absurd (cc e)
 live_by (Refused status) w e = absurd (cc e)
 
-pub quiet_text : (s : SessionState) (fed : List ℕ) (given : List Command) (told : Answers) (sent : List ℕ) → StandsFor s fed given told sent → IsQuiet s
-    → (http : IsHttp fed given told (sent ++ s.output)) × (http.ending ≡ end_of s)
-quiet_text s fed given told sent st quiet =
-    let e = ending_of (stage_of s.standing s.waiting) fed st.done s.left s.unread st.leads (λ g. quiet.0 (live_by s.standing s.waiting g)) in (
+pub quiet_text : (s : SessionState) (past : Traffic) → StandsFor s past → IsQuiet s
+    → (http : IsHttp past.fed past.given past.told (past.sent ++ s.output)) × (http.ending ≡ end_of s)
+quiet_text s past st quiet =
+    let e = ending_of (stage_of s.standing s.waiting) past.fed st.done s.left s.unread st.leads (λ g. quiet.0 (live_by s.standing s.waiting g)) in (
       record {
         messages = st.done;
         ending = end_of s;
         falls = e.1;
         commands_are = sym st.given_is;
-        one_each = subst (λ (w : Waiting). Awaits w st.done told) quiet.1 st.awaited ∙ ap length (sym st.given_is);
-        text_is = st.written ∙ ap (λ z. responses 0 st.done told ++ z) e.0;
+        one_each = subst (λ (w : Waiting). Awaits w st.done past.told) quiet.1 st.awaited ∙ ap length (sym st.given_is);
+        text_is = st.written ∙ ap (λ z. responses 0 st.done past.told ++ z) e.0;
       },
       refl,
     )
@@ -55,13 +52,13 @@ over_more : (stage : Stage) (fed : List ℕ) (done : List Message) (left : ℕ) 
 over_more going fed done left unread more ends g = absurd (ends refl)
 over_more (over ending) fed done left unread more ends g = λ rest. subst (λ (z : List ℕ). Falls 0 z done ending) (sym (append_assoc fed more rest)) (g (more ++ rest))
 
-pub nothing_more : (s : SessionState) (fed : List ℕ) (given : List Command) (told : Answers) (sent : List ℕ) → StandsFor s fed given told sent → s.standing ≢ Live → (more : List ℕ) → StandsFor s (fed ++ more) given told sent
-nothing_more s fed given told sent st ended more = record {
+pub nothing_more : (s : SessionState) (past : Traffic) → StandsFor s past → s.standing ≢ Live → (more : List ℕ) → StandsFor s (fed_more more past)
+nothing_more s past st ended more = record {
   done = st.done;
   given_is = st.given_is;
   awaited = st.awaited;
   live = st.live;
-  leads = over_more (stage_of s.standing s.waiting) fed st.done s.left s.unread more (λ g. ended (live_by s.standing s.waiting g)) st.leads;
+  leads = over_more (stage_of s.standing s.waiting) past.fed st.done s.left s.unread more (λ g. ended (live_by s.standing s.waiting g)) st.leads;
   written = st.written;
 }
 
@@ -74,10 +71,10 @@ done_first one going fed done left unread more all ending g f = let b = g.back m
 done_first one (over e) fed done left unread more all ending g f = let same = one 0 (fed ++ more) all done ending e f (g more) in ([], same.0 ∙ sym (append-nil done))
 
 -- the commands that were given are the first of all
-first_commands : OneReading → (s : SessionState) (fed : List ℕ) (given : List Command) (told : Answers) (sent : List ℕ) → StandsFor s fed given told sent
-    → (more : List ℕ) (all : List Message) (ending : Ending) → Falls 0 (fed ++ more) all ending → (coming : List Command) × (commands all ≡ given ++ coming)
-first_commands one s fed given told sent st more all ending f =
-    let d = done_first one (stage_of s.standing s.waiting) fed st.done s.left s.unread more all ending st.leads f in
+first_commands : OneReading → (s : SessionState) (past : Traffic) → StandsFor s past
+    → (more : List ℕ) (all : List Message) (ending : Ending) → Falls 0 (past.fed ++ more) all ending → (coming : List Command) × (commands all ≡ past.given ++ coming)
+first_commands one s past st more all ending f =
+    let d = done_first one (stage_of s.standing s.waiting) past.fed st.done s.left s.unread more all ending st.leads f in
     (commands d.0, ap commands d.1 ∙ commands-append st.done d.0 ∙ ap (λ z. z ++ commands d.0) (sym st.given_is))
 
 -- the responses so far are a front of all
@@ -112,12 +109,14 @@ first_text one (Refused s) Nothing fed done left unread more all ending told lat
 first_text one (Refused s) Answer fed done left unread more all ending told later live a g f = absurd (cc (live (λ e. cc e)))
 first_text one (Refused s) LastAnswer fed done left unread more all ending told later live a g f = absurd (cc (live (λ e. cc e)))
 
-pub first_parts : OneReading → (s : SessionState) (fed : List ℕ) (given : List Command) (told : Answers) (sent : List ℕ) → StandsFor s fed given told sent
-    → (more : List ℕ) (all : List Message) (ending : Ending) → Falls 0 (fed ++ more) all ending → (later : Answers)
-    → ((coming : List Command) × (commands all ≡ given ++ coming)) × ((rest : List ℕ) × (responses 0 all (told ++ later) ++ end_text ending ≡ (sent ++ s.output) ++ rest))
-first_parts one s fed given told sent st more all ending f later =
-    let t = first_text one s.standing s.waiting fed st.done s.left s.unread more all ending told later st.live st.awaited st.leads f in
-    (first_commands one s fed given told sent st more all ending f, (t.0, t.1 ∙ ap (λ z. z ++ t.0) (sym st.written)))
+pub first_parts : OneReading → (s : SessionState) (past : Traffic) → StandsFor s past
+    → (more : List ℕ) (all : List Message) (ending : Ending) → Falls 0 (past.fed ++ more) all ending → IsFirstPart all ending past.given past.told (past.sent ++ s.output)
+first_parts one s past st more all ending f = record {
+  first = first_commands one s past st more all ending f;
+  front = λ later.
+      let t = first_text one s.standing s.waiting past.fed st.done s.left s.unread more all ending past.told later st.live st.awaited st.leads f in
+      (t.0, t.1 ∙ ap (λ z. z ++ t.0) (sym st.written));
+}
 
 -- ---- the next command
 
@@ -125,13 +124,13 @@ get_seam : (xs : List Command) (y : Command) (ys : List Command) → slice_get (
 get_seam [] y ys = refl
 get_seam (x ∷ xs) y ys = get_seam xs y ys
 
-pub next_is : OneReading → (o : Option Command) (new : SessionState) (fed : List ℕ) (given : List Command) (told : Answers) (sent : List ℕ) → IsNext o new fed given told sent
-    → (ms : List Message) (ending : Ending) → Falls 0 fed ms ending → o ≡ slice_get (commands ms) (length given)
-next_is one None new fed given told sent n ms ending f =
-    let q = quiet_text new fed given told sent n.0 n.1 in
+pub next_is : OneReading → (o : Option Command) (new : SessionState) (past : Traffic) → IsNext o new past
+    → (ms : List Message) (ending : Ending) → Falls 0 past.fed ms ending → o ≡ slice_get (commands ms) (length past.given)
+next_is one None new past n ms ending f =
+    let q = quiet_text new past n.0 n.1 in
     let h = q.0 in
-    let same = one 0 fed ms h.messages ending h.ending f h.falls in
-    sym (ap (λ z. slice_get z (length given)) (ap commands same.0 ∙ h.commands_are) ∙ slice_get_past given (length given) (omega arith))
-next_is one (Some what) new fed given told sent n ms ending f =
-    let p = first_commands one new fed (given ++ what ∷ []) told sent n.0 [] ms ending (subst (λ (z : List ℕ). Falls 0 z ms ending) (sym (append-nil fed)) f) in
-    sym (ap (λ z. slice_get z (length given)) p.1 ∙ get_seam given what p.0)
+    let same = one 0 past.fed ms h.messages ending h.ending f h.falls in
+    sym (ap (λ z. slice_get z (length past.given)) (ap commands same.0 ∙ h.commands_are) ∙ slice_get_past past.given (length past.given) (omega arith))
+next_is one (Some what) new past n ms ending f =
+    let p = first_commands one new (given_one what past) n.0 [] ms ending (subst (λ (z : List ℕ). Falls 0 z ms ending) (sym (append-nil past.fed)) f) in
+    sym (ap (λ z. slice_get z (length past.given)) p.1 ∙ get_seam past.given what p.0)

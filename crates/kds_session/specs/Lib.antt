@@ -4,3 +4,4 @@ pub mod States
 pub mod Standing
 pub mod Next
 pub mod Steps
+pub mod Laws

@@ -4,7 +4,7 @@ use Rattle.std.specs.Prelude.{◌≡◌, ℕ, ◌+◌, ◌<◌, ◌≤◌, ◌�
 use Rattle.kds_head.specs.declared.found.Head.{Head}
 use Rattle.kds_head.specs.declared.found.Found.TheVariants.{Need, Refused, Whole}
 use Rattle.kds_head.specs.Find.{IsFound}
-use Rattle.kds_base.specs.declared.limits.TheConstants.{REQUESTS}
+use Rattle.kds_session.specs.declared.limits.TheConstants.{REQUESTS}
 
 -- a whole message
 pub record Message : Type 0 where

@@ -1,18 +1,28 @@
 -- What `next` gives, and what the session stands for then.
-use Rattle.std.specs.Prelude.{◌≡◌, ◌≢◌, ◌⊎◌, ◌<◌, ◌+◌, ℕ, List, ◌∷◌, [], ◌++◌, length, Option, Some, None}
+use Rattle.std.specs.Prelude.{◌≡◌, ◌≢◌, ◌⊎◌, ◌<◌, ◌≤◌, ◌+◌, ◌-◌, ℕ, List, length, slice_get, Option, Some, None}
 use Rattle.kds_defs.specs.declared.command.Command.{Command}
-use Rattle.kds_base.specs.declared.limits.TheConstants.{HEAD_BYTES, BODY_BYTES}
+use Rattle.kds_head.specs.declared.numbers.TheConstants.{HEAD_BYTES, BODY_BYTES}
+use Rattle.kds_session.specs.declared.limits.TheConstants.{PIECE_BYTES, UNREAD_BYTES}
 use Rattle.kds_session.specs.declared.state.Standing.TheVariants.{Live}
 use Rattle.kds_session.specs.declared.state.Waiting.{Waiting}
 use Rattle.kds_session.specs.declared.state.Waiting.TheVariants.{Nothing}
-use Rattle.kds_session.specs.Text.{Answers}
+use Rattle.kds_session.specs.Text.{commands}
 use Rattle.kds_session.specs.States.{SessionState}
-use Rattle.kds_session.specs.Standing.{StandsFor, IsQuiet, to_come}
+use Rattle.kds_session.specs.Messages.{Message, Ending, Falls}
+use Rattle.kds_session.specs.Standing.{Traffic, given_one, StandsFor, IsQuiet, to_come}
 
 -- the next command, or none where no whole request with a command is left
-abbrev pub IsNext : Option Command → SessionState → List ℕ → List Command → Answers → List ℕ → Type 0
-IsNext None new fed given told sent = StandsFor new fed given told sent × IsQuiet new
-IsNext (Some what) new fed given told sent = StandsFor new fed (given ++ what ∷ []) told sent × (new.waiting ≢ Nothing)
+abbrev pub IsNext : Option Command → SessionState → Traffic → Type 0
+IsNext None new past = StandsFor new past × IsQuiet new
+IsNext (Some what) new past = StandsFor new (given_one what past) × (new.waiting ≢ Nothing)
+
+-- whatever had passed through the session, this is the next command
+abbrev pub GivesNext : SessionState → SessionState → Option Command → Type 0
+GivesNext old new next = (past : Traffic) → StandsFor old past → IsNext next new past
+
+-- Of the commands of all bytes that were fed it is the one that follows those given, and none where there is none.
+abbrev pub FollowsThose : SessionState → Option Command → Type 0
+FollowsThose old next = (past : Traffic) → StandsFor old past → (ms : List Message) (ending : Ending) → Falls 0 past.fed ms ending → next ≡ slice_get (commands ms) (length past.given)
 
 -- a command waits exactly where one was given
 abbrev pub IsWaiting : Waiting → Option Command → Type 0
@@ -36,3 +46,12 @@ IsShort s = s.standing ≡ Live → length s.unread < HEAD_BYTES + BODY_BYTES
 abbrev pub IsReadOut : Option Command → SessionState → Type 0
 IsReadOut None new = IsQuiet new × IsShort new
 IsReadOut (Some what) new = Unit {0}
+
+-- how many bytes may be fed now
+abbrev pub room_of : SessionState → ℕ
+room_of s = UNREAD_BYTES - length s.unread
+
+-- where no command is given on a live session, a whole piece may be fed
+abbrev pub HasRoom : Option Command → SessionState → Type 0
+HasRoom None new = new.standing ≡ Live → PIECE_BYTES ≤ room_of new
+HasRoom (Some what) new = Unit {0}

@@ -1,7 +1,9 @@
 -- What a session stands for.
-use Rattle.std.specs.Prelude.{◌≡◌, ◌≢◌, ℕ, ◌+◌, ◌<◌, List, [], ◌∷◌, ◌++◌, length, Bool, true, false, Ok}
+use Rattle.std.specs.Prelude.{◌≡◌, ◌≢◌, ℕ, ◌+◌, ◌<◌, List, [], ◌∷◌, ◌++◌, length, Bool, true, false, Result, Ok}
 use Rattle.kds_defs.specs.declared.command.Command.{Command}
-use Rattle.kds_base.specs.declared.limits.TheConstants.{REQUESTS}
+use Rattle.kds_defs.specs.declared.reply.Refusal.{Refusal}
+use Rattle.kds_defs.specs.declared.reply.Reply.{Reply}
+use Rattle.kds_session.specs.declared.limits.TheConstants.{REQUESTS}
 use Rattle.kds_session.specs.declared.state.Standing.{Standing}
 use Rattle.kds_session.specs.declared.state.Standing.TheVariants.{Live, Closed, Refused}
 use Rattle.kds_session.specs.declared.state.Waiting.{Waiting}
@@ -58,15 +60,46 @@ abbrev pub stage_text : Stage → List ℕ
 stage_text going = []
 stage_text (over ending) = end_text ending
 
--- A session that was fed these bytes, gave these commands, was told these answers to them, and of whose output these
--- bytes were sent.
-pub record StandsFor (s : SessionState) (fed : List ℕ) (given : List Command) (told : Answers) (sent : List ℕ) : Type 0 where
+-- What passed through a session: the bytes that it was fed, the commands that it gave, the answers to them that it was
+-- told, and those bytes of its output that were sent.
+pub record Traffic : Type 0 where
+  pub fed : List ℕ
+  pub given : List Command
+  pub told : Answers
+  pub sent : List ℕ
+
+abbrev pub traffic : List ℕ → List Command → Answers → List ℕ → Traffic
+traffic fed given told sent = record { fed = fed; given = given; told = told; sent = sent }
+
+-- at first, nothing
+abbrev pub no_traffic : Traffic
+no_traffic = traffic [] [] [] []
+
+-- A session through which this has passed.
+pub record StandsFor (s : SessionState) (past : Traffic) : Type 0 where
   pub done : List Message
-  pub given_is : given ≡ commands done
-  pub awaited : Awaits s.waiting done told
+  pub given_is : past.given ≡ commands done
+  pub awaited : Awaits s.waiting done past.told
   pub live : s.waiting ≢ Nothing → s.standing ≡ Live
-  pub leads : Leads (stage_of s.standing s.waiting) fed done s.left s.unread
-  pub written : sent ++ s.output ≡ responses 0 done told ++ stage_text (stage_of s.standing s.waiting)
+  pub leads : Leads (stage_of s.standing s.waiting) past.fed done s.left s.unread
+  pub written : past.sent ++ s.output ≡ responses 0 done past.told ++ stage_text (stage_of s.standing s.waiting)
+
+-- more passed through it
+abbrev pub fed_more : List ℕ → Traffic → Traffic
+fed_more bytes past = record past { fed = past.fed ++ bytes }
+
+abbrev pub given_one : Command → Traffic → Traffic
+given_one what past = record past { given = past.given ++ what ∷ [] }
+
+abbrev pub told_one : Result Reply Refusal → Traffic → Traffic
+told_one answer past = record past { told = past.told ++ answer ∷ [] }
+
+abbrev pub sent_more : List ℕ → Traffic → Traffic
+sent_more bytes past = record past { sent = past.sent ++ bytes }
+
+-- Whatever had passed through the first, it and this change has passed through the second.
+abbrev pub Passes : SessionState → SessionState → (Traffic → Traffic) → Type 0
+Passes old new change = (past : Traffic) → StandsFor old past → StandsFor new (change past)
 
 -- no command waits, and no whole message stands in the unread bytes, or the session isn't live
 abbrev pub IsQuiet : SessionState → Type 0

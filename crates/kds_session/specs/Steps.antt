@@ -1,7 +1,7 @@
 -- The steps on the way to the next command.
-use Rattle.std.specs.Prelude.{◌≡◌, ◌≢◌, ℕ, ◌<◌, List, ◌∷◌, [], ◌++◌, drop, true}
-use Rattle.kds_defs.specs.declared.command.Command.{Command}
-use Rattle.kds_head.specs.declared.found.Found.TheVariants.{Refused as RefusedHead}
+use Rattle.std.specs.Prelude.{◌≡◌, ◌≢◌, ℕ, ◌<◌, List, ◌++◌, drop, true, Option, IfSome}
+use Rattle.kds_head.specs.declared.found.Head.{Head}
+use Rattle.kds_head.specs.declared.found.Found.TheVariants.{Refused as RefusedHead, Whole as WholeHead}
 use Rattle.kds_head.specs.Find.{IsFound}
 use Rattle.kds_head.specs.Response.{is_refusal}
 use Rattle.kds_json.specs.Asked.{IsRequest}
@@ -12,22 +12,27 @@ use Rattle.kds_session.specs.declared.reading.Step.{Step}
 use Rattle.kds_session.specs.declared.reading.Step.TheVariants as step
 use Rattle.kds_session.specs.declared.state.Standing.TheVariants.{Live}
 use Rattle.kds_session.specs.declared.state.Waiting.TheVariants.{Nothing}
-use Rattle.kds_session.specs.Messages.{IsUnfinished, IsWhole}
-use Rattle.kds_session.specs.Text.{Answers}
+use Rattle.kds_session.specs.Messages.{IsUnfinished, IsShort, IsWhole}
 use Rattle.kds_session.specs.States.{SessionState}
-use Rattle.kds_session.specs.Standing.{StandsFor, IsQuiet, to_come}
+use Rattle.kds_session.specs.Standing.{Traffic, given_one, StandsFor, IsQuiet, to_come}
 use Rattle.kds_session.specs.Next.{IsNearer}
 
 -- ---- what stands at the front of the unread bytes
 
+-- a head that was kept is that of the unread bytes
+abbrev pub IsKept : List ℕ → Option Head → Type 0
+IsKept bytes kept = IfSome kept (λ head. IsFound bytes (WholeHead head))
+
 abbrev pub IsFront : List ℕ → Front → Type 0
 IsFront bytes front.Unfinished = IsUnfinished bytes
+IsFront bytes (front.Begun head) = IsShort bytes head
 IsFront bytes (front.Refused status) = IsFound bytes (RefusedHead status)
 IsFront bytes (front.Whole head) = IsWhole bytes head
 
 -- a refusal has a status of the table
 abbrev pub IsKnown : Front → Type 0
 IsKnown front.Unfinished = Unit {0}
+IsKnown (front.Begun head) = Unit {0}
 IsKnown (front.Refused status) = is_refusal status ≡ true
 IsKnown (front.Whole head) = Unit {0}
 
@@ -47,10 +52,14 @@ pub record IsFree (s : SessionState) : Type 0 where
   pub free : s.waiting ≡ Nothing
 
 -- one step later
-abbrev pub IsAfter : Step → SessionState → List ℕ → List Command → Answers → List ℕ → Type 0
-IsAfter step.Stop new fed given told sent = StandsFor new fed given told sent × IsQuiet new
-IsAfter step.Answered new fed given told sent = StandsFor new fed given told sent
-IsAfter (step.Command what) new fed given told sent = StandsFor new fed (given ++ what ∷ []) told sent × (new.waiting ≢ Nothing)
+abbrev pub IsAfter : Step → SessionState → Traffic → Type 0
+IsAfter step.Stop new past = StandsFor new past × IsQuiet new
+IsAfter step.Answered new past = StandsFor new past
+IsAfter (step.Command what) new past = StandsFor new (given_one what past) × (new.waiting ≢ Nothing)
+
+-- whatever had passed through the session before the step
+abbrev pub Steps : SessionState → SessionState → Step → Type 0
+Steps old new step = (past : Traffic) → StandsFor old past → IsAfter step new past
 
 -- Something is known without the bytes that were fed: after an answered fault the session is free and fewer requests
 -- may still come, and a command may be asked and waits.

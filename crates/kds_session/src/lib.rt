@@ -4,12 +4,13 @@
 
 mod front;
 mod laws;
-mod queue;
+pub mod limits;
+mod output;
 mod reading;
 mod request;
 mod session;
 mod state;
 
-pub use laws::{first_part, nothing_follows, one_reading, whole_text};
+pub use laws::{first_part, nothing_follows, one_reading, session_limits, whole_text};
 pub use session::Session;
 pub use state::Standing;

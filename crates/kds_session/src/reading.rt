@@ -74,8 +74,8 @@ fn put_fault(alloc: Global, problem: &Fault, close: bool, to: &mut Octets) -> Re
 
 impl Reading {
     ghost use Rattle.std.specs.Prelude.{◌+◌, ◌-◌};
-    ghost use Rattle.kds_session.specs.Next.{IsNext, IsWaiting, IsFewer};
-    ghost use Rattle.kds_session.specs.Steps.{read_state, IsFree, IsAfter, IsPlainly};
+    ghost use Rattle.kds_session.specs.Next.{GivesNext, IsWaiting, IsFewer};
+    ghost use Rattle.kds_session.specs.Steps.{read_state, Steps, IsFree, IsKept, IsPlainly};
 
     /// Nothing was read, on a live connection on which so many requests may still come.
     pub fn new(alloc: Global, left: u32) -> Reading
@@ -128,8 +128,7 @@ impl Reading {
         requires room { self.old.read ≤ length bytes.now }
         requires whole { IsWhole (drop self.old.read bytes.now) head.now }
         requires free { IsFree (read_state bytes.now self.old) }
-        ensures after { IfOk result (λ step. (fed : List ℕ) (given : List Command) (told : Answers) (sent : List ℕ)
-            → StandsFor (read_state bytes.now self.old) fed given told sent → IsAfter step (read_state bytes.now self.new) fed given told sent) }
+        ensures after { IfOk result (Steps (read_state bytes.now self.old) (read_state bytes.now self.new)) }
         ensures plain { IfOk result (λ step. IsPlainly step (read_state bytes.now self.old) (read_state bytes.now self.new)) }
         ensures room { OnOk result (self.new.read ≤ length bytes.now) }
     {
@@ -157,18 +156,24 @@ impl Reading {
         }
     }
 
-    /// Takes what stands at the front of what is unread.
-    fn step(&mut self, alloc: Global, bytes: &[u8]) -> Result<Step, Memory>
+    /// Takes what stands at the front of what is unread, of which the head may have been kept. A head whose body isn't
+    /// whole yet is kept.
+    fn step(&mut self, alloc: Global, bytes: &[u8], kept: &mut Option<Head>) -> Result<Step, Memory>
         requires room { self.old.read ≤ length bytes.now }
         requires free { IsFree (read_state bytes.now self.old) }
-        ensures after { IfOk result (λ step. (fed : List ℕ) (given : List Command) (told : Answers) (sent : List ℕ)
-            → StandsFor (read_state bytes.now self.old) fed given told sent → IsAfter step (read_state bytes.now self.new) fed given told sent) }
+        requires kept { IsKept (drop self.old.read bytes.now) kept.old }
+        ensures after { IfOk result (Steps (read_state bytes.now self.old) (read_state bytes.now self.new)) }
         ensures plain { IfOk result (λ step. IsPlainly step (read_state bytes.now self.old) (read_state bytes.now self.new)) }
         ensures room { OnOk result (self.new.read ≤ length bytes.now) }
+        ensures kept { OnOk result (IsKept (drop self.new.read bytes.now) kept.new) }
     {
         decided_stays();
-        match front_of(alloc, after(bytes, self.read))? {
+        match front_of(alloc, after(bytes, self.read), kept.take())? {
             Front::Unfinished => Ok(Step::Stop),
+            Front::Begun(head) => {
+                *kept = Some(head);
+                Ok(Step::Stop)
+            }
             Front::Refused(status) => {
                 self.refuse(alloc, status)?;
                 Ok(Step::Stop)
@@ -177,20 +182,27 @@ impl Reading {
         }
     }
 
-    /// Reads on to the next command, over requests that have faults, until nothing more can be read.
-    pub fn to_command(&mut self, alloc: Global, bytes: &[u8]) -> Result<Option<Command>, Memory>
+    /// Reads on to the next command, over requests that have faults, until nothing more can be read. A head whose body
+    /// isn't whole yet is kept.
+    pub fn to_command(
+        &mut self,
+        alloc: Global,
+        bytes: &[u8],
+        kept: &mut Option<Head>,
+    ) -> Result<Option<Command>, Memory>
         requires room { self.old.read ≤ length bytes.now }
         requires free { IsFree (read_state bytes.now self.old) }
-        ensures given { IfOk result (λ o. (fed : List ℕ) (given : List Command) (told : Answers) (sent : List ℕ)
-            → StandsFor (read_state bytes.now self.old) fed given told sent → IsNext o (read_state bytes.now self.new) fed given told sent) }
+        requires kept { IsKept (drop self.old.read bytes.now) kept.old }
+        ensures given { IfOk result (GivesNext (read_state bytes.now self.old) (read_state bytes.now self.new)) }
         ensures waits { IfOk result (IsWaiting self.new.waiting) }
         ensures out { IfOk result (λ o. o ≡ None → IsQuiet (read_state bytes.now self.new)) }
         ensures fewer { IfOk result (λ o. IsFewer o (read_state bytes.now self.old) (read_state bytes.now self.new)) }
         ensures lawful { IfOk result (λ o. IfSome o IsRequest) }
         ensures room { OnOk result (self.new.read ≤ length bytes.now) }
+        ensures kept { OnOk result (IsKept (drop self.new.read bytes.now) kept.new) }
     {
         loop {
-            match self.step(alloc, bytes)? {
+            match self.step(alloc, bytes, kept)? {
                 Step::Stop => return Ok(None),
                 Step::Answered => {}
                 Step::Command(what) => return Ok(Some(what)),

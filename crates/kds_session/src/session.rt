@@ -8,13 +8,14 @@ ghost use Rattle.kds_reply.specs.Replies.{reply_of};
 ghost use Rattle.kds_session.specs.Text.{Answers, answered, commands};
 
 use crate::laws::one_reading;
-use crate::queue::Queue;
+use crate::limits::{REQUESTS, UNREAD_BYTES};
+use crate::output::Output;
 use crate::reading::Reading;
 use crate::state::{Standing, Waiting, is_last, standing_after};
-use kds_base::limits::REQUESTS;
-use kds_base::{Memory, Octets};
+use bytes::BytesMut;
+use kds_base::Memory;
 use kds_defs::{Answer, Command};
-use kds_head::{found_within_limits, response};
+use kds_head::{Head, decided_stays, found_within_limits};
 use kds_reply::reply;
 use std::alloc::Global;
 use std::marker::Model;
@@ -23,8 +24,11 @@ use std::marker::Model;
 /// one command after another, each of which waits for its answer before the next one is given.
 #[derive(Drop)]
 pub struct Session {
-    unread: Queue,
-    output: Queue,
+    alloc: Global,
+    unread: BytesMut,
+    /// The head of the unread bytes, where it was found and its body isn't whole yet.
+    head: Option<Head>,
+    output: Output,
     /// How many requests may still come.
     left: u32,
     standing: Standing,
@@ -33,36 +37,32 @@ pub struct Session {
 
 impl Model for Session {
     ghost use Rattle.kds_session.specs.States.{SessionState};
+    ghost use Rattle.std.specs.Prelude.{◌≤◌, length};
+    ghost use Rattle.kds_session.specs.Steps.{IsKept};
+    ghost use Rattle.kds_session.specs.declared.limits.TheConstants.{UNREAD_BYTES};
 
     ghost Value = { SessionState };
 
-    ghost view = { λ s. record { unread = s.unread; output = s.output; left = s.left; standing = s.standing; waiting = s.waiting } };
-}
+    ghost view = { λ s. record { unread = s.unread.items; output = s.output; left = s.left; standing = s.standing; waiting = s.waiting } };
 
-/// The response to a command with this answer.
-fn response_to(alloc: Global, answer: &Answer, close: bool) -> Result<Octets, Memory>
-    requires { is_service_answer answer.now ≡ true }
-    ensures { IfOk result (λ text. text ≡ answered (reply_of answer.now) close) }
-{
-    let (status, body) = reply(alloc, answer)?;
-    let mut text = Octets::new(alloc);
-    response(alloc, status, body.as_slice(), true, close, &mut text)?;
-    Ok(text)
+    ghost invariant = { λ s. IsKept s.unread.items s.head × (length s.unread.items ≤ UNREAD_BYTES) };
 }
 
 impl Session {
-    ghost use Rattle.kds_session.specs.Standing.{StandsFor, IsAtBoundary, to_come};
-    ghost use Rattle.kds_session.specs.Next.{IsNext, IsWaiting, IsFewer, IsReadOut};
-    ghost use Rattle.kds_session.specs.Steps.{with_reading};
+    ghost use Rattle.kds_session.specs.Standing.{StandsFor, Passes, no_traffic, fed_more, told_one, sent_more, IsAtBoundary, to_come};
+    ghost use Rattle.kds_session.specs.Next.{GivesNext, FollowsThose, IsWaiting, IsFewer, IsReadOut, room_of, HasRoom};
+    ghost use Rattle.kds_session.specs.Steps.{IsKept, with_reading};
 
     /// A live connection of which nothing was read.
     pub fn new(alloc: Global) -> Session
-        ensures stands { StandsFor result [] [] [] [] }
+        ensures stands { StandsFor result no_traffic }
         ensures free { result.waiting ≡ Waiting.Nothing }
     {
         Session {
-            unread: Queue::new(alloc),
-            output: Queue::new(alloc),
+            alloc,
+            unread: BytesMut::new(alloc),
+            head: None,
+            output: Output::new(alloc),
             left: REQUESTS,
             standing: Standing::Live,
             waiting: Waiting::Nothing,
@@ -89,10 +89,7 @@ impl Session {
         ensures { IsTrue result ↔ IsAtBoundary self.now }
     {
         match (self.standing, self.waiting) {
-            (Standing::Live, Waiting::Nothing | Waiting::Answer) => self
-                .unread
-                .as_slice()
-                .is_empty(),
+            (Standing::Live, Waiting::Nothing | Waiting::Answer) => self.unread.is_empty(),
             _ => true,
         }
     }
@@ -106,40 +103,59 @@ impl Session {
         }
     }
 
-    /// Adds bytes to those that are unread. Once the session isn't live they are ignored.
+    /// How many bytes may be fed now: at most `UNREAD_BYTES` are ever unread.
+    pub fn room(&self) -> usize
+        ensures value { result ≡ room_of self.now }
+        ensures bound { length self.now.unread ≤ UNREAD_BYTES }
+    {
+        UNREAD_BYTES - self.unread.len()
+    }
+
+    /// Adds bytes to those that are unread. Once the session isn't live they are ignored. Condition: there is room for
+    /// them.
     pub fn feed(&mut self, bytes: &[u8]) -> Result<(), Memory>
-        ensures stands { OnOk result ((fed : List ℕ) (given : List Command) (told : Answers) (sent : List ℕ)
-            → StandsFor self.old fed given told sent → StandsFor self.new (fed ++ bytes.now) given told sent) }
+        requires { length bytes.now ≤ room_of self.old }
+        ensures stands { OnOk result (Passes self.old self.new (fed_more bytes.now)) }
         ensures added { self.old.standing ≡ Standing.Live → OnOk result (self.new ≡ record self.old { unread = self.old.unread ++ bytes.now }) }
         ensures ignored { self.old.standing ≢ Standing.Live → (result ≡ Ok tt) × (self.new ≡ self.old) }
         ensures waits { self.new.waiting ≡ self.old.waiting }
         ensures err { OnErr result (self.new ≡ self.old) }
     {
+        decided_stays();
         if !self.is_live() {
             return Ok(());
         }
-        self.unread.extend(bytes)?;
+        self.unread.extend_from_slice(bytes)?;
         Ok(())
     }
 
     /// Takes the first bytes of the output away: they were sent. Condition: there are so many.
     pub fn sent(&mut self, count: usize)
         requires { count ≤ length self.old.output }
-        ensures stands { (fed : List ℕ) (given : List Command) (told : Answers) (sent : List ℕ)
-            → StandsFor self.old fed given told sent → StandsFor self.new fed given told (sent ++ take count self.old.output) }
+        ensures stands { Passes self.old self.new (sent_more (take count self.old.output)) }
         ensures after { self.new ≡ record self.old { output = drop count self.old.output } }
     {
         self.output.advance(count);
     }
 
-    /// Takes over what was read on. Only the first step can fail.
-    fn commit(&mut self, reading: &Reading) -> Result<(), Memory>
-        requires { reading.now.read ≤ length self.old.unread }
+    /// The head that was kept, which the session then finds anew.
+    fn take_head(&mut self) -> Option<Head>
+        ensures kept { IsKept self.old.unread result }
+        ensures same { self.new ≡ self.old }
+    {
+        self.head.take()
+    }
+
+    /// Takes over what was read on, and keeps the head of what is then unread. Only the first step can fail.
+    fn commit(&mut self, reading: &Reading, head: Option<Head>) -> Result<(), Memory>
+        requires room { reading.now.read ≤ length self.old.unread }
+        requires kept { IsKept (drop reading.now.read self.old.unread) head }
         ensures ok { OnOk result (self.new ≡ with_reading self.old reading.now) }
         ensures err { OnErr result (self.new ≡ self.old) }
     {
         self.output.extend(reading.answers.as_slice())?;
         self.unread.advance(reading.read);
+        self.head = head;
         self.left = reading.left;
         self.standing = reading.standing;
         self.waiting = reading.waiting;
@@ -149,21 +165,21 @@ impl Session {
     /// The command of the next whole request, which then waits for its answer. Condition: no command waits. A request
     /// that has a fault is answered at once, and the session goes on with the next one. `None` where no whole request
     /// with a command is there, or the session isn't live. After `Memory` the session is as before.
-    pub fn next(&mut self, alloc: Global) -> Result<Option<Command>, Memory>
+    pub fn next(&mut self) -> Result<Option<Command>, Memory>
         requires { self.old.waiting ≡ Waiting.Nothing }
 
         // What the session stands for then, with the command given where there is one.
-        ensures given { IfOk result (λ o. (fed : List ℕ) (given : List Command) (told : Answers) (sent : List ℕ)
-            → StandsFor self.old fed given told sent → IsNext o self.new fed given told sent) }
+        ensures given { IfOk result (GivesNext self.old self.new) }
 
         // Of the commands of all bytes that were fed it is the one that follows those given, and none where there is none.
-        ensures exact { IfOk result (λ o. (fed : List ℕ) (given : List Command) (told : Answers) (sent : List ℕ)
-            → StandsFor self.old fed given told sent → (ms : List Message) (ending : Ending) → Falls 0 fed ms ending
-            → o ≡ slice_get (commands ms) (length given)) }
+        ensures exact { IfOk result (FollowsThose self.old) }
         ensures waits { IfOk result (IsWaiting self.new.waiting) }
 
         // Where no command is given, no whole message is left, and what is left of one is bounded.
         ensures out { IfOk result (λ o. IsReadOut o self.new) }
+
+        // And there is room for a whole piece.
+        ensures room { IfOk result (λ o. HasRoom o self.new) }
 
         // Less is to come on the connection, or nothing was read.
         ensures fewer { IfOk result (λ o. IsFewer o self.old self.new) }
@@ -177,26 +193,26 @@ impl Session {
         if !self.is_live() {
             return Ok(None);
         }
-        let mut reading = Reading::new(alloc, self.left);
-        let what = reading.to_command(alloc, self.unread.as_slice())?;
-        self.commit(&reading)?;
+        let mut head = self.take_head();
+        let mut reading = Reading::new(self.alloc, self.left);
+        let what = reading.to_command(self.alloc, self.unread.as_slice(), &mut head)?;
+        self.commit(&reading, head)?;
         Ok(what)
     }
 
     /// Adds the response to the command that waits. Condition: a command waits, and the answer is one of the stream
     /// service. After `Memory` the session is as before.
-    pub fn absorb(&mut self, alloc: Global, answer: &Answer) -> Result<(), Memory>
+    pub fn absorb(&mut self, answer: &Answer) -> Result<(), Memory>
         requires waits { self.old.waiting ≢ Waiting.Nothing }
         requires own { is_service_answer answer.now ≡ true }
-        ensures stands { OnOk result ((fed : List ℕ) (given : List Command) (told : Answers) (sent : List ℕ)
-            → StandsFor self.old fed given told sent → StandsFor self.new fed given (told ++ answer.now ∷ []) sent) }
+        ensures stands { OnOk result (Passes self.old self.new (told_one answer.now)) }
         ensures free { OnOk result (self.new.waiting ≡ Waiting.Nothing) }
         ensures as_much { OnOk result (to_come self.new ≡ to_come self.old) }
         ensures err { OnErr result (self.new ≡ self.old) }
     {
         let close = is_last(self.waiting);
-        let text = response_to(alloc, answer, close)?;
-        self.output.extend(text.as_slice())?;
+        let (status, body) = reply(self.alloc, answer)?;
+        self.output.respond(status, body.as_slice(), close)?;
         self.standing = standing_after(close, self.standing);
         self.waiting = Waiting::Nothing;
         Ok(())

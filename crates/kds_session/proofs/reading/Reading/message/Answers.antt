@@ -14,27 +14,27 @@ use Rattle.kds_session.proofs.Stands.{command_given, fault_goes, fault_closes, c
 use Rattle.kds_session.proofs.reading.Reading.message.Goals as goal
 
 pub returns-in-Ok-clause-after : goal.returns-in-Ok-clause-after
-returns-in-Ok-clause-after c = λ fed given told sent st.
+returns-in-Ok-clause-after c = λ past st.
     let laws : HeadLaws = record { one = c.one_finding.ensures; stays = c.decided_stays.ensures; limits = c.found_within_limits.ensures; none = c.no_bytes_need_more.ensures } in
     let head = c.args.head.now in
     let asks = ap (λ b. requested head.operation head.json b) (ap (λ u. take head.body (drop head.length u)) (sym c.after.ensures) ∙ sym c.body_of.ensures) ∙ sym c.in_ok-what.ensures.value ∙ c.in-Ok.is in
-    command_given laws (read_state c.args.bytes.now c.args.self.now) fed given told sent head c.closes-close.result c.in-Ok.what st c.requires.free c.closes-close.ensures c.requires.whole asks _
+    command_given laws (read_state c.args.bytes.now c.args.self.now) past head c.closes-close.result c.in-Ok.what st c.requires.free c.closes-close.ensures c.requires.whole asks _
     (command_state c.args.bytes.now c.args.self.now c.pass.new.self (head.length + head.body) _ (waiting_for c.closes-close.result) c.pass.ensures c.waiting_for-self.ensures)
 
 pub returns-then-close-clause-after : goal.returns-then-close-clause-after
-returns-then-close-clause-after c = λ fed given told sent st.
+returns-then-close-clause-after c = λ past st.
     let laws : HeadLaws = record { one = c.one_finding.ensures; stays = c.decided_stays.ensures; limits = c.found_within_limits.ensures; none = c.no_bytes_need_more.ensures } in
     let head = c.args.head.now in
     let asks = ap (λ b. requested head.operation head.json b) (ap (λ u. take head.body (drop head.length u)) (sym c.after.ensures) ∙ sym c.body_of.ensures) ∙ sym c.in_ok-what.ensures.value ∙ c.in-Err.is in
-    fault_closes laws (read_state c.args.bytes.now c.args.self.now) fed given told sent head c.closes-close.result c.in-Err.problem st c.requires.free c.closes-close.ensures c.if-close.true c.requires.whole asks _
+    fault_closes laws (read_state c.args.bytes.now c.args.self.now) past head c.closes-close.result c.in-Err.problem st c.requires.free c.closes-close.ensures c.if-close.true c.requires.whole asks _
     (closed_state c.args.bytes.now c.args.self.now c.pass-in-Err.new.self (head.length + head.body) c.put_fault.new.to (answered (fault_reply c.in-Err.problem) c.closes-close.result) c.pass-in-Err.ensures c.in_ok-put_fault-in-Err.ensures)
 
 pub returns-clause-after : goal.returns-clause-after
-returns-clause-after c = λ fed given told sent st.
+returns-clause-after c = λ past st.
     let laws : HeadLaws = record { one = c.one_finding.ensures; stays = c.decided_stays.ensures; limits = c.found_within_limits.ensures; none = c.no_bytes_need_more.ensures } in
     let head = c.args.head.now in
     let asks = ap (λ b. requested head.operation head.json b) (ap (λ u. take head.body (drop head.length u)) (sym c.after.ensures) ∙ sym c.body_of.ensures) ∙ sym c.in_ok-what.ensures.value ∙ c.in-Err.is in
-    fault_goes laws (read_state c.args.bytes.now c.args.self.now) fed given told sent head c.closes-close.result c.in-Err.problem st c.requires.free c.closes-close.ensures c.if-close.false c.requires.whole asks _
+    fault_goes laws (read_state c.args.bytes.now c.args.self.now) past head c.closes-close.result c.in-Err.problem st c.requires.free c.closes-close.ensures c.if-close.false c.requires.whole asks _
     (fault_state c.args.bytes.now c.args.self.now c.pass-in-Err.new.self (head.length + head.body) c.put_fault.new.to (answered (fault_reply c.in-Err.problem) c.closes-close.result) c.pass-in-Err.ensures c.in_ok-put_fault-in-Err.ensures)
 
 pub returns-in-Ok-clause-plain : goal.returns-in-Ok-clause-plain

@@ -5,8 +5,8 @@ use Rattle.kds_session.proofs.Stands.{nearer_then, nearer_less}
 use Rattle.kds_session.proofs.reading.Reading.to_command.Goals as goal
 
 pub returns-in-Stop-clause-given : goal.returns-in-Stop-clause-given
-returns-in-Stop-clause-given c = λ fed given told sent st.
-    subst (λ (s : Step). IsAfter s (read_state c.args.bytes.now c.step.new.self) fed given told sent) c.in-Stop.is (c.in_ok-step.ensures.after fed given told sent (c.loop-what.invariant.stands fed given told sent st))
+returns-in-Stop-clause-given c = λ past st.
+    subst (λ (s : Step). IsAfter s (read_state c.args.bytes.now c.step.new.self) past) c.in-Stop.is (c.in_ok-step.ensures.after past (c.loop-what.invariant.stands past st))
 
 pub returns-in-Stop-clause-out : goal.returns-in-Stop-clause-out
 returns-in-Stop-clause-out c = λ none.

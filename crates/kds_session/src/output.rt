@@ -1,0 +1,93 @@
+//! The bytes of responses that are to be sent.
+ghost use Rattle.std.specs.Prelude.{◌≡◌, ◌≤◌, [], ◌++◌, drop, length, true, OnOk, OnErr};
+ghost use Rattle.kds_head.specs.Response.{IsResponse, response_text};
+
+use kds_base::{Memory, Octets};
+use kds_head::response;
+use std::alloc::Global;
+use std::marker::Model;
+
+/// Bytes that are added at the end, and taken from the front once they were sent. Contracts see those that are left.
+#[derive(Drop)]
+pub struct Output {
+    alloc: Global,
+    text: Octets,
+    /// How many bytes at the front of the text were sent.
+    sent: usize,
+}
+
+impl Model for Output {
+    ghost use Rattle.std.specs.Prelude.{ℕ, List, ◌≤◌, drop, length};
+
+    ghost Value = { List ℕ };
+
+    ghost view = { λ o. drop o.sent o.text };
+
+    ghost invariant = { λ o. o.sent ≤ length o.text };
+}
+
+impl Output {
+    /// Nothing is to be sent, which takes no memory.
+    pub fn new(alloc: Global) -> Output
+        ensures { result ≡ [] }
+    {
+        Output {
+            alloc,
+            text: Octets::new(alloc),
+            sent: 0,
+        }
+    }
+
+    pub fn as_slice(&self) -> &[u8]
+        ensures { result.now ≡ self.now }
+    {
+        let (_, left) = self.text.as_slice().split_at(self.sent);
+        left
+    }
+
+    /// Takes away so many bytes at the front, and with the last one all memory.
+    pub fn advance(&mut self, count: usize)
+        requires { count ≤ length self.old }
+        ensures { self.new ≡ drop count self.old }
+    {
+        let left = self.as_slice().len();
+        if count < left {
+            let all = self.text.as_slice().len();
+            self.sent = all - (left - count);
+        } else {
+            self.text = Octets::new(self.alloc);
+            self.sent = 0;
+        }
+    }
+
+    /// Adds bytes. After `Memory` it is as before.
+    pub fn extend(&mut self, bytes: &[u8]) -> Result<(), Memory>
+        ensures ok { OnOk result (self.new ≡ self.old ++ bytes.now) }
+        ensures err { OnErr result (self.new ≡ self.old) }
+    {
+        self.text.extend(bytes)
+    }
+
+    /// Adds an answer of the service. After `Memory` it is as before.
+    pub fn respond(&mut self, status: u16, body: &[u8], close: bool) -> Result<(), Memory>
+        requires { IsResponse status body.now true close }
+        ensures ok { OnOk result (self.new ≡ self.old ++ response_text status body.now true close) }
+        ensures err { OnErr result (self.new ≡ self.old) }
+    {
+        self.compact()?;
+        response(self.alloc, status, body, true, close, &mut self.text)
+    }
+
+    /// Lets go of the bytes that were sent, where the others are no more than these. So at most twice the bytes that
+    /// are left are kept.
+    fn compact(&mut self) -> Result<(), Memory>
+        ensures { self.new ≡ self.old }
+    {
+        let left = self.as_slice();
+        if self.sent > 0 && left.len() <= self.sent {
+            self.text = Octets::of(self.alloc, left)?;
+            self.sent = 0;
+        }
+        Ok(())
+    }
+}
