@@ -1,0 +1,203 @@
+//! One machine, at which the holders of passes take turns.
+ghost use Rattle.std.specs.Prelude.{◌≡◌, ◌≢◌, ℕ, ◌+◌, ◌-◌, ◌<◌, ◌≤◌, ◌^◌, List, [], ◌∷◌, ◌++◌, length, map, IfOk, IfErr, OnOk, OnErr, Err, IsOk, ◌↔◌, vec_capacity, Some, true, false};
+ghost use Rattle.std.specs.List.{range_with_len};
+ghost use Rattle.kds_defs.specs.Histories.{journal, clock};
+ghost use Rattle.kds_defs.specs.Kinds.{is_lease_answer, is_service, is_service_answer};
+ghost use Rattle.kds_defs.specs.Lawful.{IsLawful, IsHistory};
+ghost use Rattle.kds_defs.specs.Machines.{NeedsNoMemory};
+ghost use Rattle.kds_defs.specs.Safe.{IsSafe};
+ghost use Rattle.kds_turn.specs.declared.pass.TurnErr.TheVariants as failed;
+ghost use Rattle.kds_turn.specs.Known.{Continues, first_view};
+ghost use Rattle.kds_turn.specs.Passes.{accounts_of, new_pass, IsAnswered, HasAll, AreAllBy, IsSplitInto};
+
+use crate::pass::{Note, Pass, Past, TurnErr};
+use crate::rule::InOrder;
+use crate::steps::{Seat, append, deal, free, give_back, grab, look, merge, take, tell};
+use crate::view::View;
+use atomic_table::{Refused, Table};
+use kcl_laws::step;
+use kds_base::{Memory, Moment};
+use kds_defs::{Answer, Command, Machine, Turn};
+use std::alloc::Global;
+use std::marker::{Brand, Model};
+use std::snapshot::Snapshot;
+use std::sync::Wait;
+use std::sync::atomic::AtomicU64;
+
+/// One machine, at which the holders of passes take turns. Contracts see which hall it is and how many passes it has.
+#[derive(Drop)]
+pub struct Hall<M: Machine> {
+    table: Table<Option<M>, View, u32, InOrder<M>, Global>,
+    /// How many passes sleep until the turn is given up.
+    sleepers: AtomicU64,
+}
+
+impl<M: Machine> Model for Hall<M> {
+    ghost use Rattle.std.specs.Prelude.{◌≡◌};
+    ghost use Rattle.kds_turn.specs.Passes.{Place};
+
+    ghost Value = { Place };
+
+    ghost view = { λ h. record { id = h.table.shared.table_id; passes = h.table.shared.key } };
+
+    ghost invariant = { λ h. (h.table.shared.table_id.words ≡ 3) × (h.table.shared.table_id.slots ≡ 1) };
+}
+
+impl<M: Machine> Hall<M> {
+    /// A hall, and its passes in the order of their numbers, from 1 on. Where memory runs out the machine comes back.
+    pub fn new(
+        alloc: Global,
+        machine: M,
+        passes: u32,
+    ) -> Result<(Hall<M>, Vec<Pass<M>>), (M, Memory)>
+        requires some { 1 ≤ passes }
+        requires machine { M.stands_for machine [] }
+        ensures ok { IfOk result (λ made. (made.0.passes ≡ passes) × (made.1.items ≡ map (new_pass made.0.id) (range_with_len 1 passes))) }
+        ensures err { IfErr result (λ back. back.0 ≡ machine) }
+    {
+        let Ok(mut slots) = Vec::with_capacity(alloc, 1) else {
+            return Err((machine, Memory));
+        };
+        let Ok(made) = Vec::with_capacity(alloc, passes as usize) else {
+            slots.destroy_empty();
+            return Err((machine, Memory));
+        };
+        slots.push_reserved(Some(machine));
+        let (table, seat) = match Table::new(alloc, &[0, passes as u64, 0], slots, &passes) {
+            Ok(made) => made,
+            Err(Refused { slots }) => return Err((only(slots), Memory)),
+        };
+        let hall = Hall {
+            table,
+            sleepers: AtomicU64::new(0),
+        };
+        let made = hall.deal_all(made, seat, passes);
+        Ok((hall, made))
+    }
+
+    /// A pass for each number, in their order.
+    fn deal_all(&self, mut made: Vec<Pass<M>>, mut first: Seat<M>, passes: u32) -> Vec<Pass<M>>
+        requires some { 1 ≤ passes }
+        requires room { (made.items ≡ []) × (passes ≤ vec_capacity made) }
+        requires seat { (first.table_id ≡ self.now.id) × (first.me ≡ (first_view passes, [])) }
+        ensures { result.items ≡ map (new_pass self.now.id) (range_with_len 1 passes) }
+    {
+        for by in 1..passes {
+            let seat = deal(&self.table.shared, &mut first);
+            made.push_reserved(Pass { by: by + 1, seat });
+        }
+        made.push_reserved(Pass { by: 1, seat: first });
+        made.as_mut_slice().rotate_right(1);
+        made
+    }
+
+    /// One turn at the machine, by the pass. It waits for the turn.
+    pub fn turn<R: Wait>(
+        &self,
+        rt: &R,
+        pass: &mut Pass<M>,
+        now: Moment,
+        what: Command,
+    ) -> Result<Answer, TurnErr>
+        requires hall { pass.old.hall ≡ self.now.id }
+        requires lawful { IsLawful record { by = pass.old.by; at = now; what = what } }
+        ensures kept { (pass.new.hall ≡ pass.old.hall) × (pass.new.by ≡ pass.old.by) × (pass.new.joined ≡ pass.old.joined) }
+        ensures seen { Continues pass.new.seen pass.old.seen }
+        ensures answered { IfOk result (λ a. IsAnswered record { by = pass.old.by; at = now; what = what } a pass.old pass.new) }
+        ensures safe { OnOk result (IsSafe (journal pass.new.seen) (clock pass.new.seen)) }
+        ensures failed { OnErr result (pass.new.own ≡ pass.old.own) }
+        ensures spent { IfErr result (λ e. (e ≡ failed.Spent) ↔ (length pass.new.seen + 1 ≡ 2 ^ 64)) }
+        ensures counted { OnOk result (length pass.new.seen < 2 ^ 64) }
+        ensures at_once { NeedsNoMemory what → result ≢ Err failed.Memory }
+        ensures own { is_service what ≡ true → IfOk result (λ a. is_service_answer a ≡ true) }
+        ensures leased { is_service what ≡ false → IfOk result (λ a. is_lease_answer a ≡ true) }
+    {
+        step();
+        let (by, shared) = (pass.by, &self.table.shared);
+        grab(rt, shared, &self.sleepers, &mut pass.seat, by);
+        if look(shared, &mut pass.seat) == u64::MAX {
+            free(shared, &self.sleepers, &mut pass.seat);
+            return Err(TurnErr::Spent);
+        }
+        let mut machine = take(shared, &mut pass.seat);
+        let turn = Turn { by, at: now, what };
+        let asked = Snapshot::of(&turn);
+        match machine.apply(turn) {
+            Ok(answer) => {
+                give_back(shared, &mut pass.seat, machine);
+                append::<M, Brand>(shared, &mut pass.seat, &asked);
+                free(shared, &self.sleepers, &mut pass.seat);
+                Ok(answer)
+            }
+            Err(Memory) => {
+                give_back(shared, &mut pass.seat, machine);
+                free(shared, &self.sleepers, &mut pass.seat);
+                Err(TurnErr::Memory)
+            }
+        }
+    }
+
+    /// Takes the other pass in. The pass has then seen what both had seen.
+    pub fn join(&self, pass: &mut Pass<M>, other: Pass<M>)
+        requires hall { (pass.old.hall ≡ self.now.id) × (other.hall ≡ self.now.id) }
+        ensures kept { (pass.new.hall ≡ pass.old.hall) × (pass.new.by ≡ pass.old.by) × (pass.new.own ≡ pass.old.own) }
+        ensures joined { pass.new.joined ≡ pass.old.joined ++ accounts_of other }
+        ensures seen { Continues pass.new.seen pass.old.seen × Continues pass.new.seen other.seen }
+    {
+        let Pass { by: _, seat } = other;
+        merge(&self.table.shared, &mut pass.seat, seat);
+        look(&self.table.shared, &mut pass.seat);
+    }
+
+    /// A note of what the pass has seen.
+    pub fn tell(&self, pass: &mut Pass<M>) -> Result<Note<M>, Memory>
+        requires hall { pass.old.hall ≡ self.now.id }
+        ensures same { pass.new ≡ pass.old }
+        ensures note { IfOk result (λ n. (n.hall ≡ pass.new.hall) × (n.seen ≡ pass.new.seen)) }
+        ensures at_once { IsOk result }
+    {
+        let seat = tell(&self.table.shared, &mut pass.seat);
+        Ok(Note { seat })
+    }
+
+    /// The pass has then seen what the note tells of.
+    pub fn learn(&self, pass: &mut Pass<M>, note: Note<M>)
+        requires hall { (pass.old.hall ≡ self.now.id) × (note.hall ≡ self.now.id) }
+        ensures kept { (pass.new.hall ≡ pass.old.hall) × (pass.new.by ≡ pass.old.by) × (pass.new.own ≡ pass.old.own) × (pass.new.joined ≡ pass.old.joined) }
+        ensures seen { Continues pass.new.seen pass.old.seen × Continues pass.new.seen note.seen }
+    {
+        let Note { seat } = note;
+        merge(&self.table.shared, &mut pass.seat, seat);
+        look(&self.table.shared, &mut pass.seat);
+    }
+
+    /// The machine, and the history that it stands for, by a pass that has taken in all others.
+    pub fn close(self, pass: Pass<M>) -> (M, Past<M>)
+        requires hall { pass.hall ≡ self.id }
+        requires all { HasAll self.passes pass }
+        ensures machine { M.stands_for result.0 result.1 }
+        ensures history { IsHistory result.1 }
+        ensures seen { Continues result.1 pass.seen }
+        ensures all { AreAllBy (accounts_of pass) result.1 }
+        ensures own { IsSplitInto (accounts_of pass) result.1 }
+    {
+        let Pass { by: _, mut seat } = pass;
+        let turns = look(&self.table.shared, &mut seat);
+        let note = tell(&self.table.shared, &mut seat);
+        let Hall { table, sleepers: _ } = self;
+        let mut closed = table.close_with(seat);
+        let machine = closed.take(0).unwrap();
+        closed.free();
+        (machine, Past { turns, seat: note })
+    }
+}
+
+/// The machine of the one slot.
+fn only<M>(mut slots: Vec<Option<M>>) -> M
+    requires { (machine : M) × (slots.items ≡ Some machine ∷ []) }
+    ensures { slots.items ≡ Some result ∷ [] }
+{
+    let first = slots.pop().unwrap();
+    slots.destroy_empty();
+    first.unwrap()
+}

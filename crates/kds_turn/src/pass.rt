@@ -1,0 +1,86 @@
+//! The right to take turns, and what is known of the turns that were taken.
+ghost use Rattle.std.specs.Prelude.{◌≡◌, length};
+
+use crate::steps::Seat;
+use std::marker::Model;
+
+/// The right to take turns under one number. Contracts see its number, the turns that it has seen, its own turns, and those of the passes that were joined into it.
+#[derive(Drop)]
+pub struct Pass<M> {
+    pub(crate) by: u32,
+    pub(crate) seat: Seat<M>,
+}
+
+impl<M> Model for Pass<M> {
+    ghost use Rattle.std.specs.Prelude.{◌≡◌, ◌<◌, ◌∷◌};
+    ghost use Rattle.kds_turn.specs.Known.{account, first_turns, after_first};
+    ghost use Rattle.kds_turn.specs.Plays.{IsIdle};
+    ghost use Rattle.kds_turn.specs.Passes.{Standing};
+
+    ghost Value = { Standing };
+
+    ghost view = { λ p. record { hall = p.seat.table_id; by = p.by; seen = p.seat.me.0.seen; own = first_turns p.seat.me.0.accounts; joined = after_first p.seat.me.0.accounts } };
+
+    ghost invariant = { λ p. IsIdle p.seat.me × (p.seat.me.0.accounts ≡ account p.by (first_turns p.seat.me.0.accounts) ∷ after_first p.seat.me.0.accounts) × (0 < p.by) };
+}
+
+impl<M> Pass<M> {
+    /// The number of the pass.
+    pub fn by(&self) -> u32
+        ensures { result ≡ self.now.by }
+    {
+        self.by
+    }
+}
+
+/// What a pass had seen. A pass that learns it has seen no less.
+#[derive(Drop)]
+pub struct Note<M> {
+    pub(crate) seat: Seat<M>,
+}
+
+impl<M> Model for Note<M> {
+    ghost use Rattle.std.specs.Prelude.{◌≡◌, []};
+    ghost use Rattle.kds_turn.specs.Plays.{IsIdle};
+    ghost use Rattle.kds_turn.specs.Passes.{Tidings};
+
+    ghost Value = { Tidings };
+
+    ghost view = { λ n. record { hall = n.seat.table_id; seen = n.seat.me.0.seen } };
+
+    ghost invariant = { λ n. IsIdle n.seat.me × (n.seat.me.0.accounts ≡ []) };
+}
+
+/// The history of a hall that was closed. Contracts see it as its turns.
+#[derive(Drop)]
+pub struct Past<M> {
+    pub(crate) turns: u64,
+    pub(crate) seat: Seat<M>,
+}
+
+impl<M> Model for Past<M> {
+    ghost use Rattle.std.specs.Prelude.{◌≡◌, List, length};
+    ghost use Rattle.kds_defs.specs.declared.command.Turn.{Turn};
+
+    ghost Value = { List Turn };
+
+    ghost view = { λ p. p.seat.me.0.seen };
+
+    ghost invariant = { λ p. p.turns ≡ length p.seat.me.0.seen };
+}
+
+impl<M> Past<M> {
+    /// The number of turns.
+    pub fn turns(&self) -> u64
+        ensures { result ≡ length self.now }
+    {
+        self.turns
+    }
+}
+
+/// Why a turn was not taken: memory ran out, or the history has as many turns as can be counted.
+#[derive(Clone, Copy, Debug, PartialEq, Eq, Drop)]
+pub enum TurnErr {
+    Memory,
+    Spent,
+}
