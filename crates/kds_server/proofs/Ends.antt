@@ -11,28 +11,14 @@ use Rattle.kds_ends.specs.declared.status.Status.{Status}
 use Rattle.kds_ends.specs.declared.status.Status.TheVariants.{Read, Write, Memory}
 use Rattle.kds_ends.proofs.Writing.{appends_more, front_later, front_longer}
 use Rattle.kds_session.specs.declared.state.Standing.TheVariants.{Live}
-use Rattle.kds_session.specs.Messages.{Message, Ending, boundary, inside, closed, refused, Falls}
-use Rattle.kds_session.specs.Text.{Answers, commands, responses, end_text, IsHttp}
+use Rattle.kds_session.specs.Messages.{Ending, boundary, inside, closed, refused}
+use Rattle.kds_session.specs.Text.{Answers, responses, end_text}
 use Rattle.kds_session.specs.States.{SessionState}
-use Rattle.kds_session.specs.Standing.{StandsFor, IsQuiet, end_of}
+use Rattle.kds_session.specs.Standing.{traffic, sent_more, Passes, StandsFor, IsQuiet, end_of}
+use Rattle.kds_session.specs.Laws.{FirstPart, WholeText, NothingFollows}
 use Rattle.kds_server.specs.Texts.{Written, WrittenPart, Tells, IsAnswerStatus, status_at}
 use Rattle.kds_server.specs.Serving.{AsksAtMostOnce}
 use Rattle.kds_server.specs.Steps.{Reads, IsReadStop}
-
--- the laws of sessions
-abbrev pub FirstPart : Type 0
-FirstPart = (s : SessionState) (fed : List ℕ) (given : List Command) (told : Answers) (sent : List ℕ) → StandsFor s fed given told sent
-    → (more : List ℕ) (ms : List Message) (ending : Ending) → Falls 0 (fed ++ more) ms ending → (later : Answers)
-    → ((coming : List Command) × (commands ms ≡ given ++ coming))
-    × ((rest : List ℕ) × (responses 0 ms (told ++ later) ++ end_text ending ≡ (sent ++ s.output) ++ rest))
-
-abbrev pub WholeText : Type 0
-WholeText = (s : SessionState) (fed : List ℕ) (given : List Command) (told : Answers) (sent : List ℕ)
-    → StandsFor s fed given told sent → IsQuiet s → (http : IsHttp fed given told (sent ++ s.output)) × (http.ending ≡ end_of s)
-
-abbrev pub NothingFollows : Type 0
-NothingFollows = (s : SessionState) (fed : List ℕ) (given : List Command) (told : Answers) (sent : List ℕ)
-    → StandsFor s fed given told sent → s.standing ≢ Live → (more : List ℕ) → StandsFor s (fed ++ more) given told sent
 
 -- ---- reading
 
@@ -52,22 +38,22 @@ appends_none (Some us) = sym (append-nil us)
 
 -- what the session had to send was written
 pub flushed : (all left : Option (List ℕ)) (s new : SessionState) (start held now : Option (List ℕ)) (given : List Command) (told : Answers) → Reads all left s start held given told
-    → ((fed : List ℕ) (given : List Command) (told : Answers) (sent : List ℕ) → StandsFor s fed given told sent → StandsFor new fed given told (sent ++ s.output)) → Appends held now s.output
+    → Passes s new (sent_more s.output) → Appends held now s.output
     → Reads all left new start now given told
 flushed all left s new start held now given told r stands o = record {
   fed = r.fed;
   sent = r.sent ++ s.output;
   taken = r.taken;
-  stands = stands r.fed given told r.sent r.stands;
+  stands = stands (traffic r.fed given told r.sent) r.stands;
   written = appends_more start held now r.sent s.output r.written o;
 }
 
 -- ---- the whole text, where the session is quiet and has nothing to send
 
-written_by : WholeText → (s : SessionState) (fed : List ℕ) (given : List Command) (told : Answers) (sent : List ℕ) (start now : Option (List ℕ)) → StandsFor s fed given told sent → IsQuiet s → s.output ≡ []
+written_by : WholeText → (s : SessionState) (fed : List ℕ) (given : List Command) (told : Answers) (sent : List ℕ) (start now : Option (List ℕ)) → StandsFor s (traffic fed given told sent) → IsQuiet s → s.output ≡ []
     → Appends start now sent → Written fed (end_of s) given told start now
 written_by whole s fed given told sent start now st quiet none w =
-    let q = whole s fed given told sent st quiet in record {
+    let q = whole s (traffic fed given told sent) st quiet in record {
       text = sent ++ s.output;
       http = q.0;
       ends = q.1;
@@ -103,7 +89,7 @@ pub tells_over : WholeText → NothingFollows → (status : Status) (all left : 
 tells_over whole follows status None left s asked given told start now r quiet same over is = tt
 tells_over whole follows status (Some bytes) None s asked given told start now r quiet same over is = absurd r.taken
 tells_over whole follows status (Some bytes) (Some rest) s asked given told start now r quiet same over is =
-    let st = subst (λ (z : List ℕ). StandsFor s z given told r.sent) (sym r.taken) (follows s r.fed given told r.sent r.stands over rest) in
+    let st = subst (λ (z : List ℕ). StandsFor s (traffic z given told r.sent)) (sym r.taken) (follows s (traffic r.fed given told r.sent) r.stands over rest) in
     let quiet_now = subst (λ (z : SessionState). IsQuiet z) (sym same) quiet in
     subst (λ (z : Status). Tells z bytes (Some rest) given told start now) (sym is)
     (tells_at bytes (Some rest) given told start now (end_of s) (written_by whole s bytes given told r.sent start now st quiet_now (ap (λ (z : SessionState). z.output) same) r.written))
@@ -125,12 +111,12 @@ tells_read whole (Some bytes) (Some rest) (Some same) s given told start now r q
 
 -- ---- a front of the text
 
-part_by : FirstPart → (s : SessionState) (fed more : List ℕ) (given : List Command) (told : Answers) (sent : List ℕ) (start now : Option (List ℕ)) → StandsFor s fed given told sent → AppendsFront start now (sent ++ s.output)
+part_by : FirstPart → (s : SessionState) (fed more : List ℕ) (given : List Command) (told : Answers) (sent : List ℕ) (start now : Option (List ℕ)) → StandsFor s (traffic fed given told sent) → AppendsFront start now (sent ++ s.output)
     → WrittenPart (fed ++ more) given told start now
 part_by first s fed more given told sent start now st front = record {
-  first = λ ms ending f. (first s fed given told sent st more ms ending f []).0;
+  first = λ ms ending f. (first s (traffic fed given told sent) st more ms ending f).first;
   written = λ ms ending f later.
-      let r = (first s fed given told sent st more ms ending f later).1 in
+      let r = (first s (traffic fed given told sent) st more ms ending f).front later in
       subst (λ (z : List ℕ). AppendsFront start now z) (sym r.1) (front_longer start now (sent ++ s.output) r.0 front);
 }
 

@@ -7,7 +7,7 @@ use Rattle.kds_ends.specs.Moments.{Gives}
 use Rattle.kds_ends.specs.declared.status.Status.{Status}
 use Rattle.kds_ends.specs.declared.status.Status.TheVariants.{Memory}
 use Rattle.kds_session.specs.Text.{Answers}
-use Rattle.kds_server.specs.Turns.{turns_at, TurnsMade}
+use Rattle.kds_server.specs.Turns.{turns_at, followed, TurnsMade}
 use Rattle.kds_server.specs.Texts.{Tells}
 
 -- the clock gave no further moment, or one for a turn that memory ran out in
@@ -28,3 +28,9 @@ pub record Served (h : List Turn) (all left before now start held : Option (List
 -- the turns that it made
 abbrev pub turns_of : {h : List Turn} {all left before now start held : Option (List ℕ)} {status : Status} → Served h all left before now start held status → List Turn
 turns_of s = turns_at s.made.moments s.given
+
+-- Whatever history the first machine stood for, the connection ended so after it, and the last machine stands for that
+-- history followed by just the turns of the connection.
+abbrev pub ServedAfter : {M : Type 0} → (M → List Turn → Type 0) → (first last : M) (all left before now start held : Option (List ℕ)) (status : Status) → Type 0
+ServedAfter stands_for first last all left before now start held status =
+    (h : List Turn) → stands_for first h → (served : Served h all left before now start held status) × stands_for last (followed h (turns_of served))

@@ -6,23 +6,21 @@ ghost use Rattle.kds_defs.specs.declared.command.Command.{Command};
 ghost use Rattle.kds_ends.specs.Causes.{Rose, AppendsFront};
 ghost use Rattle.kds_session.specs.Text.{Answers};
 ghost use Rattle.kds_session.specs.States.{SessionState};
-ghost use Rattle.kds_session.specs.Standing.{StandsFor, IsQuiet, to_come, end_of};
+ghost use Rattle.kds_session.specs.Standing.{Passes, sent_more, IsQuiet, to_come, end_of};
+ghost use Rattle.kds_session.specs.Next.{room_of};
 ghost use Rattle.kds_session.specs.declared.state.Standing.TheVariants.{Live};
 ghost use Rattle.kds_session.specs.declared.state.Waiting.TheVariants.{Nothing};
 ghost use Rattle.kds_server.specs.Texts.{Tells, IsAnswerStatus, status_at};
-ghost use Rattle.kds_server.specs.Steps.{Reads, IsReadStop};
+ghost use Rattle.kds_server.specs.Steps.{ReadsOn, EndsThere, IsReadStop};
 
 use kds_ends::{Sink, Source, Status, write_all};
+use kds_session::limits::PIECE_BYTES;
 use kds_session::{Session, Standing, first_part, nothing_follows, whole_text};
-
-/// The bytes of one read.
-const PIECE_BYTES: usize = 16384;
 
 /// Writes what the session has to send.
 fn flush<K: Sink>(session: &mut Session, out: &mut K) -> Result<(), Status>
     ensures written { OnOk result (Appends (K.held out.old) (K.held out.new) session.old.output) }
-    ensures stands { OnOk result ((fed : List ℕ) (given : List Command) (told : Answers) (sent : List ℕ)
-        → StandsFor session.old fed given told sent → StandsFor session.new fed given told (sent ++ session.old.output)) }
+    ensures stands { OnOk result (Passes session.old session.new (sent_more session.old.output)) }
     ensures same { OnOk result (session.new ≡ record session.old { output = [] }) }
     ensures err { IfErr result (λ s. (s ≡ Status.Write) × AppendsFront (K.held out.old) (K.held out.new) session.old.output) }
     ensures later { K.faults out.old ≤ K.faults out.new }
@@ -38,10 +36,35 @@ fn flush<K: Sink>(session: &mut Session, out: &mut K) -> Result<(), Status>
     }
 }
 
-/// Reads a piece and feeds it. The answer is whether there was one.
-fn read<S: Source>(session: &mut Session, input: &mut S) -> Result<bool, Status>
-    ensures ok { IfOk result (λ more. (all start held : Option (List ℕ)) (given : List Command) (told : Answers)
-        → Reads all (S.left input.old) session.old start held given told → Reads all (S.left input.new) session.new start held given told) }
+/// Writes what the session has to send, where that is a piece or more.
+pub fn write_early<K: Sink>(session: &mut Session, out: &mut K) -> Result<(), Status>
+    ensures goes_on { OnOk result ((left : Option (List ℕ)) → ReadsOn left session.old (K.held out.old) left session.new (K.held out.new)) }
+    ensures ended { IfErr result (λ s. (left : Option (List ℕ)) → EndsThere left session.old (K.held out.old) left (K.held out.new) s) }
+    ensures waits { OnOk result (session.new.waiting ≡ session.old.waiting) }
+    ensures as_much { OnOk result (to_come session.new ≡ to_come session.old) }
+    ensures later { K.faults out.old ≤ K.faults out.new }
+    ensures write { IsErrOf result Status.Write → Rose (K.faults out.old) (K.faults out.new) }
+    ensures kinds { IfErr result (λ s. s ≡ Status.Write) }
+{
+    first_part();
+    if session.output().len() < PIECE_BYTES {
+        return Ok(());
+    }
+    match flush(session, out) {
+        Ok(()) => Ok(()),
+        Err(status) => Err(status),
+    }
+}
+
+/// Reads a piece into the room and feeds it. The answer is whether there was one. Condition: the session has room for a
+/// whole piece.
+fn read<S: Source>(
+    session: &mut Session,
+    input: &mut S,
+    room: &mut [u8; PIECE_BYTES],
+) -> Result<bool, Status>
+    requires { PIECE_BYTES ≤ room_of session.old }
+    ensures ok { OnOk result ((held : Option (List ℕ)) → ReadsOn (S.left input.old) session.old held (S.left input.new) session.new held) }
     ensures ends { IfOk result (λ more. more ≡ false → IsAtEnd (S.left input.new) × (session.new ≡ session.old)) }
     ensures grows { session.old.standing ≡ Live → IfOk result (λ more. more ≡ true
         → (session.new ≡ record session.old { unread = session.new.unread }) × (length session.old.unread < length session.new.unread)) }
@@ -51,8 +74,7 @@ fn read<S: Source>(session: &mut Session, input: &mut S) -> Result<bool, Status>
     ensures later { S.faults input.old ≤ S.faults input.new }
     ensures read { IsErrOf result Status.Read → Rose (S.faults input.old) (S.faults input.new) }
 {
-    let mut room = [0u8; PIECE_BYTES];
-    match input.read(&mut room) {
+    match input.read(&mut room[..]) {
         Ok(0) => Ok(false),
         Ok(count) => {
             let (piece, _) = room.split_at(count);
@@ -84,19 +106,17 @@ fn ending(session: &Session) -> Status
 }
 
 /// Writes what there is to write and, where the connection goes on, reads. The answer is how it has ended, where it
-/// has. Condition: no whole message is left to read, and no command waits.
+/// has. Condition: no whole message is left to read, no command waits, and a live session has room for a whole piece.
 pub fn exchange<S: Source, K: Sink>(
     session: &mut Session,
     input: &mut S,
     out: &mut K,
+    room: &mut [u8; PIECE_BYTES],
 ) -> Option<Status>
-    requires { IsQuiet session.old }
-    ensures goes_on { result ≡ None → (all start : Option (List ℕ)) (given : List Command) (told : Answers)
-        → Reads all (S.left input.old) session.old start (K.held out.old) given told
-        → Reads all (S.left input.new) session.new start (K.held out.new) given told }
-    ensures ended { IfSome result (λ s. (all start : Option (List ℕ)) (given : List Command) (told : Answers)
-        → Reads all (S.left input.old) session.old start (K.held out.old) given told
-        → IfSome all (λ bytes. Tells s bytes (S.left input.new) given told start (K.held out.new))) }
+    requires quiet { IsQuiet session.old }
+    requires room { session.old.standing ≡ Live → PIECE_BYTES ≤ room_of session.old }
+    ensures goes_on { result ≡ None → ReadsOn (S.left input.old) session.old (K.held out.old) (S.left input.new) session.new (K.held out.new) }
+    ensures ended { IfSome result (EndsThere (S.left input.old) session.old (K.held out.old) (S.left input.new) (K.held out.new)) }
     ensures waits { result ≡ None → session.new.waiting ≡ Nothing }
     ensures grows { result ≡ None → (session.old.standing ≡ Live) × (to_come session.new ≡ to_come session.old)
         × (length session.old.unread < length session.new.unread) }
@@ -114,7 +134,7 @@ pub fn exchange<S: Source, K: Sink>(
         Err(status) => return Some(status),
     }
     match session.standing() {
-        Standing::Live => match read(session, input) {
+        Standing::Live => match read(session, input, room) {
             Ok(true) => None,
             Ok(false) => Some(ending(session)),
             Err(status) => Some(status),

@@ -1,38 +1,37 @@
-//! One connection, without waiting.
+//! One connection, whatever makes its turns.
 ghost use Rattle.std.specs.Prelude.{◌≡◌, ◌≤◌, ◌<◌, List, ℕ, None, Some, IfSome};
 ghost use Rattle.std.specs.declared.option.Option.{Option};
-ghost use Rattle.kds_defs.specs.declared.command.Turn.{Turn};
 ghost use Rattle.kds_ends.specs.Causes.{Rose};
 ghost use Rattle.kds_session.specs.declared.state.Waiting.TheVariants.{Nothing};
-ghost use Rattle.kds_server.specs.Turns.{followed};
 ghost use Rattle.kds_server.specs.Texts.{IsAnswerStatus};
-ghost use Rattle.kds_server.specs.Serving.{Served, turns_of};
-ghost use Rattle.kds_server.specs.Steps.{Running, Ended, work};
+ghost use Rattle.kds_server.specs.Steps.{MadeFrom, RunsOn, RunsOut, Ended, work};
 
-use crate::exchange::exchange;
+use crate::exchange::{exchange, write_early};
 use crate::turn::make_turn;
-use kds_defs::Machine;
+use crate::turner::Turner;
 use kds_ends::{Clock, Sink, Source, Status};
+use kds_session::limits::PIECE_BYTES;
 use kds_session::{Session, first_part};
 use std::alloc::Global;
 
-/// Makes the turn of the next command, or where there is none, writes what there is to write, and reads. The answer
-/// is how the connection has ended, where it has.
-fn step<M: Machine, S: Source, K: Sink, C: Clock>(
-    alloc: Global,
-    machine: &mut M,
+/// Makes the turn of the next command, and writes where a piece or more is to be written. Where there is no command,
+/// writes what there is to write, and reads. The answer is how the connection has ended, where it has.
+fn step<T: Turner, S: Source, K: Sink, C: Clock>(
+    turner: &T,
+    state: &mut T::State,
     session: &mut Session,
     input: &mut S,
     out: &mut K,
     clock: &mut C,
+    room: &mut [u8; PIECE_BYTES],
 ) -> Option<Status>
-    requires { session.old.waiting ≡ Nothing }
-    ensures goes_on { result ≡ None → (h : List Turn) (all before start : Option (List ℕ))
-        → Running M.stands_for h all (S.left input.old) session.old machine.old before (C.moments clock.old) start (K.held out.old)
-        → Running M.stands_for h all (S.left input.new) session.new machine.new before (C.moments clock.new) start (K.held out.new) }
-    ensures ended { IfSome result (λ s. (h : List Turn) (all before start : Option (List ℕ))
-        → Running M.stands_for h all (S.left input.old) session.old machine.old before (C.moments clock.old) start (K.held out.old)
-        → Ended M.stands_for h all (S.left input.new) machine.new before (C.moments clock.new) start (K.held out.new) s) }
+    requires fits { T.fits turner.now state.old }
+    requires waits { session.old.waiting ≡ Nothing }
+    ensures fits { T.fits turner.now state.new }
+    ensures goes_on { result ≡ None → RunsOn (T.made turner.now) state.old (S.left input.old) session.old (C.moments clock.old) (K.held out.old)
+        state.new (S.left input.new) session.new (C.moments clock.new) (K.held out.new) }
+    ensures ended { IfSome result (RunsOut (T.made turner.now) state.old (S.left input.old) session.old (C.moments clock.old) (K.held out.old)
+        state.new (S.left input.new) (C.moments clock.new) (K.held out.new)) }
     ensures waits { result ≡ None → session.new.waiting ≡ Nothing }
     ensures less { result ≡ None → work session.new < work session.old }
     ensures source_later { S.faults input.old ≤ S.faults input.new }
@@ -42,40 +41,41 @@ fn step<M: Machine, S: Source, K: Sink, C: Clock>(
     ensures kinds { IfSome result IsAnswerStatus }
 {
     first_part();
-    match session.next(alloc) {
-        Ok(Some(what)) => match make_turn(alloc, machine, session, clock, what) {
-            Ok(()) => None,
+    match session.next() {
+        Ok(Some(what)) => match make_turn(turner, state, session, clock, what) {
+            Ok(()) => match write_early(session, out) {
+                Ok(()) => None,
+                Err(status) => Some(status),
+            },
             Err(_) => Some(Status::Memory),
         },
-        Ok(None) => exchange(session, input, out),
+        Ok(None) => exchange(session, input, out, room),
         Err(_) => Some(Status::Memory),
     }
 }
 
-/// Serves one connection: its bytes fall into requests (RFC 9112), whose commands become turns of the machine by
-/// actor 0, each at the moment that the clock gives for it, and the responses are written. Done: the bytes ended at
-/// the boundary of two requests, or after one that closes the connection. Cut: they ended inside a request. Refused:
-/// a head was refused, and the response says with which status. Read, Write: the source or the sink failed. Memory:
-/// want of memory.
-pub fn serve_lone<M: Machine, S: Source, K: Sink, C: Clock>(
+/// Serves one connection: its bytes fall into requests (RFC 9112), whose commands become turns, each at the moment that
+/// the clock gives for it, and the responses are written.
+pub fn serve<T: Turner, S: Source, K: Sink, C: Clock>(
     alloc: Global,
-    machine: &mut M,
+    turner: &T,
+    state: &mut T::State,
     input: &mut S,
     out: &mut K,
     clock: &mut C,
 ) -> Status
-    // The turns of the connection follow the machine's old history, and the machine stands for just these. Over a
-    // source that tells its bytes, the commands, the text and the end are those of the bytes.
-    ensures served { (h : List Turn) → M.stands_for machine.old h
-        → (served : Served h (S.left input.old) (S.left input.new) (C.moments clock.old) (C.moments clock.new) (K.held out.old) (K.held out.new) result)
-        × M.stands_for machine.new (followed h (turns_of served)) }
+    requires { T.fits turner.now state.old }
+    ensures fits { T.fits turner.now state.new }
+    ensures ended { Ended (MadeFrom (T.made turner.now) state.old state.new)
+        (S.left input.old) (S.left input.new) (C.moments clock.old) (C.moments clock.new) (K.held out.old) (K.held out.new) result }
     ensures read { result ≡ Status.Read → Rose (S.faults input.old) (S.faults input.new) }
     ensures write { result ≡ Status.Write → Rose (K.faults out.old) (K.faults out.new) }
     ensures kinds { IsAnswerStatus result }
 {
     let mut session = Session::new(alloc);
+    let mut room = [0u8; PIECE_BYTES];
     loop {
-        match step(alloc, machine, &mut session, input, out, clock) {
+        match step(turner, state, &mut session, input, out, clock, &mut room) {
             None => {}
             Some(status) => return status,
         }
