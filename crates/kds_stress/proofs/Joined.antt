@@ -1,0 +1,42 @@
+-- A pass into which the passes with the numbers from one on were joined.
+use Rattle.std.proofs.Common.{◌≡◌, ℕ, ◌+◌, ◌<◌, ◌≤◌, Bool, cond, List, [], ◌∷◌, ◌++◌, sym, ap, ◌∙◌, subst, arith, eq-eqb, length, length-append}
+use mathlib.Core.Logic.{dite}
+use native.Mathlib.Decide.{ℕ_discrete}
+use Rattle.std.specs.List.{All}
+use Rattle.std.proofs.lemmas.List.{get_or_append_left}
+use Rattle.atomic_table.specs.Seated.{TableId}
+use Rattle.kds_turn.specs.declared.view.Account.{Account}
+use Rattle.kds_turn.specs.Known.{has, times, account}
+use Rattle.kds_turn.specs.Passes.{Standing, accounts_of, HasAll}
+
+-- it has all numbers from `least` to `last`
+abbrev pub HasFrom : ℕ → ℕ → Standing → Type 0
+HasFrom least last p = (n : ℕ) → least ≤ n → n ≤ last → 0 < times n (accounts_of p)
+
+has_one : (n : ℕ) (a : Account) → a.by ≡ n → has n a ≡ 1
+has_one n a e = ap (λ (b : Bool). cond b 1 0) (eq-eqb a.by n e)
+
+times_append : (n : ℕ) (xs ys : List Account) → times n (xs ++ ys) ≡ times n xs + times n ys
+times_append n [] ys = omega arith
+times_append n (x ∷ xs) ys = let e = times_append n xs ys in omega arith
+
+pub has_last : (last : ℕ) (p : Standing) → last ≡ p.by → HasFrom last last p
+has_last last p e = λ n a b. let one = has_one n (account p.by p.own) (omega (arith, e, a, b)) in omega (arith, one)
+
+pub has_more : (least by last : ℕ) (p q r : Standing) → by + 1 ≡ least → q.by ≡ by → r.by ≡ p.by → r.joined ≡ p.joined ++ accounts_of q → HasFrom least last p → HasFrom by last r
+has_more least by last p q r e f same joined from = λ n a b.
+    let all : times n r.joined ≡ times n p.joined + times n (accounts_of q) = ap (times n) joined ∙ times_append n p.joined (accounts_of q) in
+    let own : has n (account r.by r.own) ≡ has n (account p.by p.own) = ap (λ (k : ℕ). has n (account k [])) same in
+    dite (ℕ_discrete by n)
+    (λ is. let one = has_one n (account q.by q.own) (f ∙ is) in omega (arith, all, own, one))
+    (λ ne. let before = from n (omega (arith, e, a, ne)) b in omega (arith, all, own, before))
+
+pub has_all_from : (last : ℕ) (p : Standing) → HasFrom 1 last p → HasAll last p
+has_all_from last p from = λ n a b. from n (omega (arith, a)) b
+
+-- the passes before the last one are of the hall as well
+pub all_front : (id : TableId) (all xs : List Standing) (x : Standing) → all ≡ xs ++ x ∷ [] → All (λ p. p.hall ≡ id) all → All (λ p. p.hall ≡ id) xs
+all_front id all xs x e of = λ k d below.
+    let longer : k < length (xs ++ x ∷ []) = omega (arith, below, length-append xs (x ∷ [])) in
+    let h = subst (λ (l : List Standing). All (λ p. p.hall ≡ id) l) e of k d longer in
+    ap (λ (p : Standing). p.hall) (sym (get_or_append_left xs (x ∷ []) d k below)) ∙ h

@@ -1,0 +1,112 @@
+//! The records of the closed machine.
+
+use crate::commands::{SHARDS, put, read};
+use kcl_world::World;
+use kds_base::{Items, Memory, Moment, read_u64};
+use kds_defs::{Answer, Command, Machine, Reply, Stored, Turn};
+use std::alloc::Global;
+
+/// The most records of a read.
+const MOST: u32 = 10_000;
+
+/// Which round each pass's next record is of.
+#[derive(Drop)]
+struct Next {
+    rounds: Vec<u32>,
+}
+
+/// Whether a record is the one that its pass put in a round.
+fn is_put(alloc: Global, record: &Stored, by: u32, round: u32) -> Result<bool, Memory> {
+    match put(alloc, by, round)? {
+        Command::Put { name: _, item } => {
+            Ok(
+                record.key.as_slice() == item.key.as_slice()
+                    && record.payload.as_slice() == item.payload.as_slice(),
+            )
+        }
+        _ => Ok(false),
+    }
+}
+
+/// The number of the pass that put a record.
+fn pass_of(record: &Stored) -> Option<u32> {
+    let by = read_u64(record.key.as_slice())?;
+    u32::try_from(by).ok()
+}
+
+impl Next {
+    /// Goes past a record, where it is the next one of its pass.
+    fn go_past(&mut self, alloc: Global, record: &Stored) -> Result<bool, Memory> {
+        let Some(by) = pass_of(record) else {
+            return Ok(false);
+        };
+        let Some(next) = self.rounds.as_mut_slice().get_mut(by as usize) else {
+            return Ok(false);
+        };
+        let round = *next;
+        *next = round.saturating_add(1);
+        is_put(alloc, record, by, round)
+    }
+}
+
+/// The records of an answer, and where reading goes on.
+fn records_of(answer: Answer) -> Option<(Items<Stored>, u64)> {
+    match answer {
+        Ok(
+            Reply::Records {
+                batch,
+                next,
+                behind: _,
+                children: _,
+            },
+        ) => match next {
+            Some(after) => Some((batch, after.position)),
+            None => None,
+        },
+        _ => None,
+    }
+}
+
+/// Reads a shard, and goes past its records. The answer is whether each was the next one of its pass.
+fn read_shard(
+    alloc: Global,
+    world: &mut World,
+    shard: u64,
+    next: &mut Next,
+) -> Result<bool, Memory> {
+    let now = Moment::new(1_000_000).unwrap();
+    let mut position = 0u64;
+    for _ in 0..u32::MAX {
+        let turn = Turn {
+            by: 0,
+            at: now,
+            what: read(shard, position, MOST, now),
+        };
+        let Some((batch, position_after)) = records_of(world.apply(turn)?) else {
+            return Ok(false);
+        };
+        if batch.as_slice().is_empty() {
+            return Ok(true);
+        }
+        for record in batch.as_slice() {
+            if !next.go_past(alloc, record)? {
+                return Ok(false);
+            }
+        }
+        position = position_after;
+    }
+    Ok(false)
+}
+
+/// Whether the records are, of each pass with a number from 1 to the last, those of its rounds, each once and in order.
+pub fn is_sound(alloc: Global, world: &mut World, last: u32, rounds: u32) -> Result<bool, Memory> {
+    let mut next = Next {
+        rounds: vec![in alloc; 0u32; last as usize + 1]?,
+    };
+    for shard in 0..SHARDS {
+        if !read_shard(alloc, world, shard, &mut next)? {
+            return Ok(false);
+        }
+    }
+    Ok(next.rounds.iter().skip(1).all(|n| *n == rounds))
+}

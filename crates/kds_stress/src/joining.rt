@@ -1,0 +1,30 @@
+//! All passes, taken together.
+ghost use Rattle.std.specs.Prelude.{◌≡◌, All, IfSome};
+ghost use Rattle.kds_turn.specs.Passes.{HasAll};
+
+use kcl_world::World;
+use kds_turn::{Hall, Pass};
+
+/// The last pass, with all others joined into it, where they are those with the numbers from 1 to a last one, in their
+/// order.
+pub fn join_all(hall: &Hall<World>, passes: Vec<Pass<World>>, last: u32) -> Option<Pass<World>>
+    requires { All (λ p. p.hall ≡ hall.now.id) passes.items }
+    ensures hall { IfSome result (λ p. p.hall ≡ hall.now.id) }
+    ensures all { IfSome result (HasAll last) }
+{
+    let mut others = passes;
+    let mut joined = others.pop()?;
+    if joined.by() != last {
+        return None;
+    }
+    let mut least = last;
+    while let Some(pass) = others.pop() {
+        let by = pass.by();
+        if by as u64 + 1 != least as u64 {
+            return None;
+        }
+        hall.join(&mut joined, pass);
+        least = by;
+    }
+    if least == 1 { Some(joined) } else { None }
+}

@@ -1,0 +1,68 @@
+//! Many passes of a hall at once, over the machine that the server has: `kds_stress PASSES ROUNDS`. Each pass makes a
+//! turn and then two a round, and the program prints how many turns the closed history has and whether each pass's records are
+//! there once and in order, at first for a turn of each of four passes. `rt run -- 64 30000` makes 3,840,064 turns.
+#![tactic(auto)]
+
+ghost use Rattle.std.specs.Prelude.{◌≤◌, IfSome};
+
+mod checking;
+mod commands;
+mod joining;
+mod play;
+mod run;
+
+use kds_base::read_u64;
+use run::{Outcome, run};
+use std::process::ExitCode;
+use std::{env, io};
+
+/// The number of a word, where it is one from 1 to the greatest.
+fn number(word: Option<String>, most: u64) -> Option<u32>
+    ensures { IfSome result (λ n. 1 ≤ n) }
+{
+    let n = read_u64(word?.as_bytes())?;
+    if 1 <= n && n <= most {
+        u32::try_from(n).ok()
+    } else {
+        None
+    }
+}
+
+/// The two numbers after the program's name: passes, 1 to 64, and rounds, 1 to 1,000,000.
+fn given(rt: &HostRuntime) -> Option<(u32, u32)>
+    ensures { IfSome result (λ n. 1 ≤ n.0) }
+{
+    let mut words = env::args(rt).ok()?;
+    let _name = words.next();
+    let passes = number(words.next(), 64)?;
+    let rounds = number(words.next(), 1_000_000)?;
+    Some((passes, rounds))
+}
+
+/// Prints what so many passes came to. The answer is the exit status.
+fn show(rt: &HostRuntime, passes: u32, outcome: Outcome) -> io::Result<u8> {
+    match outcome {
+        Outcome::Sound { turns } => {
+            println!(rt; "{passes} passes, {turns} turns, each pass's records once and in order")?;
+            Ok(0)
+        }
+        Outcome::Unsound => {
+            println!(rt; "the records are not those that were put")?;
+            Ok(1)
+        }
+        Outcome::OutOfMemory => {
+            println!(rt; "out of memory")?;
+            Ok(6)
+        }
+    }
+}
+
+fn main(rt: HostRuntime) -> io::Result<ExitCode> {
+    let Some((passes, rounds)) = given(&rt) else {
+        println!(rt; "usage: kds_stress PASSES ROUNDS")?;
+        return Ok(ExitCode::from(2));
+    };
+    let first = show(&rt, 4, run(&rt, rt.alloc(), 4, 0))?;
+    let second = show(&rt, passes, run(&rt, rt.alloc(), passes, rounds))?;
+    Ok(ExitCode::from(if first == 0 { second } else { first }))
+}

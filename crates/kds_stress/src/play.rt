@@ -1,0 +1,99 @@
+//! Passes that take turns at once.
+ghost use Rattle.std.specs.Prelude.{◌≡◌, All};
+ghost use Rattle.kds_defs.specs.Lawful.{IsLawfulCommand};
+
+use crate::commands::{create, other, put};
+use kcl_world::World;
+use kds_base::{Memory, Moment};
+use kds_defs::Command;
+use kds_turn::{Hall, Pass};
+use std::alloc::Global;
+use std::sync::Wait;
+use std::thread::{Threads, for_each_mut};
+
+/// Makes one turn.
+fn turn<R: Wait>(
+    rt: &R,
+    hall: &Hall<World>,
+    pass: &mut Pass<World>,
+    now: Moment,
+    what: Command,
+) -> Result<(), Memory>
+    requires hall { pass.old.hall ≡ hall.now.id }
+    requires lawful { IsLawfulCommand what }
+    ensures { pass.new.hall ≡ hall.now.id }
+{
+    match hall.turn(rt, pass, now, what) {
+        Ok(_) => Ok(()),
+        Err(_) => Err(Memory),
+    }
+}
+
+/// Makes the two turns of a round.
+fn round<R: Wait>(
+    rt: &R,
+    alloc: Global,
+    hall: &Hall<World>,
+    pass: &mut Pass<World>,
+    number: u32,
+) -> Result<(), Memory>
+    requires { pass.old.hall ≡ hall.now.id }
+    ensures { pass.new.hall ≡ hall.now.id }
+{
+    let now = Moment::new(number as u64 / 16).unwrap();
+    let record = put(alloc, pass.by(), number)?;
+    turn(rt, hall, pass, now, record)?;
+    turn(rt, hall, pass, now, other(number, now))
+}
+
+/// Makes the stream, where no pass has made it yet, and the turns of so many rounds.
+fn rounds<R: Wait>(
+    rt: &R,
+    alloc: Global,
+    hall: &Hall<World>,
+    pass: &mut Pass<World>,
+    count: u32,
+) -> Result<(), Memory>
+    requires { pass.old.hall ≡ hall.now.id }
+    ensures { pass.new.hall ≡ hall.now.id }
+{
+    let stream = create(alloc)?;
+    turn(rt, hall, pass, Moment::start(), stream)?;
+    for number in 0..count {
+        round(rt, alloc, hall, pass, number)?;
+    }
+    Ok(())
+}
+
+/// Makes the turns of a pass, as far as there is memory.
+fn play_one<R: Wait>(rt: &R, alloc: Global, hall: &Hall<World>, pass: &mut Pass<World>, count: u32)
+    requires { pass.old.hall ≡ hall.now.id }
+    ensures { pass.new.hall ≡ hall.now.id }
+{
+    let _ = rounds(rt, alloc, hall, pass, count);
+}
+
+/// All passes make their turns at once, each in a thread of its own.
+pub fn play<R: Threads + Wait + Sync>(
+    rt: &R,
+    alloc: Global,
+    hall: &Hall<World>,
+    passes: &mut [Pass<World>],
+    count: u32,
+)
+    requires { All (λ p. p.hall ≡ hall.now.id) passes.old }
+    ensures { All (λ p. p.hall ≡ hall.now.id) passes.new }
+{
+    let threads = passes.len();
+    if threads > 0 {
+        for_each_mut(
+            rt,
+            passes,
+            threads,
+            &|_, pass: &mut Pass<World>|
+                requires { pass.now.hall ≡ hall.now.id }
+                ensures { pass.exit.now.hall ≡ hall.entry.now.id }
+            { play_one(rt, alloc, hall, pass, count) },
+        );
+    }
+}
