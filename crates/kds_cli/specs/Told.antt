@@ -3,15 +3,16 @@ use Rattle.std.specs.Prelude.{◌≡◌, ◌⊎◌, ℕ, List, [], ◌++◌, Som
 use Rattle.std.specs.declared.option.Option.{Option}
 use Rattle.std.specs.Io.KnownBytes.{Appends}
 use Rattle.kds_ends.specs.declared.status.Status.{Status}
-use Rattle.kds_ends.specs.declared.status.Status.TheVariants.{Done, BadLine, Read, Write, Memory, TooLong}
+use Rattle.kds_ends.specs.declared.status.Status.TheVariants.{Done, BadLine, Read, Write, Memory, Door, TooLong}
 use Rattle.kds_ends.specs.Causes.{AppendsFront}
 use Rattle.kds_ends.specs.Status.{code_of}
 use Rattle.kds_server.specs.Texts.{IsAnswerStatus}
 use Rattle.kds_server.specs.Serving.{Served}
 use Rattle.kcl_sim.specs.Schedule.{whole, too_long, bad_line, ending, text}
+use Rattle.kds_cli.specs.Answered.{RanSafely}
 use Rattle.kds_cli.specs.declared.words.Task.{Task}
-use Rattle.kds_cli.specs.declared.words.Task.TheVariants.{Replay, Answer}
-use Rattle.kds_cli.specs.Words.{error_text}
+use Rattle.kds_cli.specs.declared.words.Task.TheVariants.{Replay, Answer, Serve}
+use Rattle.kds_cli.specs.Words.{error_text, listening}
 
 -- Of the bytes of a schedule, those that are left, and what the sink held and holds. With Done, BadLine
 -- and TooLong the bytes end so, and the output of the lines before was written. With Read the output of
@@ -41,11 +42,21 @@ pub record Answers (all left moments start held : Option (List ℕ)) (status : S
   pub spent : Option (List ℕ)
   pub served : Served [] all left moments spent start held status
 
+-- What serving a door writes: that it listens, or nothing where it doesn't, or a front of it.
+abbrev pub ServeTells : Status → Option (List ℕ) → Option (List ℕ) → Type 0
+ServeTells Door held now = Appends held now listening ⊎ Appends held now []
+ServeTells Write held now = AppendsFront held now listening
+ServeTells Memory held now = AppendsFront held now listening
+ServeTells _ held now = ⊥
+
 -- How the program ended: this is its exit status, the error output gained its text unless that output's own
--- faults rose, and the end of a replay or a connection is told by the bytes.
+-- faults rose, and the end of a replay or a connection is told by the bytes,
+-- and what was written while a door was served.
 pub record EndsSo (code : ℕ) (task : Option Task) (bytes left moments held now told tells : Option (List ℕ)) (failed : Type 0) : Type 0 where
   pub status : Status
   pub is_code : code ≡ code_of status
   pub error : Appends told tells (error_text status) ⊎ failed
   pub replay : task ≡ Some Replay → IsReplayStatus status × IfSome bytes (λ bs. Tells status bs left held now)
+  pub ran : task ≡ Some Replay → IfSome bytes (λ bs. RanSafely status bs held now)
   pub answer : task ≡ Some Answer → Answers bytes left moments held now status
+  pub serve : (port passes : ℕ) → task ≡ Some (Serve port passes) → ServeTells status held now

@@ -1,23 +1,14 @@
 //! The program: its words, its runs, and the real ends.
 #![tactic(auto)]
 
-#[cfg(test)]
-mod answers;
 mod errors;
-mod feed;
-#[cfg(test)]
-mod lease_rows;
-mod lines;
-mod replay;
-#[cfg(test)]
-mod rows;
 mod runs;
 mod schedule;
 #[cfg(test)]
 mod tests;
 mod words;
 
-use kds_ends::{StdSink, StdSource, SystemClock};
+use kds_ends::{StdSink, StdSource, SystemClock, TcpDoor};
 use std::env;
 use std::process::ExitCode;
 
@@ -41,6 +32,7 @@ fn main(rt: HostRuntime) -> ExitCode {
     let mut out = StdSink::new(rt.stdout());
     let mut err = StdSink::new(rt.stderr());
     let clock = SystemClock::new(rt);
+    let mut door = TcpDoor::new(rt);
     ExitCode::from(runs::run(
         &rt,
         rt.alloc(),
@@ -49,5 +41,6 @@ fn main(rt: HostRuntime) -> ExitCode {
         &mut out,
         &mut err,
         clock,
+        &mut door,
     ))
 }

@@ -1,9 +1,12 @@
 //! Connections, and what is written to each.
+use crate::runs::run;
 use crate::tests::run_on;
-use kds_base::Octets;
-use kds_ends::{Clock, SystemClock};
+use kds_base::{Items, Octets};
+use kds_ends::{Clock, MemDoor, MemSink, MemSource, SystemClock};
 use std::alloc::Global;
+use std::sync::Wait;
 use std::test::Fail;
+use std::thread::Threads;
 
 /// Lists the streams.
 const LIST: &str =
@@ -66,7 +69,7 @@ const CUT: &str = "input ended inside a message\n";
 const REFUSED: &str = "message refused\n";
 
 /// Parts one after another.
-pub fn joined(alloc: Global, parts: [&str; 3]) -> Result<Octets, Fail> {
+fn joined(alloc: Global, parts: [&str; 3]) -> Result<Octets, Fail> {
     let mut all = Octets::new(alloc);
     for part in parts {
         all.extend(part.as_bytes())?;
@@ -103,9 +106,7 @@ fn connections(rt: HostRuntime) -> Result<(), Fail> {
         let out = joined(alloc, out)?;
         for step in [1usize, 7, 4096] {
             let left = run_on(&rt, &["answer"], bytes.as_slice(), step, &[], &[])?;
-            assert_eq!(rt; left.code, code, "by {step}");
-            assert_eq!(rt; left.out.held(), out.as_slice(), "by {step}");
-            assert_eq!(rt; left.err.held(), err.as_bytes(), "by {step}");
+            assert!(rt; left.is(code, out.as_slice(), err), "by {step}");
         }
     }
     Ok(())
@@ -164,7 +165,11 @@ fn refused_heads(rt: HostRuntime) -> Result<(), Fail> {
 }
 
 /// Whether the connection is refused with this status.
-fn is_refused(rt: &HostRuntime, bytes: &[u8], status: &str) -> Result<bool, Fail> {
+fn is_refused<R: Threads + Wait + Sync + AllocGlobal>(
+    rt: &R,
+    bytes: &[u8],
+    status: &str,
+) -> Result<bool, Fail> {
     let out = joined(
         rt.alloc(),
         [
@@ -174,11 +179,7 @@ fn is_refused(rt: &HostRuntime, bytes: &[u8], status: &str) -> Result<bool, Fail
         ],
     )?;
     let left = run_on(rt, &["answer"], bytes, 4096, &[], &[])?;
-    Ok(
-        left.code == 10
-            && left.out.held() == out.as_slice()
-            && left.err.held() == REFUSED.as_bytes(),
-    )
+    Ok(left.is(10, out.as_slice(), REFUSED))
 }
 
 /// A read that fails after the first request, and a first write that fails.
@@ -187,11 +188,9 @@ fn failing_ends(rt: HostRuntime) -> Result<(), Fail> {
     let bytes = joined(rt.alloc(), [CREATE, PUT, ""])?;
     let step = CREATE.len().max(1);
     let left = run_on(&rt, &["answer"], bytes.as_slice(), step, &[2], &[])?;
-    assert_eq!(rt; left.code, 4);
-    assert_eq!(rt; left.out.held(), CREATED.as_bytes());
+    assert!(rt; left.is(4, CREATED.as_bytes(), "read fault\n"));
     let left = run_on(&rt, &["answer"], bytes.as_slice(), 4096, &[], &[1])?;
-    assert_eq!(rt; left.code, 5);
-    assert!(rt; left.out.held().is_empty());
+    assert!(rt; left.is(5, b"", "write fault\n"));
     Ok(())
 }
 
@@ -202,4 +201,33 @@ fn clock_of_the_machine(rt: HostRuntime) {
     let now = clock.now().ms();
     assert!(rt; now > 1_577_836_800_000, "{now}");
     assert!(rt; now < 32_503_680_000_000, "{now}");
+}
+
+/// Two connections of a held door, of which the first is read once the second has written: both are served at once.
+#[test]
+fn served_at_once(rt: HostRuntime) -> Result<(), Fail> {
+    let alloc = rt.alloc();
+    let mut calls = Items::new(alloc);
+    calls.push(Octets::of(alloc, LIST.as_bytes())?)?;
+    calls.push(Octets::of(alloc, LIST.as_bytes())?)?;
+    let mut words = Vec::new(alloc);
+    for word in ["serve", "4567", "3"] {
+        words.push(String::from_str(alloc, word)?)?;
+    }
+    let mut input = MemSource::new(Octets::new(alloc), 1, Items::new(alloc));
+    let mut out = MemSink::new(alloc, 64, 64, Items::new(alloc))?;
+    let mut err = MemSink::new(alloc, 64, 64, Items::new(alloc))?;
+    let clock = SystemClock::new(rt);
+    let mut door = MemDoor::new(alloc, rt, calls, 1024, true)?;
+    let code = run(
+        &rt, alloc, &words, &mut input, &mut out, &mut err, clock, &mut door,
+    );
+    assert_eq!(rt; code, 8);
+    assert_eq!(rt; out.held(), b"listening\n".as_slice());
+    assert_eq!(rt; err.held(), b"door fault\n".as_slice());
+    for place in [0usize, 1] {
+        let written = door.written(alloc, place)?;
+        assert_eq!(rt; written.as_slice(), LISTED.as_bytes(), "of {place}");
+    }
+    Ok(())
 }
