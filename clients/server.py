@@ -1,0 +1,100 @@
+"""The built program as a server for the clients of this folder."""
+import contextlib
+import pathlib
+import select
+import signal
+import socket
+import subprocess
+import time
+
+ROOT = pathlib.Path(__file__).resolve().parent.parent
+JSON = 'application/x-amz-json-1.1'
+
+
+def free_port():
+    with socket.socket() as probe:
+        probe.bind(('127.0.0.1', 0))
+        return probe.getsockname()[1]
+
+
+class Server:
+    """A process of `kds serve`, and where it listens."""
+
+    def __init__(self, members):
+        self.members = members
+        self.port = free_port()
+        self.process = subprocess.Popen(
+            [ROOT / 'kds', 'serve', str(self.port), str(members)],
+            stdin=subprocess.DEVNULL,
+            stdout=subprocess.PIPE,
+            stderr=subprocess.PIPE,
+        )
+        ready, _, _ = select.select([self.process.stdout], [], [], 1200)
+        line = self.process.stdout.readline() if ready else b''
+        if line != b'listening\n':
+            self.process.kill()
+            raise SystemExit(f'the server did not start: {line!r} {self.process.stderr.read()!r}')
+
+    @property
+    def endpoint(self):
+        return f'http://127.0.0.1:{self.port}'
+
+    def connect(self):
+        """A plain connection."""
+        return socket.create_connection(('127.0.0.1', self.port), timeout=30)
+
+    def resident(self):
+        """The bytes of memory that the process has."""
+        status = pathlib.Path(f'/proc/{self.process.pid}/status').read_text()
+        return next(int(line.split()[1]) * 1024 for line in status.splitlines() if line.startswith('VmRSS'))
+
+    def threads(self):
+        return len(list(pathlib.Path(f'/proc/{self.process.pid}/task').iterdir()))
+
+    def stop(self, sign=signal.SIGTERM):
+        """Ends it by a signal, and gives the seconds that it took."""
+        begin = time.monotonic()
+        self.process.send_signal(sign)
+        self.process.wait(30)
+        self.process.stdout.close()
+        self.process.stderr.close()
+        return time.monotonic() - begin
+
+
+@contextlib.contextmanager
+def serving(members):
+    server = Server(members)
+    try:
+        yield server
+    finally:
+        if server.process.poll() is None:
+            server.stop()
+
+
+def request(operation, body, close=False):
+    """The bytes of a request over HTTP/1.1."""
+    head = (
+        f'POST / HTTP/1.1\r\nHost: localhost\r\nX-Amz-Target: Kinesis_20131202.{operation}\r\n'
+        f'Content-Type: {JSON}\r\nContent-Length: {len(body)}\r\n'
+    )
+    return (head + ('Connection: close\r\n' if close else '') + '\r\n').encode() + body
+
+
+def responses(connection, count):
+    """Reads so many responses: pairs of a status and a body."""
+    reader = connection.makefile('rb')
+    found = []
+    for _ in range(count):
+        line = reader.readline()
+        if not line:
+            break
+        length = 0
+        while True:
+            header = reader.readline()
+            if header in (b'\r\n', b''):
+                break
+            name, _, value = header.partition(b':')
+            if name.lower() == b'content-length':
+                length = int(value)
+        found.append((int(line.split()[1]), reader.read(length)))
+    return found

@@ -1,0 +1,211 @@
+"""What clients do that nobody asked for: bytes one by one, connections left half open, garbage, huge heads, wrong
+lengths, thousands of requests at once, resets in mid-answer, readers that stop, more clients than there are places.
+After each a normal client is served, and the memory of the server stays bounded."""
+import json
+import os
+import random
+import select
+import signal
+import socket
+import struct
+import subprocess
+import time
+import unittest
+
+from server import ROOT, Server, free_port, request, responses, serving
+
+MEMBERS = 9
+MEGABYTE = 1 << 20
+LIST = request('ListStreams', b'{}')
+NAMES = b'{"HasMoreStreams":false,"StreamNames":["s"]}'
+
+
+def reset(connection):
+    """Closes a connection so that the other side sees a reset."""
+    connection.setsockopt(socket.SOL_SOCKET, socket.SO_LINGER, struct.pack('ii', 1, 0))
+    connection.close()
+
+
+class Unfriendly(unittest.TestCase):
+    @classmethod
+    def setUpClass(cls):
+        cls.context = serving(members=MEMBERS)
+        cls.server = cls.context.__enter__()
+        with cls.server.connect() as connection:
+            connection.sendall(request('CreateStream', b'{"StreamName":"s","ShardCount":1}'))
+            assert responses(connection, 1) == [(200, b'')]
+
+    @classmethod
+    def tearDownClass(cls):
+        cls.context.__exit__(None, None, None)
+
+    def setUp(self):
+        self.before = self.server.resident()
+
+    def tearDown(self):
+        """A normal client is served, and no memory was kept."""
+        with self.server.connect() as connection:
+            connection.sendall(LIST)
+            self.assertEqual(responses(connection, 1), [(200, NAMES)])
+        self.assertLess(self.server.resident() - self.before, 64 * MEGABYTE)
+
+    def status_of(self, data):
+        with self.server.connect() as connection:
+            connection.sendall(data)
+            connection.shutdown(socket.SHUT_WR)
+            return [status for status, _ in responses(connection, 10)]
+
+    def test_byte_by_byte(self):
+        with self.server.connect() as connection:
+            connection.setsockopt(socket.IPPROTO_TCP, socket.TCP_NODELAY, 1)
+            for byte in LIST:
+                connection.sendall(bytes([byte]))
+            self.assertEqual(responses(connection, 1), [(200, NAMES)])
+
+    def test_half_open(self):
+        held = [self.server.connect() for _ in range(MEMBERS - 1)]
+        for connection in held:
+            connection.sendall(LIST[:-3])
+        for connection in held:
+            connection.sendall(LIST[-3:])
+            self.assertEqual(responses(connection, 1), [(200, NAMES)])
+            connection.close()
+
+    def test_garbage(self):
+        source = random.Random(1)
+        for size in (1, 10, 1000, 100_000):
+            with self.server.connect() as connection:
+                try:
+                    connection.sendall(source.randbytes(size))
+                    connection.shutdown(socket.SHUT_WR)
+                    connection.recv(1000)
+                except ConnectionError:
+                    pass
+        self.assertEqual(self.status_of(b'\x00\x01\x02 / HTTP/1.1\r\n\r\n'), [400])
+        self.assertEqual(self.status_of(b'\x16\x03\x01\x02\x00\x01\x00\x01\xfc\x03\x03'), [400])
+
+    def test_huge_heads(self):
+        head = b'POST / HTTP/1.1\r\n'
+        self.assertEqual(self.status_of(head + b'X: ' + b'y' * 20_000), [431])
+        self.assertEqual(self.status_of(head + b'X: y\r\n' * 65 + b'\r\n'), [400])
+        self.assertEqual(self.status_of(head + b'X: ' + b'y' * 300_000), [431])
+
+    def test_wrong_lengths(self):
+        head = b'POST / HTTP/1.1\r\n'
+        for lines, status in (
+            (b'', 411),
+            (b'Content-Length: x\r\n', 400),
+            (b'Content-Length: -1\r\n', 400),
+            (b'Content-Length: 1\r\nContent-Length: 1\r\n', 400),
+            (b'Content-Length: 99999999999999999999\r\n', 400),
+            (b'Content-Length: 9999999999\r\n', 413),
+            (b'Transfer-Encoding: chunked\r\nContent-Length: 2\r\n', 501),
+        ):
+            self.assertEqual(self.status_of(head + lines + b'\r\n'), [status], lines)
+        self.assertEqual(self.status_of(b'GET / HTTP/1.1\r\nContent-Length: 0\r\n\r\n'), [405])
+        self.assertEqual(self.status_of(b'POST /x HTTP/1.1\r\nContent-Length: 0\r\n\r\n'), [404])
+
+    def test_refused_while_sending(self):
+        """The answer to a refused head reaches a client that is still sending its body."""
+        for _ in range(20):
+            with self.server.connect() as connection:
+                connection.sendall(b'POST / HTTP/1.1\r\nContent-Length: 99999999\r\n\r\n' + b'x' * 200_000)
+                self.assertEqual(responses(connection, 1), [(413, b'')])
+
+    def test_body_that_ends_early(self):
+        self.assertEqual(self.status_of(b'POST / HTTP/1.1\r\nContent-Length: 100\r\n\r\n{'), [])
+
+    def test_ten_thousand_requests_at_once(self):
+        count = 10_000
+        with self.server.connect() as connection:
+            connection.setblocking(False)
+            left, given = memoryview(LIST * count), bytearray()
+            end = time.monotonic() + 60
+            answer = b'Content-Length: %d\r\n\r\n' % len(NAMES) + NAMES
+            while given.count(answer) < count:
+                self.assertLess(time.monotonic(), end)
+                readable, writable, _ = select.select([connection], [connection] if left else [], [], 10)
+                if readable:
+                    piece = connection.recv(1 << 18)
+                    self.assertTrue(piece)
+                    given += piece
+                if writable:
+                    left = left[connection.send(left[: 1 << 16]):]
+
+    def test_resets_in_mid_answer(self):
+        for at in range(0, len(LIST), 7):
+            connection = self.server.connect()
+            connection.sendall(LIST * 3 + LIST[:at])
+            reset(connection)
+        time.sleep(0.2)
+
+    def test_readers_that_stop(self):
+        """Connections that ask for much and read nothing hold one answer and a little more, each."""
+        body = b'{"StreamName":"s","PartitionKey":"a","Data":"%s"}' % (b'QUFB' * 80_000)
+        with self.server.connect() as connection:
+            for _ in range(4):
+                connection.sendall(request('PutRecord', body))
+            self.assertEqual([status for status, _ in responses(connection, 4)], [200] * 4)
+            connection.sendall(request('GetShardIterator',
+                               b'{"StreamName":"s","ShardId":"shardId-000000000000","ShardIteratorType":"TRIM_HORIZON"}'))
+            iterator = json.loads(responses(connection, 1)[0][1])['ShardIterator']
+        ask = request('GetRecords', json.dumps({'ShardIterator': iterator}).encode())
+        before = self.server.resident()
+        held = [self.server.connect() for _ in range(MEMBERS - 2)]
+        for connection in held:
+            connection.settimeout(0.5)
+            try:
+                connection.sendall(ask * 200)
+            except TimeoutError:
+                pass
+        time.sleep(1)
+        self.assertLess(self.server.resident() - before, (MEMBERS - 2) * 8 * MEGABYTE)
+        for connection in held:
+            reset(connection)
+        self.before = before
+
+    def test_more_clients_than_places(self):
+        """Those that find no place wait, and are served as soon as one is free."""
+        held = [self.server.connect() for _ in range(MEMBERS - 1)]
+        for connection in held:
+            connection.sendall(LIST)
+            self.assertEqual(responses(connection, 1), [(200, NAMES)])
+        more = [self.server.connect() for _ in range(20)]
+        for connection in more:
+            connection.sendall(request('ListStreams', b'{}', close=True))
+        for connection in held:
+            connection.close()
+        for connection in more:
+            self.assertEqual(responses(connection, 1), [(200, NAMES)])
+            connection.close()
+
+    def test_threads_end(self):
+        for _ in range(3 * MEMBERS):
+            with self.server.connect() as connection:
+                connection.sendall(LIST)
+                responses(connection, 1)
+        end = time.monotonic() + 10
+        while self.server.threads() > 2 and time.monotonic() < end:
+            time.sleep(0.05)
+        self.assertLessEqual(self.server.threads(), 2)
+
+
+class Ending(unittest.TestCase):
+    def test_signals_end_it_at_once(self):
+        for sign in (signal.SIGINT, signal.SIGTERM):
+            server = Server(3)
+            with server.connect() as connection:
+                connection.sendall(LIST[:20])
+                self.assertLess(server.stop(sign), 5)
+
+    def test_port_in_use(self):
+        with serving(2) as server:
+            done = subprocess.run([ROOT / 'kds', 'serve', str(server.port), '2'], stdin=subprocess.DEVNULL,
+                                  capture_output=True, timeout=60)
+            self.assertEqual((done.returncode, done.stdout, done.stderr), (8, b'', b'door fault\n'))
+
+    def test_words(self):
+        port = str(free_port())
+        for words in (['0', '2'], ['65536', '2'], [port, '0'], [port, '65'], ['0' + port, '2'], [port], [port, '2', 'x']):
+            done = subprocess.run([ROOT / 'kds', 'serve', *words], stdin=subprocess.DEVNULL, capture_output=True, timeout=60)
+            self.assertEqual((done.returncode, done.stdout), (2, b''), words)
