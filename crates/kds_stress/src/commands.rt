@@ -10,8 +10,8 @@ use std::alloc::Global;
 /// How many shards the stream has.
 pub const SHARDS: u64 = 4;
 
-/// A request that is one.
-fn asked(alloc: Global, operation: &str, body: &str) -> Result<Command, Memory>
+/// The command of a request that is one.
+pub fn asked(alloc: Global, operation: &str, body: &str) -> Result<Command, Memory>
     ensures { IfOk result IsLawfulCommand }
 {
     match ask(alloc, operation.as_bytes(), body.as_bytes())? {

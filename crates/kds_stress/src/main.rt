@@ -1,6 +1,6 @@
 //! Many passes of a hall at once, over the machine that the server has: `kds_stress PASSES ROUNDS`. Each pass makes a
 //! turn and then two a round, and the program prints how many turns the closed history has and whether each pass's records are
-//! there once and in order, at first for a turn of each of four passes. `rt run -- 64 30000` makes 3,840,064 turns.
+//! there once and in order. Before that it shows a note between two passes, and a turn of each of four. `rt run -- 64 30000` makes 3,840,064 turns.
 #![tactic(auto)]
 
 ghost use Rattle.std.specs.Prelude.{◌≤◌, IfSome};
@@ -9,9 +9,11 @@ mod checking;
 mod commands;
 mod joining;
 mod play;
+mod relay;
 mod run;
 
 use kds_base::read_u64;
+use relay::relay;
 use run::{Outcome, run};
 use std::process::ExitCode;
 use std::{env, io};
@@ -62,6 +64,12 @@ fn main(rt: HostRuntime) -> io::Result<ExitCode> {
         println!(rt; "usage: kds_stress PASSES ROUNDS")?;
         return Ok(ExitCode::from(2));
     };
+    if let Some(relayed) = relay(&rt, rt.alloc()) {
+        println!(rt;
+            "after a note a second pass reads record {}, {} turns",
+            relayed.number, relayed.turns
+        )?;
+    }
     let first = show(&rt, 4, run(&rt, rt.alloc(), 4, 0))?;
     let second = show(&rt, passes, run(&rt, rt.alloc(), passes, rounds))?;
     Ok(ExitCode::from(if first == 0 { second } else { first }))

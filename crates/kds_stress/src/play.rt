@@ -12,7 +12,7 @@ use std::sync::Wait;
 use std::thread::{Threads, for_each_mut};
 
 /// Makes one turn.
-fn turn<R: Wait>(
+pub fn turn<R: Wait>(
     rt: &R,
     hall: &Hall<World>,
     pass: &mut Pass<World>,
