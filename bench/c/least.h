@@ -195,6 +195,19 @@ static void add_record(struct log *log, struct record record) {
     log->records[log->count++] = record;
 }
 
+/* A record as GetRecords shows it. */
+static char *print_record(char *to, const struct record *r) {
+    to = PRINT(to, "{\"ApproximateArrivalTimestamp\":");
+    to = print_number(to, r->arrival / 1000);
+    to = PRINT(to, ",\"Data\":\"");
+    to = encode(r->bytes + r->key_len, r->payload_len, to);
+    to = PRINT(to, "\",\"PartitionKey\":\"");
+    to = print_text(to, (const char *)r->bytes, r->key_len);
+    to = PRINT(to, "\",\"SequenceNumber\":\"");
+    to = print_number(to, r->seq);
+    return PRINT(to, "\"}");
+}
+
 /* Which of n uniform shards a hash lies in. */
 static unsigned home_of(u128 hash, unsigned n) {
     u128 width = (~(u128)0 - (n - 1)) / n + 1;

@@ -291,16 +291,8 @@ static void get(const char *body, const char *end) {
         to = PRINT(to, "\",\"Records\":[");
     }
     for (size_t i = from; i < last; i++) {
-        struct record *r = &x->log.records[i];
-        to = i > from ? PRINT(to, ",{\"ApproximateArrivalTimestamp\":") : PRINT(to, "{\"ApproximateArrivalTimestamp\":");
-        to = print_number(to, r->arrival / 1000);
-        to = PRINT(to, ",\"Data\":\"");
-        to = encode(r->bytes + r->key_len, r->payload_len, to);
-        to = PRINT(to, "\",\"PartitionKey\":\"");
-        to = print_text(to, (char *)r->bytes, r->key_len);
-        to = PRINT(to, "\",\"SequenceNumber\":\"");
-        to = print_number(to, r->seq);
-        to = PRINT(to, "\"}");
+        if (i > from) *to++ = ',';
+        to = print_record(to, &x->log.records[i]);
         if (to - out > (1 << 23)) flush_out();
     }
     to = PRINT(to, "]}\n");

@@ -142,17 +142,8 @@ static void get(const char *at, const char *end, struct buffer *out) {
     to = encode((unsigned char *)next, (size_t)next_len, to);
     to = PRINT(to, "\",\"Records\":[");
     for (size_t i = 0; i < count; i++) {
-        struct record *r = &batch[i];
         if (i) *to++ = ',';
-        to = PRINT(to, "{\"ApproximateArrivalTimestamp\":");
-        to = print_number(to, r->arrival / 1000);
-        to = PRINT(to, ",\"Data\":\"");
-        to = encode(r->bytes + r->key_len, r->payload_len, to);
-        to = PRINT(to, "\",\"PartitionKey\":\"");
-        to = print_text(to, (char *)r->bytes, r->key_len);
-        to = PRINT(to, "\",\"SequenceNumber\":\"");
-        to = print_number(to, r->seq);
-        to = PRINT(to, "\"}");
+        to = print_record(to, &batch[i]);
     }
     to = PRINT(to, "]}");
     respond(out, body, (size_t)(to - body));
