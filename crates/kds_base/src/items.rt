@@ -29,6 +29,13 @@ impl<T> Items<T> {
         }
     }
 
+    /// The list of a vector's items, moved and not copied.
+    pub fn from_vec(items: Vec<T>) -> Items<T>
+        ensures { result ≡ items.items }
+    {
+        Items { items }
+    }
+
     /// The items in their order.
     pub fn as_slice(&self) -> &[T]
         ensures { result.now ≡ self.now }
