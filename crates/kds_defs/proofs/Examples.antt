@@ -4,8 +4,13 @@ use Rattle.std.proofs.Common.{refl}
 use Rattle.kds_defs.specs.declared.command.Command.{Command}
 use Rattle.kds_defs.specs.declared.command.Command.TheVariants as command
 use Rattle.kds_defs.specs.declared.command.NewItem.{NewItem}
+use Rattle.kds_defs.specs.declared.command.Origin.TheVariants as origin
 use Rattle.kds_defs.specs.declared.command.Start.TheVariants as start
+use Rattle.kds_defs.specs.declared.command.Target.TheVariants as target
 use Rattle.kds_defs.specs.declared.command.Turn.{Turn}
+use Rattle.kds_base.specs.declared.lease_key.Checkpoint.TheVariants as checkpoint
+use Rattle.kds_base.specs.declared.lease_key.ShardRef.{ShardRef}
+use Rattle.kds_defs.specs.declared.reply.Outcome.TheVariants as outcome
 use Rattle.kds_defs.specs.declared.reply.Refusal.TheVariants as refusal
 use Rattle.kds_defs.specs.declared.reply.Reply.TheVariants as reply
 use Rattle.kds_defs.specs.declared.reply.Stored.{Stored}
@@ -139,7 +144,7 @@ service : answers [] (
     ∷ turn 2000 (command.GetIterator name 0 start.Latest)
     ∷ turn 2000 (command.Records (record { stream = 1; shard = 0; position = 0; issued = 2000 }) 1) ∷ [])
     ≡ (Ok reply.Done ∷ Ok reply.Done
-    ∷ Ok (reply.PutMany (record { shard = 0; seq = 1 } ∷ record { shard = 1; seq = 2 } ∷ []))
+    ∷ Ok (reply.PutMany (outcome.Stored (record { shard = 0; seq = 1 }) ∷ outcome.Stored (record { shard = 1; seq = 2 }) ∷ []))
     ∷ Ok (reply.Streams (name ∷ []) true)
     ∷ Ok (reply.Streams (other ∷ []) false)
     ∷ Ok (reply.Summary (record { name = name; made = 1000; hours = 24 }) 2)
@@ -172,3 +177,102 @@ kept_hours : answers [] (
     ∷ Ok (reply.Iterator (record { stream = 1; shard = 0; position = 2; issued = 86401000 })) ∷ [])
 unfolding refuse◌if◌else◌ with◌or◌then◌ turn name item kept
 kept_hours = refl
+
+shard : ℕ → ShardRef
+shard n = record { stream = 1; shard = n }
+
+half : ℕ
+half = 170141183460469231731687303715884105728
+
+-- a row that starts at the latest record, and the row of a child, whose parent is read to its end
+latest : answers [] (
+    turn 1000 (command.Create name 1)
+    ∷ turn 1000 (command.Put name item)
+    ∷ turn 1000 (command.Put name item)
+    ∷ turn 1000 (command.MakeLease (shard 0) origin.Latest)
+    ∷ turn 1000 command.Survey
+    ∷ turn 1000 (command.Take (shard 0) 0 1)
+    ∷ turn 1000 (command.OpenShard 1)
+    ∷ turn 1000 (command.Read 1 3 10)
+    ∷ turn 1000 (command.Put name item)
+    ∷ turn 1000 (command.Read 1 3 10)
+    ∷ turn 1000 (command.Give 1)
+    ∷ turn 1000 (command.Give 1)
+    ∷ turn 1000 (command.Mark 1 1 (target.At 1))
+    ∷ turn 1000 (command.Mark 1 1 (target.At 3))
+    ∷ turn 1000 (command.Split name 0 half)
+    ∷ turn 1000 (command.MakeLease (shard 1) origin.Latest)
+    ∷ turn 1000 (command.Take (shard 1) 0 1) ∷ [])
+    ≡ (Ok reply.Done
+    ∷ Ok (reply.Put (record { shard = 0; seq = 1 }))
+    ∷ Ok (reply.Put (record { shard = 0; seq = 2 }))
+    ∷ Ok (reply.Leased origin.Latest)
+    ∷ Ok (reply.Survey (shard 0 ∷ []) (record { key = shard 0; owner = None; counter = 0; checkpoint = checkpoint.At 2; switches = 0; tenure = 0; floor = 3; parent = None; adjacent = None } ∷ []))
+    ∷ Ok (reply.Taken 1 1 (checkpoint.At 2))
+    ∷ Ok reply.Done
+    ∷ Ok (reply.Read [] 3 false)
+    ∷ Ok (reply.Put (record { shard = 0; seq = 3 }))
+    ∷ Ok (reply.Read (kept 3 1000 ∷ []) 4 false)
+    ∷ Ok (reply.Given 3)
+    ∷ Ok (reply.Given 4)
+    ∷ Err (refusal.Below 2)
+    ∷ Ok (reply.Counter 2)
+    ∷ Ok reply.Done
+    ∷ Ok (reply.Leased origin.TrimHorizon)
+    ∷ Ok (reply.Taken 2 1 checkpoint.TrimHorizon) ∷ [])
+unfolding refuse◌if◌else◌ with◌or◌then◌ turn name item kept shard half
+latest = refl
+
+-- rows that are made after a split: the parent's starts past its end, and its first read ends the shard
+latest_split : answers [] (
+    turn 1000 (command.Create name 1)
+    ∷ turn 1000 (command.Split name 0 half)
+    ∷ turn 1000 (command.MakeLease (shard 0) origin.Latest)
+    ∷ turn 1000 (command.MakeLease (shard 1) origin.Latest)
+    ∷ turn 1000 (command.Take (shard 1) 0 1)
+    ∷ turn 1000 (command.OpenShard 1)
+    ∷ turn 1000 (command.Take (shard 0) 0 1)
+    ∷ turn 1000 (command.OpenShard 2)
+    ∷ turn 1000 (command.Read 2 2 10)
+    ∷ turn 1000 (command.Give 2)
+    ∷ turn 1000 (command.Mark 2 1 target.End)
+    ∷ turn 1000 (command.OpenShard 1) ∷ [])
+    ≡ (Ok reply.Done
+    ∷ Ok reply.Done
+    ∷ Ok (reply.Leased origin.Latest)
+    ∷ Ok (reply.Leased origin.Latest)
+    ∷ Ok (reply.Taken 1 1 (checkpoint.At 1))
+    ∷ Err (refusal.ParentsOpen (shard 0))
+    ∷ Ok (reply.Taken 2 1 (checkpoint.At 1))
+    ∷ Ok reply.Done
+    ∷ Ok (reply.Read [] 2 true)
+    ∷ Ok (reply.Given 2)
+    ∷ Ok (reply.Counter 2)
+    ∷ Ok reply.Done ∷ [])
+unfolding refuse◌if◌else◌ with◌or◌then◌ turn name shard half
+latest_split = refl
+
+-- rows that start at a moment, before and after the records, and the child of a merge, by its adjacent parent
+from_moment : answers [] (
+    turn 1000 (command.Create name 2)
+    ∷ turn 1000 (command.Put name item)
+    ∷ turn 2000 (command.Put name item)
+    ∷ turn 2000 (command.Merge name 1 0)
+    ∷ turn 2000 (command.MakeLease (shard 0) (origin.Time 1500))
+    ∷ turn 2000 (command.MakeLease (shard 1) (origin.Time 1500))
+    ∷ turn 2000 (command.MakeLease (shard 2) (origin.Time 1500))
+    ∷ turn 2000 (command.Take (shard 0) 0 1)
+    ∷ turn 2000 (command.Take (shard 1) 0 1)
+    ∷ turn 2000 (command.Take (shard 2) 0 1) ∷ [])
+    ≡ (Ok reply.Done
+    ∷ Ok (reply.Put (record { shard = 0; seq = 1 }))
+    ∷ Ok (reply.Put (record { shard = 0; seq = 2 }))
+    ∷ Ok reply.Done
+    ∷ Ok (reply.Leased (origin.Time 1500))
+    ∷ Ok (reply.Leased (origin.Time 1500))
+    ∷ Ok (reply.Leased origin.TrimHorizon)
+    ∷ Ok (reply.Taken 1 1 (checkpoint.At 1))
+    ∷ Ok (reply.Taken 2 1 (checkpoint.At 3))
+    ∷ Ok (reply.Taken 3 1 checkpoint.TrimHorizon) ∷ [])
+unfolding refuse◌if◌else◌ with◌or◌then◌ turn name item shard half
+from_moment = refl

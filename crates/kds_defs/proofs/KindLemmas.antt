@@ -49,7 +49,9 @@ own_answers log c by (command.GetIterator name sh from) h =
     found _ _ _ refl (λ s. refused _ _ _ refl (found _ _ _ refl (λ x. refused _ _ _ refl refl)))
 own_answers log c by (command.Records iter limit) h =
     refused _ _ _ refl (refused _ _ _ refl (refused _ _ _ refl (records_own _ _ _ _ _)))
-own_answers log c by (command.Put name item) h = found _ _ _ refl (λ s. refused _ _ _ refl refl)
+own_answers log c by (command.Put name item) h = found _ _ _ refl (λ s. refused _ _ _ refl (refused _ _ _ refl refl))
+own_answers log c by (command.Scale name target) h = found _ _ _ refl (λ s. refused _ _ _ refl (refused _ _ _ refl refl))
+own_answers log c by (command.Enforce name on) h = found _ _ _ refl (λ s. refl)
 own_answers log c by (command.PutMany name items) h = found _ _ _ refl (λ s. refused _ _ _ refl refl)
 own_answers log c by (command.Split name sh at) h =
     found _ _ _ refl (λ s. refused _ _ _ refl (refused _ _ _ refl (refused _ _ _ refl (refused _ _ _ refl (refused _ _ _ refl refl)))))
@@ -94,7 +96,7 @@ of_target log T target.End next rest = refused_lease _ _ _ refl rest
 
 pub lease_answers : (log : Journal) (c by : ℕ) (what : Command) → is_service what ≡ false → IsLeases (decide log c by what)
 lease_answers log c by command.Survey h = refl
-lease_answers log c by (command.MakeLease key) h = refused_lease _ _ _ refl (refused_lease _ _ _ refl refl)
+lease_answers log c by (command.MakeLease key from) h = refused_lease _ _ _ refl (refused_lease _ _ _ refl refl)
 lease_answers log c by (command.Take key counter owner) h =
     found_lease _ _ _ refl (λ r. refused_lease _ _ _ refl (refused_lease _ _ _ refl (refused_lease _ _ _ refl refl)))
 lease_answers log c by (command.Renew t counter) h = of_held log by t _ (λ T. refused_lease _ _ _ refl (refused_lease _ _ _ refl refl))

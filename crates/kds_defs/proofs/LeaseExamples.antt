@@ -5,6 +5,7 @@ use Rattle.kds_base.specs.declared.lease_key.ShardRef.{ShardRef}
 use Rattle.kds_base.specs.declared.lease_key.Checkpoint.TheVariants as checkpoint
 use Rattle.kds_defs.specs.declared.command.Command.{Command}
 use Rattle.kds_defs.specs.declared.command.Command.TheVariants as command
+use Rattle.kds_defs.specs.declared.command.Origin.TheVariants as origin
 use Rattle.kds_defs.specs.declared.command.Target.TheVariants as target
 use Rattle.kds_defs.specs.declared.command.NewItem.{NewItem}
 use Rattle.kds_defs.specs.declared.command.Turn.{Turn}
@@ -37,14 +38,14 @@ begun =
     turn 0 3000 (command.Create name 1)
     ∷ turn 0 3000 (command.Put name item)
     ∷ turn 0 3000 (command.Put name item)
-    ∷ turn 1 3000 (command.MakeLease (key 0)) ∷ []
+    ∷ turn 1 3000 (command.MakeLease (key 0) origin.TrimHorizon) ∷ []
 
 begun_so : List (Result Reply Refusal)
 begun_so =
     Ok reply.Done
     ∷ Ok (reply.Put (record { shard = 0; seq = 1 }))
     ∷ Ok (reply.Put (record { shard = 0; seq = 2 }))
-    ∷ Ok reply.Done ∷ []
+    ∷ Ok (reply.Leased origin.TrimHorizon) ∷ []
 
 -- the lease is taken away from a worker that reads
 robbed : List Turn
@@ -111,9 +112,9 @@ order_of_marks = refl
 two_parents : answers [] (
     turn 0 4000 (command.Create name 2)
     ∷ turn 0 4000 (command.Merge name 0 1)
-    ∷ turn 3 4000 (command.MakeLease (key 0))
-    ∷ turn 3 4000 (command.MakeLease (key 1))
-    ∷ turn 3 4000 (command.MakeLease (key 2))
+    ∷ turn 3 4000 (command.MakeLease (key 0) origin.TrimHorizon)
+    ∷ turn 3 4000 (command.MakeLease (key 1) origin.TrimHorizon)
+    ∷ turn 3 4000 (command.MakeLease (key 2) origin.TrimHorizon)
     ∷ turn 3 4000 (command.Take (key 2) 0 3)
     ∷ turn 3 4000 (command.OpenShard 1)
     ∷ turn 1 4000 (command.Take (key 0) 0 1)
@@ -128,7 +129,7 @@ two_parents : answers [] (
     ∷ turn 1 4000 (command.Give 3)
     ∷ turn 1 4000 (command.Mark 3 1 target.End)
     ∷ turn 3 4000 (command.OpenShard 1) ∷ [])
-    ≡ (Ok reply.Done ∷ Ok reply.Done ∷ Ok reply.Done ∷ Ok reply.Done ∷ Ok reply.Done
+    ≡ (Ok reply.Done ∷ Ok reply.Done ∷ Ok (reply.Leased origin.TrimHorizon) ∷ Ok (reply.Leased origin.TrimHorizon) ∷ Ok (reply.Leased origin.TrimHorizon)
     ∷ Ok (reply.Taken 1 1 checkpoint.TrimHorizon)
     ∷ Err (refusal.ParentsOpen (key 0))
     ∷ Ok (reply.Taken 2 1 checkpoint.TrimHorizon)
@@ -150,14 +151,14 @@ two_parents = refl
 expired_parent : answers [] (
     turn 0 4000 (command.Create name 2)
     ∷ turn 0 4000 (command.Merge name 0 1)
-    ∷ turn 3 4000 (command.MakeLease (key 1))
-    ∷ turn 3 4000 (command.MakeLease (key 2))
+    ∷ turn 3 4000 (command.MakeLease (key 1) origin.TrimHorizon)
+    ∷ turn 3 4000 (command.MakeLease (key 2) origin.TrimHorizon)
     ∷ turn 3 4000 (command.CutLease (key 1) 0)
     ∷ turn 3 4000 (command.Take (key 2) 0 3)
     ∷ turn 3 4000 (command.OpenShard 1)
     ∷ turn 3 86404000 (command.OpenShard 1)
     ∷ turn 3 86404000 (command.CutLease (key 1) 0) ∷ [])
-    ≡ (Ok reply.Done ∷ Ok reply.Done ∷ Ok reply.Done ∷ Ok reply.Done
+    ≡ (Ok reply.Done ∷ Ok reply.Done ∷ Ok (reply.Leased origin.TrimHorizon) ∷ Ok (reply.Leased origin.TrimHorizon)
     ∷ Err refusal.ShardListed
     ∷ Ok (reply.Taken 1 1 checkpoint.TrimHorizon)
     ∷ Err (refusal.ParentsOpen (key 0))
@@ -170,13 +171,13 @@ expired_parent = refl
 read_trim_give : answers [] (
     turn 0 1000 (command.Create name 1)
     ∷ turn 0 1000 (command.Put name item)
-    ∷ turn 1 1000 (command.MakeLease (key 0))
+    ∷ turn 1 1000 (command.MakeLease (key 0) origin.TrimHorizon)
     ∷ turn 1 1000 (command.Take (key 0) 0 1)
     ∷ turn 1 1000 (command.OpenShard 1)
     ∷ turn 1 1000 (command.Read 1 0 10)
     ∷ turn 1 86401000 (command.Give 1)
     ∷ turn 1 86401000 (command.Mark 1 1 (target.At 1)) ∷ [])
-    ≡ (Ok reply.Done ∷ Ok (reply.Put (record { shard = 0; seq = 1 })) ∷ Ok reply.Done
+    ≡ (Ok reply.Done ∷ Ok (reply.Put (record { shard = 0; seq = 1 })) ∷ Ok (reply.Leased origin.TrimHorizon)
     ∷ Ok (reply.Taken 1 1 checkpoint.TrimHorizon)
     ∷ Ok reply.Done
     ∷ Ok (reply.Read (kept 1 1000 ∷ []) 2 false)

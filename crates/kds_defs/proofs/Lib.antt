@@ -4,3 +4,6 @@ pub mod LeaseExamples
 pub mod Numbers
 pub mod Tiles
 pub mod KindLemmas
+pub mod Homes
+pub mod ScalingExamples
+pub mod ThroughputExamples

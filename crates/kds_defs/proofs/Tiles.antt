@@ -141,7 +141,7 @@ ordered_uniform w a zero i start wide fits = (omega (arith, fits), tt)
 ordered_uniform w a (suc n) i start wide fits = (omega (arith, wide), ordered_uniform w (a + w) n (i + 1) start wide (omega (arith, fits)))
 
 -- a positive width, of which n fit
-width_fits : (n w r : ℕ) → suc n * w + r ≡ 2 ^ 128 → r < suc n → suc n ≤ 500 → (0 < w) × (0 + n * w ≤ last_key)
+pub width_fits : (n w r : ℕ) → suc n * w + r ≡ 2 ^ 128 → r < suc n → suc n ≤ 500 → (0 < w) × (0 + n * w ≤ last_key)
 width_fits n zero r e lt le = absurd (omega arith)
 width_fits n (suc w) r e lt le = (omega arith, omega arith)
 

@@ -10,7 +10,9 @@ use Rattle.kds_defs.specs.Decision.{Decision, Refused, Accepted, with◌or◌the
 use Rattle.kds_defs.specs.Journal.{Line, Journal, with_lines}
 use Rattle.kds_defs.specs.LeaseCommands.{survey, make_lease, take_lease, renew, free, open_shard, read, give, mark, cut_lease}
 use Rattle.kds_defs.specs.Listings.{streams, describe, summary, list_shards, more, get_iterator, get_records}
-use Rattle.kds_defs.specs.StreamCommands.{create, delete, put, put_many, split, merge, keep}
+use Rattle.kds_defs.specs.StreamCommands.{create, delete, split, merge, keep}
+use Rattle.kds_defs.specs.PutCommands.{enforce, put, put_many}
+use Rattle.kds_defs.specs.ScaleCommands.{scale_stream}
 use Rattle.kds_defs.specs.Streams.{stream_named}
 
 -- what follows where a live stream has the name
@@ -33,8 +35,10 @@ decide log c by (command.PutMany name items) = with_stream log name λ s. put_ma
 decide log c by (command.Split name sh at) = with_stream log name λ s. split log c by s sh at
 decide log c by (command.Merge name sh other) = with_stream log name λ s. merge log c by s sh other
 decide log c by (command.Keep name wanted raise) = with_stream log name λ s. keep log c by s wanted raise
+decide log c by (command.Scale name target) = with_stream log name λ s. scale_stream log c by name s target
+decide log c by (command.Enforce name on) = with_stream log name λ s. enforce log c by s on
 decide log c by command.Survey = survey log c
-decide log c by (command.MakeLease key) = make_lease log c by key
+decide log c by (command.MakeLease key from) = make_lease log c by key from
 decide log c by (command.Take key counter owner) = take_lease log c by key counter owner
 decide log c by (command.Renew t counter) = renew log c by t counter
 decide log c by (command.Free t counter) = free log c by t counter

@@ -10,7 +10,7 @@ use Rattle.kds_defs.specs.declared.reply.Reply.TheVariants as reply
 -- the command asks for streams, shards or records, and not for leases
 abbrev pub is_service : Command → Bool
 is_service command.Survey = false
-is_service (command.MakeLease key) = false
+is_service (command.MakeLease key from) = false
 is_service (command.Take key counter owner) = false
 is_service (command.Renew tenure counter) = false
 is_service (command.Free tenure counter) = false
@@ -30,6 +30,8 @@ is_change (command.PutMany name items) = true
 is_change (command.Split name sh at) = true
 is_change (command.Merge name sh other) = true
 is_change (command.Keep name hours raise) = true
+is_change (command.Scale name target) = true
+is_change (command.Enforce name on) = true
 is_change _ = false
 
 -- it reads them
@@ -46,6 +48,7 @@ is_counted _ = false
 
 abbrev pub is_service_reply : Reply → Bool
 is_service_reply (reply.Survey shards rows) = false
+is_service_reply (reply.Leased from) = false
 is_service_reply (reply.Taken tenure counter start) = false
 is_service_reply (reply.Counter counter) = false
 is_service_reply (reply.Read batch reach ended) = false
@@ -65,6 +68,7 @@ is_service_refusal refusal.PageExpired = true
 is_service_refusal refusal.BadRetention = true
 is_service_refusal refusal.Full = true
 is_service_refusal refusal.Spent = true
+is_service_refusal (refusal.Throttled sh) = true
 is_service_refusal _ = false
 
 -- an answer that a command to the service may get
@@ -75,6 +79,7 @@ is_service_answer (Err r) = is_service_refusal r
 abbrev pub is_lease_reply : Reply → Bool
 is_lease_reply reply.Done = true
 is_lease_reply (reply.Survey shards rows) = true
+is_lease_reply (reply.Leased from) = true
 is_lease_reply (reply.Taken tenure counter start) = true
 is_lease_reply (reply.Counter counter) = true
 is_lease_reply (reply.Read batch reach ended) = true

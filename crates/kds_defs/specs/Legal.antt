@@ -10,7 +10,8 @@ use Rattle.kds_defs.specs.Journal.{Line, Journal}
 use Rattle.kds_defs.specs.LeaseCommands.{make_lease, take_lease, renew, free, open_shard, read, give, mark, cut_lease}
 use Rattle.kds_defs.specs.Leases.{TenureState, tenure, reach}
 use Rattle.kds_defs.specs.Lawful.{IsShardCount, IsRetention}
-use Rattle.kds_defs.specs.StreamCommands.{create, delete, put, split, merge, keep}
+use Rattle.kds_defs.specs.StreamCommands.{create, delete, split, merge, keep}
+use Rattle.kds_defs.specs.PutCommands.{enforce, put}
 use Rattle.kds_defs.specs.Streams.{is_live, hours}
 
 -- what follows where the stream of this number is live
@@ -30,11 +31,12 @@ reach_in (Some T) = reach T
 abbrev pub told : Journal → Line → Entry → Decision
 told log line (entry.Made s name count) = create log line.clock line.by name count
 told log line (entry.Gone s) = in_stream log s (delete log line.clock line.by s)
-told log line (entry.Put s sh number hash bytes) = in_stream log s (put log line.clock line.by s (item_of line hash))
+told log line (entry.Put s sh number hash bytes key_bytes) = in_stream log s (put log line.clock line.by s (item_of line hash))
 told log line (entry.Split s sh at number low high) = in_stream log s (split log line.clock line.by s sh at)
 told log line (entry.Merged s sh other number child) = in_stream log s (merge log line.clock line.by s sh other)
 told log line (entry.Kept s wanted) = in_stream log s (keep log line.clock line.by s wanted (not (nat_lt wanted (hours log s))))
-told log line (entry.LeaseMade key) = make_lease log line.clock line.by key
+told log line (entry.Enforced s on) = in_stream log s (enforce log line.clock line.by s on)
+told log line (entry.LeaseMade key from) = make_lease log line.clock line.by key from
 told log line (entry.Taken key t counter owner) = take_lease log line.clock line.by key (counter - 1) owner
 told log line (entry.Renewed t counter) = renew log line.clock line.by t (counter - 1)
 told log line (entry.Freed t counter) = free log line.clock line.by t (counter - 1)
@@ -47,7 +49,7 @@ told log line (entry.LeaseCut key counter) = cut_lease log line.clock line.by ke
 -- the numbers of an entry lie in their ranges
 abbrev pub IsInRange : Entry → Type 0
 IsInRange (entry.Made s name count) = IsShardCount count
-IsInRange (entry.Put s sh number hash bytes) = hash < 2 ^ 128
+IsInRange (entry.Put s sh number hash bytes key_bytes) = hash < 2 ^ 128
 IsInRange (entry.Kept s wanted) = IsRetention wanted
 IsInRange _ = Unit {0}
 

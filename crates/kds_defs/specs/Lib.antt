@@ -4,6 +4,7 @@ pub mod Values
 pub mod Records
 pub mod Shards
 pub mod Keys
+pub mod Origins
 pub mod Leases
 pub mod Decision
 pub mod StreamCommands
@@ -17,3 +18,7 @@ pub mod Legal
 pub mod Safe
 pub mod Tiled
 pub mod Requests
+pub mod Scaling
+pub mod Rates
+pub mod ScaleCommands
+pub mod PutCommands

@@ -10,7 +10,7 @@ use Rattle.kds_defs.specs.Streams.{is_live, trim_floor}
 
 -- how many numbers of a stream a line draws: a put, a split and a merge draw one each
 abbrev pub draws : Entry → ℕ → ℕ
-draws (entry.Put stream shard seq hash bytes) s = if stream == s then 1 else 0
+draws (entry.Put stream shard seq hash bytes key_bytes) s = if stream == s then 1 else 0
 draws (entry.Split stream shard at seq low high) s = if stream == s then 1 else 0
 draws (entry.Merged stream shard other seq child) s = if stream == s then 1 else 0
 draws _ s = 0
@@ -20,7 +20,7 @@ abbrev pub next_number : Journal → ℕ → ℕ
 next_number [] s = 1
 next_number (line ∷ log) s = draws line.what s + next_number log s
 
--- a record of a shard: its number, its arrival, the bytes of its payload, and the record itself
+-- a record of a shard: its number, its arrival, the bytes of its payload and key together, and the record itself
 pub record Logged : Type 0 where
   pub seq : ℕ
   pub arrival : ℕ
@@ -32,15 +32,15 @@ pub record Logged : Type 0 where
 abbrev pub stored : Logged → Stored
 stored r = record { seq = r.seq; arrival = r.arrival; key = r.key; payload = r.payload }
 
--- a stored record, with its payload's bytes counted
+-- a stored record, with the bytes of its payload and key counted
 abbrev pub logged : Stored → Logged
-logged r = record { seq = r.seq; arrival = r.arrival; bytes = length r.payload; key = r.key; payload = r.payload }
+logged r = record { seq = r.seq; arrival = r.arrival; bytes = length r.payload + length r.key; key = r.key; payload = r.payload }
 
 -- the records of a shard in order (Kinesis API Reference, Record)
 abbrev pub records_after : Line → Entry → ℕ → ℕ → List Logged → List Logged
-records_after line (entry.Put stream shard seq hash bytes) s sh before =
+records_after line (entry.Put stream shard seq hash bytes key_bytes) s sh before =
     if (stream == s) && (shard == sh)
-    then before ++ (record { seq = seq; arrival = line.clock; bytes = bytes; key = line.key; payload = line.payload } ∷ [])
+    then before ++ (record { seq = seq; arrival = line.clock; bytes = bytes + key_bytes; key = line.key; payload = line.payload } ∷ [])
     else before
 records_after line _ s sh before = before
 
@@ -57,7 +57,7 @@ is_left floor position r = not (nat_lt r.arrival floor) && nat_le position r.seq
 abbrev pub left_among : ℕ → ℕ → List Logged → List Logged
 left_among floor position rs = filter (is_left floor position) rs
 
--- the longest beginning of at most so many records and so many payload bytes
+-- the longest beginning of at most so many records and so many payload and key bytes
 abbrev pub beginning : ℕ → ℕ → List Logged → List Logged
 beginning zero room rs = []
 beginning (suc limit) room [] = []

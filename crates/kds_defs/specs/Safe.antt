@@ -45,7 +45,7 @@ pub record IsHome (log : Journal) (s k sh : ℕ) : Type 0 where
 
 -- a put stands in the home of its hash, and puts, splits and merges draw the next number
 abbrev pub IsPlaced : Journal → Entry → Type 0
-IsPlaced log (entry.Put s sh number hash bytes) = IsHome log s hash sh × (number ≡ next_number log s)
+IsPlaced log (entry.Put s sh number hash bytes key_bytes) = IsHome log s hash sh × (number ≡ next_number log s)
 IsPlaced log (entry.Split s sh at number low high) = number ≡ next_number log s
 IsPlaced log (entry.Merged s sh other number child) = number ≡ next_number log s
 IsPlaced log _ = Unit {0}
@@ -137,19 +137,25 @@ pub record IsDelivered (log : Journal) (key : ShardRef) (n : ℕ) : Type 0 where
   pub of_key : state.key ≡ key
   pub given : IsRead n (given_reads state)
 
--- each record of the key's shard below this place was delivered or is trimmed
+-- the record was delivered or is trimmed
 abbrev pub IsSettled : Journal → ℕ → ShardRef → Logged → Type 0
 IsSettled log c key r = IsDelivered log key r.seq ⊎ (is_trimmed log c key.stream r.arrival ≡ true)
 
-abbrev pub SettledBelow : Journal → ℕ → ShardRef → ℕ → Type 0
-SettledBelow log c key place =
-    AllByRecursion (λ r. r.seq < place → IsSettled log c key r) (records log key.stream key.shard)
+-- each record of the key's shard from the floor on and below this place is so
+abbrev pub SettledBetween : Journal → ℕ → ShardRef → ℕ → ℕ → Type 0
+SettledBetween log c key floor place =
+    AllByRecursion (λ r. floor ≤ r.seq → r.seq < place → IsSettled log c key r) (records log key.stream key.shard)
 
--- each record at or below the checkpoint was delivered or is trimmed
-abbrev pub IsCovered : Journal → ℕ → ShardRef → Checkpoint → Type 0
-IsCovered log c key TrimHorizon = Unit {0}
-IsCovered log c key (At q) = SettledBelow log c key (q + 1)
-IsCovered log c key ShardEnd = AllByRecursion (IsSettled log c key) (records log key.stream key.shard)
+-- each record from the floor on
+abbrev pub SettledFrom : Journal → ℕ → ShardRef → ℕ → Type 0
+SettledFrom log c key floor =
+    AllByRecursion (λ r. floor ≤ r.seq → IsSettled log c key r) (records log key.stream key.shard)
+
+-- each record from the floor on, at or below the checkpoint, was delivered or is trimmed
+abbrev pub IsCovered : Journal → ℕ → ShardRef → ℕ → Checkpoint → Type 0
+IsCovered log c key floor TrimHorizon = Unit {0}
+IsCovered log c key floor (At q) = SettledBetween log c key floor (q + 1)
+IsCovered log c key floor ShardEnd = SettledFrom log c key floor
 
 abbrev pub all_numbers : List ReadDone → List ℕ
 all_numbers [] = []
@@ -161,7 +167,7 @@ RiseFrom place [] = Unit {0}
 RiseFrom place (n ∷ ns) = (place ≤ n) × RiseFrom (n + 1) ns
 
 pub record AreCovered (log : Journal) (c : ℕ) : Type 0 where
-  pub rows : (key : ShardRef) (r : Row) → row log key ≡ Some r → IsCovered log c key r.checkpoint
+  pub rows : (key : ShardRef) (r : Row) → row log key ≡ Some r → IsCovered log c key r.floor r.checkpoint
   pub reads_rise : (t : ℕ) (T : TenureState) → tenure log t ≡ Some T → RiseFrom 0 (all_numbers T.reads)
 
 -- ---- all of it, at the clock c

@@ -40,7 +40,7 @@ put_line log c by s number item =
     record {
       clock = c;
       by = by;
-      what = entry.Put s (home log s item.hash) number item.hash (length item.payload);
+      what = entry.Put s (home log s item.hash) number item.hash (length item.payload) (length item.key);
       key = item.key;
       payload = item.payload;
     }
@@ -48,27 +48,6 @@ put_line log c by s number item =
 -- where it stands
 abbrev pub put_place : Journal → ℕ → ℕ → NewItem → Place
 put_place log s number item = record { shard = home log s item.hash; seq = number }
-
--- PutRecord, to a live stream
-abbrev pub put : Journal → ℕ → ℕ → ℕ → NewItem → Decision
-put log c by s item =
-    refuse refusal.Spent if next_number log s == last_number else
-    Accepted (put_line log c by s (next_number log s) item ∷ []) (reply.Put (put_place log s (next_number log s) item))
-
--- one line for each item, with numbers that go on by one
-abbrev pub put_lines : Journal → ℕ → ℕ → ℕ → ℕ → List NewItem → List Line
-put_lines log c by s number [] = []
-put_lines log c by s number (item ∷ items) = put_line log c by s number item ∷ put_lines log c by s (number + 1) items
-
-abbrev pub put_places : Journal → ℕ → ℕ → List NewItem → List Place
-put_places log s number [] = []
-put_places log s number (item ∷ items) = put_place log s number item ∷ put_places log s (number + 1) items
-
--- PutRecords, to a live stream
-abbrev pub put_many : Journal → ℕ → ℕ → ℕ → List NewItem → Decision
-put_many log c by s items =
-    refuse refusal.Spent if nat_lt last_number (next_number log s + length items) else
-    Accepted (put_lines log c by s (next_number log s) items) (reply.PutMany (put_places log s (next_number log s) items))
 
 -- SplitShard, in a live stream, where `full` tells that no further shard may be open
 abbrev pub split_where : Bool → Journal → ℕ → ℕ → ℕ → ℕ → ℕ → Decision

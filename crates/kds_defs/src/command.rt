@@ -82,6 +82,16 @@ pub enum Command {
         hours: u32,
         raise: bool,
     },
+    /// UpdateShardCount: so many uniform ranges.
+    Scale {
+        name: Name,
+        target: u32,
+    },
+    /// LocalEnforceLimits: the limits on the stream's throughput, on or off.
+    Enforce {
+        name: Name,
+        on: bool,
+    },
     /// ListShards: at most so many shards after one.
     Shards {
         name: Name,
@@ -95,9 +105,10 @@ pub enum Command {
     },
     /// All listed shards and all rows of the lease table.
     Survey,
-    /// A row is made for a shard.
+    /// A row is made for a shard, with the origin of its reading.
     MakeLease {
         key: ShardRef,
+        from: Origin,
     },
     /// A worker takes a row at its counter, and a tenure of it begins.
     Take {
@@ -147,6 +158,17 @@ pub enum Command {
 pub enum Target {
     At(Seq),
     End,
+}
+
+/// Where a row of the lease table lets reading begin (Kinesis Client Library, initial position in stream).
+#[derive(Clone, Copy, Debug, PartialEq, Eq)]
+pub enum Origin {
+    /// At the shard's first record.
+    TrimHorizon,
+    /// After the records that are there.
+    Latest,
+    /// At the first record that arrived at or after this moment.
+    Time(Moment),
 }
 
 /// Where an iterator begins (Kinesis API Reference, GetShardIterator, ShardIteratorType).
@@ -201,6 +223,8 @@ impl Command {
                 | Command::Split { .. }
                 | Command::Merge { .. }
                 | Command::Keep { .. }
+                | Command::Scale { .. }
+                | Command::Enforce { .. }
         )
     }
 }

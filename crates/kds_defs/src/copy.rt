@@ -80,6 +80,14 @@ fn copy_change(alloc: Global, what: &Command) -> Result<Command, Memory>
             let (name, hours, raise) = (name.copy(alloc)?, *hours, *raise);
             Ok(Command::Keep { name, hours, raise })
         }
+        Command::Scale { name, target } => {
+            let (name, target) = (name.copy(alloc)?, *target);
+            Ok(Command::Scale { name, target })
+        }
+        Command::Enforce { name, on } => {
+            let (name, on) = (name.copy(alloc)?, *on);
+            Ok(Command::Enforce { name, on })
+        }
         _ => unreachable!(),
     }
 }
@@ -129,7 +137,10 @@ fn copy_lease(what: &Command) -> Command
 {
     match what {
         Command::Survey => Command::Survey,
-        Command::MakeLease { key } => Command::MakeLease { key: *key },
+        Command::MakeLease { key, from } => Command::MakeLease {
+            key: *key,
+            from: *from,
+        },
         Command::Take {
             key,
             counter,

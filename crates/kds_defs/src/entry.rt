@@ -1,5 +1,5 @@
 //! What the lines of the journal say.
-use crate::command::Target;
+use crate::command::{Origin, Target};
 use kds_base::{Items, Name, Seq, ShardNo, ShardRef, StreamNo, TenureNo, WorkerNo};
 
 /// What a line of the journal says.
@@ -15,13 +15,14 @@ pub enum Entry {
     Gone {
         stream: StreamNo,
     },
-    /// A record was put; `bytes` counts its payload.
+    /// A record was put; `bytes` counts its payload, `key_bytes` its partition key in UTF-8.
     Put {
         stream: StreamNo,
         shard: ShardNo,
         seq: Seq,
         hash: u128,
         bytes: u64,
+        key_bytes: u64,
     },
     /// A shard was split at a key; the split drew this number.
     Split {
@@ -45,9 +46,15 @@ pub enum Entry {
         stream: StreamNo,
         hours: u32,
     },
-    /// A row of the lease table was made.
+    /// The limits on a stream's throughput were turned on or off.
+    Enforced {
+        stream: StreamNo,
+        on: bool,
+    },
+    /// A row of the lease table was made, with the origin that counts.
     LeaseMade {
         key: ShardRef,
+        from: Origin,
     },
     /// A worker took a row, and this tenure of it began; the counter is the row's after it.
     Taken {

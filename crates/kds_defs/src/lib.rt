@@ -10,10 +10,12 @@ mod limit_laws;
 pub mod limits;
 pub mod machine;
 pub mod reply;
+pub mod scale;
 
-pub use command::{Command, NewItem, Start, Target, Turn};
+pub use command::{Command, NewItem, Origin, Start, Target, Turn};
 pub use entry::Entry;
 pub use laws::{lease_answers, service_answers};
-pub use limit_laws::{lease_limits, request_limits, schedule_limits, service_limits};
+pub use limit_laws::{lease_limits, rate_limits, request_limits, schedule_limits, service_limits};
 pub use machine::{Answer, Machine};
-pub use reply::{About, Iter, Page, Place, Refusal, Reply, Row, Shard, Stored};
+pub use reply::{About, Iter, Outcome, Page, Place, Refusal, Reply, Row, Shard, Stored};
+pub use scale::ScaleStep;

@@ -3,6 +3,7 @@
 ghost use Rattle.std.specs.Prelude.{◌≡◌};
 ghost use Rattle.kds_defs.specs.declared.limits.TheConstants.{LIVE_STREAMS, OPEN_SHARDS, LEAST_SHARDS, MOST_SHARDS, KEY_CHARACTERS, RECORD_BYTES, MANY_ITEMS, MANY_BYTES};
 ghost use Rattle.kds_defs.specs.declared.limits.TheConstants.{TOKEN_LIFE, FIRST_HOURS, LEAST_HOURS, MOST_HOURS, HOUR, BATCH_BYTES, MOST, PENDING_READS};
+ghost use Rattle.kds_defs.specs.declared.limits.TheConstants.{SECOND, SECOND_RECORDS, SECOND_BYTES};
 ghost use Rattle.kds_defs.specs.declared.limits.TheConstants.{RECORDS_LIMIT, SHARDS_LIMIT, DESCRIBED_LIMIT, NAMES_LIMIT, MOST_SECONDS};
 ghost use Rattle.kds_defs.specs.declared.limits.TheConstants.{API_ACTOR, MOST_ACTOR, OPERATION_BYTES, LINE_BYTES, INPUT_BYTES};
 
@@ -13,9 +14,9 @@ pub fn service_limits()
     ensures least_shards { LEAST_SHARDS ≡ 1 }
     ensures most_shards { MOST_SHARDS ≡ 500 }
     ensures key { KEY_CHARACTERS ≡ 256 }
-    ensures record { RECORD_BYTES ≡ 1048576 }
+    ensures record { RECORD_BYTES ≡ 10485760 }
     ensures many { MANY_ITEMS ≡ 500 }
-    ensures many_bytes { MANY_BYTES ≡ 5242880 }
+    ensures many_bytes { MANY_BYTES ≡ 10485760 }
     ensures tokens { TOKEN_LIFE ≡ 300000 }
     ensures first_hours { FIRST_HOURS ≡ 24 }
     ensures least_hours { LEAST_HOURS ≡ 24 }
@@ -23,6 +24,14 @@ pub fn service_limits()
     ensures hour { HOUR ≡ 3600000 }
     ensures batch { BATCH_BYTES ≡ 10485760 }
     ensures most { MOST ≡ 10000 }
+{}
+
+/// What a shard takes within a second where its limits are enforced (Kinesis Data Streams Developer Guide, Quotas and
+/// Limits).
+pub fn rate_limits()
+    ensures second { SECOND ≡ 1000 }
+    ensures records { SECOND_RECORDS ≡ 1000 }
+    ensures bytes { SECOND_BYTES ≡ 1048576 }
 {}
 
 /// What stands for a member that is absent, and the greatest moment that a request may name
@@ -45,6 +54,6 @@ pub fn schedule_limits()
     ensures api { API_ACTOR ≡ 0 }
     ensures actors { MOST_ACTOR ≡ 999 }
     ensures operation { OPERATION_BYTES ≡ 64 }
-    ensures line { LINE_BYTES ≡ 8388608 }
+    ensures line { LINE_BYTES ≡ 16777216 }
     ensures input { INPUT_BYTES ≡ 1073741824 }
 {}

@@ -16,13 +16,13 @@ pub const MOST_SHARDS: u32 = 500;
 pub const KEY_CHARACTERS: u64 = 256;
 
 /// The payload and key bytes that one record may have (Kinesis API Reference, PutRecord, Data).
-pub const RECORD_BYTES: u64 = 1_048_576;
+pub const RECORD_BYTES: u64 = 10_485_760;
 
 /// The records that one PutRecords may have (Kinesis API Reference, PutRecords, Records).
 pub const MANY_ITEMS: u64 = 500;
 
 /// The payload and key bytes that all records of one PutRecords may have (Kinesis API Reference, PutRecords).
-pub const MANY_BYTES: u64 = 5_242_880;
+pub const MANY_BYTES: u64 = 10_485_760;
 
 /// How long an iterator and a listing's token are good, in milliseconds (Kinesis API Reference,
 /// GetShardIterator: 5 minutes).
@@ -40,11 +40,20 @@ pub const MOST_HOURS: u32 = 8_760;
 /// The milliseconds of an hour.
 pub const HOUR: u64 = 3_600_000;
 
-/// The payload bytes that one batch may have (Kinesis API Reference, GetRecords: 10 MB).
+/// The payload and key bytes that one batch may have together (Kinesis API Reference, GetRecords: 10 MiB).
 pub const BATCH_BYTES: u64 = 10_485_760;
 
 /// The greatest limit that a listing or a read may ask for.
 pub const MOST: u32 = 10_000;
+
+/// The milliseconds of a second, over which a shard's throughput is counted.
+pub const SECOND: u64 = 1_000;
+
+/// The records that a shard takes within a second (Kinesis Data Streams Developer Guide, Quotas and Limits).
+pub const SECOND_RECORDS: u64 = 1_000;
+
+/// The payload and key bytes that a shard takes within a second, if it isn't one record alone (the same section).
+pub const SECOND_BYTES: u64 = 1_048_576;
 
 /// The reads that a tenure may have that aren't given.
 pub const PENDING_READS: u64 = 8;
@@ -76,7 +85,7 @@ pub const MOST_ACTOR: u32 = 999;
 pub const OPERATION_BYTES: usize = 64;
 
 /// The bytes that a line of a schedule may have before its line feed.
-pub const LINE_BYTES: u64 = 8_388_608;
+pub const LINE_BYTES: u64 = 16_777_216;
 
 /// The bytes that an input of lines may have.
 pub const INPUT_BYTES: u64 = 1_073_741_824;

@@ -1,4 +1,6 @@
 //! What the machine answers.
+use crate::command::Origin;
+use crate::entry::Entry;
 use kds_base::{
     Checkpoint, Items, Moment, Name, Octets, Range, Seq, ShardNo, ShardRef, StreamNo, TenureNo,
     WorkerNo,
@@ -10,6 +12,15 @@ use std::marker::Model;
 pub struct Place {
     pub shard: ShardNo,
     pub seq: Seq,
+}
+
+/// What became of one record of PutRecords (Kinesis API Reference, PutRecordsResultEntry).
+#[derive(Clone, Copy, Debug, PartialEq, Eq)]
+pub enum Outcome {
+    /// It stands here.
+    Stored(Place),
+    /// This shard takes no more within the second.
+    Throttled(ShardNo),
 }
 
 /// A record as it is read (Kinesis API Reference, Record).
@@ -74,7 +85,7 @@ pub struct Row {
     pub switches: u64,
     /// The tenure that holds it; 0 is none.
     pub tenure: TenureNo,
-    /// The shard's starting sequence number.
+    /// Where its records begin: the shard's starting sequence number, or the position of the row's origin.
     pub floor: Seq,
     pub parent: Option<ShardNo>,
     pub adjacent: Option<ShardNo>,
@@ -122,8 +133,15 @@ pub enum Reply {
     },
     /// PutRecord: where the record stands.
     Put(Place),
-    /// PutRecords: where each record stands, in order.
-    PutMany(Items<Place>),
+    /// PutRecords: what became of each record, in order.
+    PutMany(Items<Outcome>),
+    /// UpdateShardCount: how many shards were open and are to be, and the merges and splits in order.
+    Scaled {
+        name: Name,
+        before: u32,
+        target: u32,
+        entries: Items<Entry>,
+    },
     /// GetShardIterator.
     Iterator(Iter),
     /// GetRecords: the records, where reading goes on, the milliseconds behind the latest, and at the end
@@ -144,6 +162,8 @@ pub enum Reply {
         shards: Items<ShardRef>,
         rows: Items<Row>,
     },
+    /// MakeLease: the origin that counts.
+    Leased(Origin),
     /// Take: the tenure, the row's counter, and where the tenure begins.
     Taken {
         tenure: TenureNo,
@@ -191,6 +211,8 @@ pub enum Refusal {
     Full,
     /// The numbers of a stream, of streams, of a row or of tenures are used up.
     Spent,
+    /// This shard takes no more within the second.
+    Throttled(ShardNo),
     /// The key has no row.
     NoLease,
     /// There is no such tenure.

@@ -1,0 +1,50 @@
+-- What a shard takes within a second (Kinesis Data Streams Developer Guide, Quotas and Limits: 1,000 records and 1 MB a
+-- second for each shard).
+use Rattle.std.specs.Prelude.{ℕ, ◌+◌, ◌/◌, Bool, ◌==◌, ◌&&◌, ◌||◌, nat_le, nat_lt, if◌then◌else◌, List, [], ◌∷◌, length}
+use Rattle.std.specs.List.{filter}
+use Rattle.kds_defs.specs.declared.entry.Entry.{Entry}
+use Rattle.kds_defs.specs.declared.entry.Entry.TheVariants as entry
+use Rattle.kds_defs.specs.declared.limits.TheConstants.{SECOND, SECOND_BYTES, SECOND_RECORDS}
+use Rattle.kds_defs.specs.Journal.{Line, Journal}
+
+-- a put as its shard's throughput counts it: when, and how many bytes of payload and key
+pub record SizedPut : Type 0 where
+  pub clock : ℕ
+  pub bytes : ℕ
+
+-- ---- the window, of any list of puts
+
+-- the clocks lie in one second
+abbrev pub is_same_second : ℕ → ℕ → Bool
+is_same_second a b = a / SECOND == b / SECOND
+
+-- the puts in the second of a clock
+abbrev pub window : ℕ → List SizedPut → List SizedPut
+window c puts = filter (λ p. is_same_second p.clock c) puts
+
+-- the bytes of these puts
+abbrev pub bytes_of : List SizedPut → ℕ
+bytes_of [] = 0
+bytes_of (p ∷ puts) = p.bytes + bytes_of puts
+
+-- so many bytes more are too much for a window with so many records and bytes: one with no record takes any item
+abbrev pub is_too_much : ℕ → ℕ → ℕ → Bool
+is_too_much records held bytes =
+    nat_le SECOND_RECORDS records || (nat_lt 0 records && nat_lt SECOND_BYTES (held + bytes))
+
+-- an item of so many bytes, at a clock, is more than its shard takes after these puts
+abbrev pub is_throttled : List SizedPut → ℕ → ℕ → Bool
+is_throttled puts c bytes = is_too_much (length (window c puts)) (bytes_of (window c puts)) bytes
+
+-- ---- the puts of a shard, the newest first
+
+abbrev pub puts_after : Line → Entry → ℕ → ℕ → List SizedPut → List SizedPut
+puts_after line (entry.Put stream shard seq hash bytes key_bytes) s sh before =
+    if (stream == s) && (shard == sh)
+    then record { clock = line.clock; bytes = bytes + key_bytes } ∷ before
+    else before
+puts_after line _ s sh before = before
+
+abbrev pub puts : Journal → ℕ → ℕ → List SizedPut
+puts [] s sh = []
+puts (line ∷ log) s sh = puts_after line line.what s sh (puts log s sh)
