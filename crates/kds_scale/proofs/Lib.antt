@@ -1,0 +1,6 @@
+pub mod Members
+pub mod Rising
+pub mod Leading
+pub mod Shortest
+pub mod Starts
+pub mod Partitions
