@@ -147,14 +147,14 @@ pub data RecordsStep (log : Journal) (line : Line) (s sh : ℕ) : Type 0 where
   SameRecords : records (line ∷ log) s sh ≡ records log s sh → RecordsStep log line s sh
   NewRecord : (r : Logged) (x : ShardState) → records (line ∷ log) s sh ≡ records log s sh ++ (r ∷ []) → r.seq ≡ next_number log s → next_number (line ∷ log) s ≡ r.seq + 1 → shard_at log s sh ≡ Some x → is_open x ≡ true → RecordsStep log line s sh
 
-records_step_put : (log : Journal) (line : Line) (stream shard number hash bytes s sh : ℕ) → IsPlaced log (entry.Put stream shard number hash bytes)
+records_step_put : (log : Journal) (line : Line) (stream shard number hash bytes key_bytes s sh : ℕ) → IsPlaced log (entry.Put stream shard number hash bytes key_bytes)
     → (b : Bool) → ((stream == s) && (shard == sh)) ≡ b
     → (r : Logged) → r.seq ≡ number
     → ((if b then records log s sh ++ (r ∷ []) else records log s sh) ≡ records (line ∷ log) s sh)
     → (next_number (line ∷ log) s ≡ (if stream == s then 1 else 0) + next_number log s)
     → RecordsStep log line s sh
-records_step_put log line stream shard number hash bytes s sh at false is r num recs next = SameRecords (sym recs)
-records_step_put log line stream shard number hash bytes s sh at true is r num recs next =
+records_step_put log line stream shard number hash bytes key_bytes s sh at false is r num recs next = SameRecords (sym recs)
+records_step_put log line stream shard number hash bytes key_bytes s sh at true is r num recs next =
     let two = both_hold (stream == s) (shard == sh) is in
     let to = equal_so stream s two.0 in
     let to' = equal_so shard sh two.1 in
@@ -169,8 +169,8 @@ records_step_put log line stream shard number hash bytes s sh at true is r num r
     plus_one false h n = absurd cc
 
 records_step_by : (log : Journal) (line : Line) (e : Entry) (s sh : ℕ) → IsPlaced log e → records_after line e s sh (records log s sh) ≡ records (line ∷ log) s sh → next_number (line ∷ log) s ≡ draws e s + next_number log s → RecordsStep log line s sh
-records_step_by log line (entry.Put stream shard number hash bytes) s sh at recs next =
-    records_step_put log line stream shard number hash bytes s sh at _ refl (record { seq = number; arrival = line.clock; bytes = bytes; key = line.key; payload = line.payload }) refl recs next
+records_step_by log line (entry.Put stream shard number hash bytes key_bytes) s sh at recs next =
+    records_step_put log line stream shard number hash bytes key_bytes s sh at _ refl (record { seq = number; arrival = line.clock; bytes = bytes + key_bytes; key = line.key; payload = line.payload }) refl recs next
 records_step_by log line _ s sh at recs next = SameRecords (sym recs)
 
 pub records_step : (log : Journal) (line : Line) → IsLegal (line ∷ log) → (s sh : ℕ) → RecordsStep log line s sh
@@ -220,7 +220,7 @@ left_if : (b : Bool) (floor place : ℕ) (rs : List Logged) → (if b then left_
 left_if true floor place rs = refl
 left_if false floor place rs = sym (none_passes rs)
 
-left_is : (log : Journal) (c s sh place : ℕ) → left_from log c s sh place ≡ filter (λ (r : Logged). not (is_trimmed log c s r.arrival) && nat_le place r.seq) (records log s sh)
+pub left_is : (log : Journal) (c s sh place : ℕ) → left_from log c s sh place ≡ filter (λ (r : Logged). not (is_trimmed log c s r.arrival) && nat_le place r.seq) (records log s sh)
 left_is log c s sh place = left_if (is_live log s) (trim_floor log c s) place (records log s sh)
 
 pub batch_is : (log : Journal) → IsLegal log → (c s sh place limit : ℕ) → place ≤ next_number log s → IsBatch log c s sh place (numbers_of (batch log c s sh place limit))

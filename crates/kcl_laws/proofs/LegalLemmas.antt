@@ -1,36 +1,36 @@
 -- The journal of a history is legal.
-use Rattle.std.proofs.Common.{◌≡◌, ℕ, suc, ◌+◌, ◌-◌, ◌≤◌, Bool, true, false, List, [], ◌∷◌, length, Option, Some, None, refl, sym, ap, subst, ◌∙◌, arith}
-use Rattle.std.specs.Prelude.{◌==◌, not, nat_lt, cond, if◌then◌else◌}
+use Rattle.std.proofs.Common.{◌≡◌, ℕ, ◌+◌, ◌-◌, ◌^◌, ◌<◌, ◌≤◌, Bool, true, false, List, [], ◌∷◌, length, Option, Some, None, refl, sym, ap, subst, ◌∙◌, arith}
+use Rattle.std.specs.Prelude.{◌||◌, is_some, not, nat_lt, cond, if◌then◌else◌}
 use Rattle.std.specs.List.{AllByRecursion, find, filter}
 use Rattle.std.proofs.lemmas.Bool.Decides.{nat_tests}
 use Rattle.kds_defs.specs.declared.command.Command.{Command}
 use Rattle.kds_defs.specs.declared.command.Command.TheVariants as command
 use Rattle.kds_defs.specs.declared.command.NewItem.{NewItem}
+use Rattle.kds_defs.specs.declared.command.Origin.{Origin}
+use Rattle.kds_defs.specs.declared.command.Origin.TheVariants as origin
 use Rattle.kds_defs.specs.declared.command.Turn.{Turn}
+use Rattle.kds_base.specs.declared.lease_key.ShardRef.{ShardRef}
 use Rattle.kds_defs.specs.declared.entry.Entry.TheVariants as entry
-use Rattle.kds_defs.specs.declared.reply.Refusal.{Refusal}
 use Rattle.kds_defs.specs.declared.reply.Refusal.TheVariants as refusal
 use Rattle.kds_defs.specs.declared.reply.Reply.{Reply}
 use Rattle.kds_defs.specs.declared.reply.Reply.TheVariants as replies
 use Rattle.kds_defs.specs.Decision.{Decision, Refused, Accepted, refuse◌if◌else◌, with◌or◌then◌}
 use Rattle.kds_defs.specs.Histories.{decide, decision, lines_of, journal, clock}
-use Rattle.kds_defs.specs.Journal.{Line, Journal, with_lines}
+use Rattle.kds_defs.specs.Journal.{Line, Journal, plain_line}
 use Rattle.kds_defs.specs.Lawful.{IsLawfulCommand, IsHistory, IsItem}
-use Rattle.kds_defs.specs.Keys.{ref}
-use Rattle.kds_defs.specs.Leases.{TenureState, tenure, reach}
-use Rattle.kds_defs.specs.LeaseCommands.{with_tenure, take_lease, renew, free, mark, read, is_unread, past_parent, past_parents}
-use Rattle.kds_defs.specs.Legal.{told, in_stream, IsGood, IsLegal, IsInRange, last_clock, reach_in}
+use Rattle.kds_defs.specs.Keys.{is_listed_key, ref}
+use Rattle.kds_defs.specs.Leases.{TenureState, row, tenure, reach}
+use Rattle.kds_defs.specs.LeaseCommands.{follows_parent, with_tenure, take_lease, renew, free, mark, read, is_unread, past_parent, past_parents}
+use Rattle.kds_defs.specs.Legal.{told, IsGood, IsLegal, IsInRange, last_clock, reach_in}
 use Rattle.kds_defs.specs.Records.{next_number}
-use Rattle.kds_defs.specs.Shards.{ShardState, shards, is_open, home_among}
-use Rattle.kds_defs.specs.StreamCommands.{last_number, put_place, put_line, put_lines}
+use Rattle.kds_defs.specs.Shards.{ShardState, home}
+use Rattle.kds_defs.specs.PutCommands.{is_held_back, put_lines}
+use Rattle.kds_defs.specs.StreamCommands.{last_number, put_place, put_line}
 use Rattle.kds_defs.specs.Streams.{is_live, stream_named, hours}
 use Rattle.kds_defs.proofs.Decisions.{passes, found, same_lines}
+use Rattle.kcl_laws.proofs.Added.{Adds, retested, in_live, draws_one, not_spent, not_past}
+use Rattle.kcl_laws.proofs.ScalingLemmas.{adds_scaling}
 use Rattle.kcl_laws.proofs.FenceLemmas.{same_number, held, past_the_target}
-
--- the journal with these lines is legal, and its clock is at most c
-pub record Adds (log : Journal) (lines : List Line) (c : ℕ) : Type 0 where
-  pub legal : IsLegal (with_lines lines log)
-  pub clock : last_clock (with_lines lines log) ≤ c
 
 -- no line is added
 adds_none : (log : Journal) (lines : List Line) (reply reply' : Reply) (c : ℕ) → Accepted [] reply' ≡ Accepted lines reply → IsLegal log → last_clock log ≤ c → Adds log lines c
@@ -61,54 +61,47 @@ find_filter p q (x ∷ xs) s h = found_by (q x) (p x) x s xs p q refl refl h (fi
 pub live_named : (log : Journal) (name : List ℕ) (s : ℕ) → stream_named log name ≡ Some s → is_live log s ≡ true
 live_named log name s h = find_filter _ (is_live log) _ s h
 
--- a test that does not refuse
-retested : (r : Refusal) (b : Bool) (d : Decision) → b ≡ false → (refuse r if b else d) ≡ d
-unfolding refuse◌if◌else◌
-retested r true d h = absurd cc
-retested r false d h = refl
-
-in_live : (log : Journal) (s : ℕ) (d : Decision) → is_live log s ≡ true → in_stream log s d ≡ d
-in_live log s d live = retested refusal.NoStream (not (is_live log s)) d (ap not live)
-
 not_both : (wanted have : ℕ) (raise : Bool) → (if raise then nat_lt wanted have else nat_lt have wanted) ≡ false → (if not (nat_lt wanted have) then nat_lt wanted have else nat_lt have wanted) ≡ false
 not_both wanted have true h = grind (arith, nat_tests)
 not_both wanted have false h = grind (arith, nat_tests)
 
--- the line of a put, by the shards of its stream
-put_line_of : List ShardState → ℕ → ℕ → ℕ → ℕ → NewItem → Line
-put_line_of xs c by s number item =
-    record { clock = c; by = by; what = entry.Put s (home_among (filter is_open xs) item.hash) number item.hash (length item.payload); key = item.key; payload = item.payload }
+-- the line of an item that isn't held back, and the lines of it and of those that follow
+abbrev next_line : Journal → ℕ → ℕ → ℕ → NewItem → Line
+next_line log c by s item = put_line log c by s (next_number log s) item
 
-same_put : (first log : Journal) (c by s number : ℕ) (item : NewItem) → shards first s ≡ shards log s → put_line first c by s number item ≡ put_line log c by s number item
-unfolding put_line_of
-same_put first log c by s number item same = ap (λ xs. put_line_of xs c by s number item) same
+abbrev lines_from : Bool → Journal → ℕ → ℕ → ℕ → NewItem → List NewItem → List Line
+lines_from back log c by s item items =
+    if back
+    then put_lines log c by s items
+    else next_line log c by s item ∷ put_lines (next_line log c by s item ∷ log) c by s items
 
-draws_one : (s n m : ℕ) → n ≡ m → n + 1 ≡ (if s == s then 1 else 0) + m
-draws_one s n m h = grind (arith, nat_tests)
-
-not_spent : (n last more : ℕ) → n + suc more ≤ last → (n == last) ≡ false
-not_spent n last more h = grind (arith, nat_tests)
-
-not_past : (n last : ℕ) → nat_lt last n ≡ false → n ≤ last
-not_past n last h = grind (arith, nat_tests)
-
--- the puts of several items
-adds_puts : (items : List NewItem) (first log : Journal) (c by s number : ℕ) → AllByRecursion IsItem items → is_live log s ≡ true → shards first s ≡ shards log s → number ≡ next_number log s → number + length items ≤ last_number → IsLegal log → last_clock log ≤ c → Adds log (put_lines first c by s number items) c
-adds_puts [] first log c by s number lawful live same is fits legal order = record { legal = legal; clock = order }
-adds_puts (item ∷ items) first log c by s number lawful live same is fits legal order =
-    let line = put_line first c by s number item in
-    let same_line' : put_line log c by s (next_number log s) item ≡ line =
-    ap (λ n. put_line log c by s n item) (sym is) ∙ sym (same_put first log c by s number item same) in
+-- one more item is held back, or its line is good
+adds_item : (back : Bool) (item : NewItem) (items : List NewItem) (log : Journal) (c by s : ℕ) → is_held_back log c s item ≡ back → item.hash < 2 ^ 128 → is_live log s ≡ true
+    → next_number log s + length (lines_from back log c by s item items) ≤ last_number → IsLegal log → last_clock log ≤ c
+    → (next_number log s + length (put_lines log c by s items) ≤ last_number → Adds log (put_lines log c by s items) c)
+    → ((next : Journal) → next ≡ (next_line log c by s item ∷ log) → next_number next s + length (put_lines next c by s items) ≤ last_number → IsLegal next → last_clock next ≤ c → Adds next (put_lines next c by s items) c)
+    → Adds log (lines_from back log c by s item items) c
+adds_item true item items log c by s is hash live fits legal order skip take = skip fits
+adds_item false item items log c by s is hash live fits legal order skip take =
+    let line = next_line log c by s item in
     let told_reply : Reply = replies.Put (put_place log s (next_number log s) item) in
-    let spent = ap (λ n. n == last_number) (sym is) ∙ not_spent number last_number (length items) fits in
+    let more = length (put_lines (line ∷ log) c by s items) in
     let good : IsGood log line = record {
       in_order = order;
-      in_range = lawful.0.hash;
+      in_range = hash;
       reply = told_reply;
-      allowed = in_live log s _ live ∙ retested refusal.Spent _ _ spent ∙ ap (λ l. Accepted (l ∷ []) told_reply) same_line';
+      allowed = in_live log s _ live ∙ retested (refusal.Throttled (home log s item.hash)) _ _ is ∙ retested refusal.Spent _ _ (not_spent (next_number log s) last_number more fits);
     } in
-    let rest = adds_puts items first (line ∷ log) c by s (number + 1) lawful.1 live same (draws_one s number (next_number log s) is) (omega (arith, fits)) (good, legal) (omega arith) in
+    let rest = take (line ∷ log) refl (omega (arith, fits, draws_one s (next_number log s) (next_number log s) refl)) (good, legal) (omega arith) in
     record { legal = rest.legal; clock = rest.clock }
+
+-- the puts of several items, each judged after those before
+adds_puts : (items : List NewItem) (log : Journal) (c by s : ℕ) → AllByRecursion IsItem items → is_live log s ≡ true → next_number log s + length (put_lines log c by s items) ≤ last_number → IsLegal log → last_clock log ≤ c → Adds log (put_lines log c by s items) c
+adds_puts [] log c by s lawful live fits legal order = record { legal = legal; clock = order }
+adds_puts (item ∷ items) log c by s lawful live fits legal order =
+    adds_item (is_held_back log c s item) item items log c by s refl lawful.0.hash live fits legal order
+    (λ fits'. adds_puts items log c by s lawful.1 live fits' legal order)
+    (λ next is fits' legal' order'. adds_puts items next c by s lawful.1 (ap (λ l. is_live l s) is ∙ live) fits' legal' order')
 
 -- what an own tenure gives
 pub record Owned (log : Journal) (by t : ℕ) (next : TenureState → Decision) (lines : List Line) (reply : Reply) : Type 0 where
@@ -142,6 +135,22 @@ past_the_parents log c s (Some x) next lines reply h =
     let a = past_the_parent log c s x.parent _ lines reply h in
     let b = past_the_parent log c s x.adjacent _ lines reply a.1 in
     ((a.0, b.0), b.1)
+
+-- the making of a row with this origin that counts
+abbrev lease_with : Journal → ℕ → ℕ → ShardRef → Origin → Decision
+lease_with log c by key from =
+    refuse refusal.ShardGone if not (is_listed_key log c key) else
+    refuse refusal.LeaseThere if is_some (row log key) else
+    Accepted (plain_line c by (entry.LeaseMade key from) ∷ []) (replies.Leased from)
+
+-- the origin that counts counts again
+counts_once : (b : Bool) (from : Origin) → (if b then origin.TrimHorizon else (if b then origin.TrimHorizon else from)) ≡ (if b then origin.TrimHorizon else from)
+counts_once true from = refl
+counts_once false from = refl
+
+neither : (a b : Bool) → (a || b) ≡ false → (a ≡ false) × (b ≡ false)
+neither true b h = absurd cc
+neither false b h = (refl, h)
 
 accepted_legal : (log : Journal) (c by : ℕ) (what : Command) (lines : List Line) (reply : Reply) → IsLawfulCommand what → decide log c by what ≡ Accepted lines reply → IsLegal log → last_clock log ≤ c → Adds log lines c
 accepted_legal log c by (command.Create name count) lines reply lawful h legal order =
@@ -180,12 +189,23 @@ accepted_legal log c by (command.Records iter limit) lines reply lawful h legal 
 accepted_legal log c by (command.Put name item) lines reply lawful h legal order =
     let f = found _ _ _ _ reply h in
     let a = passes _ _ _ _ reply f.2 in
-    adds_one log _ lines reply _ a.1 (in_live log f.0 _ (live_named log name f.0 f.1) ∙ f.2) lawful.1.hash legal order
+    let b = passes _ _ _ _ reply a.1 in
+    adds_one log _ lines reply _ b.1 (in_live log f.0 _ (live_named log name f.0 f.1) ∙ f.2) lawful.1.hash legal order
 accepted_legal log c by (command.PutMany name items) lines reply lawful h legal order =
     let f = found _ _ _ _ reply h in
     let a = passes _ _ _ _ reply f.2 in
     subst (λ ls. Adds log ls c) (same_lines _ lines _ reply a.1)
-    (adds_puts items log log c by f.0 (next_number log f.0) lawful.1.each (live_named log name f.0 f.1) refl refl (not_past _ _ a.0) legal order)
+    (adds_puts items log c by f.0 lawful.1.each (live_named log name f.0 f.1) (not_past _ _ a.0) legal order)
+accepted_legal log c by (command.Scale name target) lines reply lawful h legal order =
+    let f = found _ _ _ _ reply h in
+    let a = passes _ _ _ _ reply f.2 in
+    let b = passes _ _ _ _ reply a.1 in
+    let fits = neither _ _ b.0 in
+    subst (λ ls. Adds log ls c) (same_lines _ lines _ reply b.1)
+    (adds_scaling log c by f.0 target (live_named log name f.0 f.1) lawful.1.0 lawful.1.1 (not_past _ _ a.0) (not_past _ _ fits.0) (not_past _ _ fits.1) legal order)
+accepted_legal log c by (command.Enforce name on) lines reply lawful h legal order =
+    let f = found _ _ _ _ reply h in
+    adds_one log _ lines reply _ f.2 (in_live log f.0 _ (live_named log name f.0 f.1) ∙ f.2) tt legal order
 accepted_legal log c by (command.Split name sh at) lines reply lawful h legal order =
     let f = found _ _ _ _ reply h in
     let a = passes _ _ _ _ reply f.2 in
@@ -206,10 +226,11 @@ accepted_legal log c by (command.Keep name wanted raise) lines reply lawful h le
     let a = passes _ _ _ _ reply f.2 in
     adds_one log _ lines reply _ a.1 (in_live log f.0 _ (live_named log name f.0 f.1) ∙ retested refusal.BadRetention _ _ (not_both wanted (hours log f.0) raise a.0) ∙ a.1) lawful.1 legal order
 accepted_legal log c by command.Survey lines reply lawful h legal order = adds_none log lines reply _ c h legal order
-accepted_legal log c by (command.MakeLease key) lines reply lawful h legal order =
+accepted_legal log c by (command.MakeLease key from) lines reply lawful h legal order =
     let a = passes _ _ _ _ reply h in
     let b = passes _ _ _ _ reply a.1 in
-    adds_one log _ lines reply _ b.1 h tt legal order
+    adds_one log _ lines reply _ b.1
+    (ap (λ o. lease_with log c by key o) (counts_once (follows_parent log key) from) ∙ h) tt legal order
 accepted_legal log c by (command.Take key counter owner) lines reply lawful h legal order =
     let f = found _ _ _ _ reply h in
     let a = passes _ _ _ _ reply f.2 in

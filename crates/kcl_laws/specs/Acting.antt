@@ -22,3 +22,7 @@ pub record ActsBy (log : Journal) (turn : Turn) (t : ℕ) (T : TenureState) : Ty
 -- the tenure of the row of this tenure's key
 abbrev pub row_tenure : Journal → TenureState → ℕ
 row_tenure log T = tenure_in (row log T.key)
+
+-- the row of this tenure's key is another tenure's, or nobody's
+abbrev pub HasLost : Journal → TenureState → ℕ → Type 0
+HasLost log T t = row_tenure log T ≡ t → ⊥

@@ -1,3 +1,5 @@
 pub mod Acting
 pub mod RowLines
 pub mod TenureLines
+pub mod Makings
+pub mod Deliveries

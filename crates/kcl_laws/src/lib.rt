@@ -2,8 +2,10 @@
 #![tactic(auto)]
 
 ghost use Rattle.std.specs.Prelude.{ℕ, List, [], ◌∷◌, ◌≤◌, ◌≡◌, Option, Some, None, Err};
-ghost use Rattle.kcl_laws.specs.Acting.{acting, row_tenure, ActsBy};
-ghost use Rattle.kcl_laws.specs.RowLines.{IsToldRow, last_bound, making};
+ghost use Rattle.kcl_laws.specs.Acting.{acting, row_tenure, ActsBy, HasLost};
+ghost use Rattle.kcl_laws.specs.Deliveries.{AreReadOn, AreWhole};
+ghost use Rattle.kcl_laws.specs.Makings.{times_made};
+ghost use Rattle.kcl_laws.specs.RowLines.{Making, IsToldRow, last_bound, making};
 ghost use Rattle.kcl_laws.specs.TenureLines.{IsToldTenure, Told, taking};
 ghost use Rattle.kds_base.specs.declared.lease_key.ShardRef.{ShardRef};
 ghost use Rattle.kds_defs.specs.declared.command.Turn.{Turn};
@@ -26,9 +28,27 @@ pub fn one_home()
     ensures { (h : List Turn) → IsHistory h → ArePlaced (journal h) }
 {}
 
-/// Each record at or below a checkpoint was delivered, in a tenure whose reads rise, or is trimmed, at the history's clock and later.
+/// Each record from a row's floor to its checkpoint was delivered, in a tenure whose reads rise, or is trimmed,
+/// at the history's clock and later.
 pub fn coverage()
     ensures { (h : List Turn) → IsHistory h → (c : ℕ) → clock h ≤ c → AreCovered (journal h) c }
+{}
+
+/// For a row from the trim horizon, that is each record of its shard up to the checkpoint.
+pub fn whole_coverage()
+    ensures { (h : List Turn) → IsHistory h → (c : ℕ) → clock h ≤ c → AreWhole (journal h) c }
+{}
+
+/// In each tenure of a key that has a row, each record from the row's floor on and below the delivered position
+/// was given or is trimmed, and each such record below the reach was read, was given or is trimmed.
+pub fn delivery()
+    ensures { (h : List Turn) → IsHistory h → (c : ℕ) → clock h ≤ c → AreReadOn (journal h) c }
+{}
+
+/// A key gets one row at most: the tenures of a key are those of its row. A row is removed once its shard is
+/// expired, and what is expired stays so.
+pub fn one_row()
+    ensures { (h : List Turn) → IsHistory h → (key : ShardRef) → times_made (journal h) key ≤ 1 }
 {}
 
 /// A read stands after an opening of its tenure, and an opening after the parents ended or expired.
@@ -44,7 +64,7 @@ pub fn fence()
     ensures stale { (h : List Turn) (turn : Turn) (t : ℕ) → acting turn.what ≡ Some t
         → (HoldsRow (journal h) turn.by t → ⊥) → journal (turn ∷ h) ≡ journal h }
     ensures lost { (h : List Turn) (turn : Turn) (t : ℕ) (T : TenureState) → ActsBy (journal h) turn t T
-        → T.by ≡ turn.by → (row_tenure (journal h) T ≡ t → ⊥)
+        → T.by ≡ turn.by → HasLost (journal h) T t
         → answer h turn ≡ Err (refusal.Lost (row_tenure (journal h) T)) }
     ensures not_yours { (h : List Turn) (turn : Turn) (t : ℕ) (T : TenureState) → ActsBy (journal h) turn t T
         → (T.by ≡ turn.by → ⊥) → answer h turn ≡ Err refusal.NotYours }
@@ -62,13 +82,15 @@ pub fn step()
 {}
 
 /// What a row reads, told by the lines of any journal. A row is there where its last making has no later
-/// removal. Since its making: its counter counts its takings, renewals, freeings and markings; its checkpoint
-/// is the last marking's target; its owner and its tenure are the last taking's, unless a freeing follows; its
-/// switches are the takings from another owner since the last marking. Its parents and its first number
-/// are the shard's (Kinesis Client Library, leases).
+/// removal. Its origin is that of its making. Since then: its counter counts its takings, renewals, freeings and
+/// markings; its checkpoint is the last marking's target, and before one stands right below its floor, or at the trim
+/// horizon; its owner
+/// and its tenure are the last taking's, unless a freeing follows; its switches are the takings from another
+/// owner since the last marking. Its parents are the shard's. Its floor is the shard's first number at the trim
+/// horizon, and else the position of the making's origin (Kinesis Client Library, leases).
 pub fn rows()
     ensures removed { (log : Journal) (key : ShardRef) → making (last_bound log key) ≡ None → row log key ≡ None }
-    ensures made { (log : Journal) (key : ShardRef) (before : Journal) → making (last_bound log key) ≡ Some before → IsToldRow log key before }
+    ensures made { (log : Journal) (key : ShardRef) (m : Making) → making (last_bound log key) ≡ Some m → IsToldRow log key m }
 {}
 
 /// What a tenure is, told by the lines of any journal. The n-th taking is tenure n: its actor and its key are those of
