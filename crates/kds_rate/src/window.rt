@@ -1,0 +1,120 @@
+ghost use Rattle.std.specs.Prelude.{◌≡◌, ◌≤◌, ◌∷◌, [], not, List, length};
+ghost use Rattle.kds_defs.specs.Rates.{SizedPut, bytes_of, is_same_second, is_throttled, is_too_much, window};
+ghost use Rattle.kds_rate.specs.Windows.{StandsFor, stopped};
+
+use kds_base::Moment;
+use kds_defs::limits::{SECOND, SECOND_BYTES, SECOND_RECORDS};
+use std::marker::Model;
+
+/// What a shard has taken within the second of its latest put. Contracts see the sums, which stop at the
+/// greatest number of a `u64`, and the lists of puts that it stands for.
+#[derive(Clone, Copy)]
+pub struct Window {
+    latest: Moment,
+    records: u64,
+    bytes: u64,
+}
+
+impl Model for Window {
+    ghost use Rattle.kds_rate.specs.Windows.{WindowValue};
+
+    ghost Value = { WindowValue };
+
+    ghost view = { λ w. record { latest = w.latest; records = w.records; bytes = w.bytes } };
+
+    ghost inverse = { λ v. record { latest = v.latest; records = v.records; bytes = v.bytes } };
+}
+
+impl Window {
+    /// The window of no puts.
+    pub fn new() -> Window
+        ensures puts { StandsFor result [] }
+        ensures latest { result.latest ≡ 0 }
+    {
+        Window {
+            latest: Moment::start(),
+            records: 0,
+            bytes: 0,
+        }
+    }
+
+    /// Whether the shard takes a record of so many payload and key bytes now (Kinesis API Reference,
+    /// ProvisionedThroughputExceededException). A second in which it took none takes any one record.
+    pub fn admits(&self, clock: Moment, bytes: u64) -> bool
+        requires { self.now.latest ≤ clock }
+        ensures { (puts : List SizedPut) → StandsFor self.now puts → result ≡ not (is_throttled puts clock bytes) }
+    {
+        let taken = self.taken(clock);
+        !is_too_much(&taken, bytes)
+    }
+
+    /// Counts a put of so many payload and key bytes.
+    pub fn count(&mut self, clock: Moment, bytes: u64)
+        requires { self.old.latest ≤ clock }
+        ensures puts { (puts : List SizedPut) → StandsFor self.old puts → StandsFor self.new (record { clock = clock; bytes = bytes } ∷ puts) }
+        ensures latest { self.new.latest ≡ clock }
+    {
+        let taken = self.taken(clock);
+        self.latest = clock;
+        self.records = taken.records.saturating_add(1);
+        self.bytes = taken.bytes.saturating_add(bytes);
+    }
+
+    /// What the shard has taken within the second of the clock.
+    fn taken(&self, clock: Moment) -> Taken
+        requires { self.now.latest ≤ clock }
+        ensures records { (puts : List SizedPut) → StandsFor self.now puts → result.records ≡ stopped (length (window clock puts)) }
+        ensures bytes { (puts : List SizedPut) → StandsFor self.now puts → result.bytes ≡ stopped (bytes_of (window clock puts)) }
+    {
+        if is_same_second(self.latest, clock) {
+            Taken {
+                records: self.records,
+                bytes: self.bytes,
+            }
+        } else {
+            Taken {
+                records: 0,
+                bytes: 0,
+            }
+        }
+    }
+}
+
+/// Records and their bytes.
+#[derive(Clone, Copy)]
+struct Taken {
+    records: u64,
+    bytes: u64,
+}
+
+/// Whether both moments lie in one second.
+fn is_same_second(one: Moment, other: Moment) -> bool
+    ensures { result ≡ is_same_second one other }
+{
+    one.ms() / SECOND == other.ms() / SECOND
+}
+
+/// Whether so many bytes more are too much for a second in which that was taken.
+fn is_too_much(taken: &Taken, bytes: u64) -> bool
+    ensures { result ≡ is_too_much taken.now.records taken.now.bytes bytes }
+{
+    taken.records >= SECOND_RECORDS
+        || (taken.records > 0 && taken.bytes.saturating_add(bytes) > SECOND_BYTES)
+}
+
+#[cfg(test)]
+mod tests {
+    use super::*;
+
+    #[test]
+    fn a_second_of_bytes(rt: HostRuntime) {
+        let mut window = Window::new();
+        let now = Moment::start();
+        assert!(rt; window.admits(now, 2_000_000));
+        window.count(now, 1_048_576);
+        assert!(rt; window.admits(now, 0));
+        assert!(rt; !window.admits(now, 1));
+        let later = Moment::new(1_000).unwrap_or(now);
+        assert!(rt; window.admits(later, 2_000_000));
+    }
+}
