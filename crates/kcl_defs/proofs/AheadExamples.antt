@@ -1,0 +1,66 @@
+-- A consumer that reads ahead, computed from the definitions.
+use Rattle.std.specs.Prelude.{ℕ, suc, zero, ◌≡◌, false, true, List, [], ◌∷◌, Ok}
+use Rattle.std.proofs.Common.{refl}
+use Rattle.kds_base.specs.declared.lease_key.Checkpoint.TheVariants.{TrimHorizon}
+use Rattle.kcl_defs.specs.declared.consumer.Ask.TheVariants as ask
+use Rattle.kcl_defs.specs.declared.consumer.Fetched.{Fetched}
+use Rattle.kcl_defs.specs.declared.consumer.Tenancy.{Tenancy}
+use Rattle.kds_defs.specs.declared.reply.Reply.TheVariants as reply
+use Rattle.kds_defs.specs.declared.reply.Stored.{Stored}
+use Rattle.kcl_defs.specs.Consumers.{Answered, Called, Ending, Event, Filling, Holding, Past, phase_after}
+
+-- it reads at most two records at a time
+abbrev made : Tenancy
+made = record { key = record { stream = 1; shard = 0 }; tenure = 1; start = TrimHorizon; limit = 2 }
+
+abbrev started : Past
+started = Called ask.None ∷ Answered (Ok reply.Done) ∷ []
+
+abbrev full : Stored → List Stored
+full r = r ∷ r ∷ []
+
+abbrev waits : List Stored → Fetched
+waits batch = record { batch = batch; ended = false }
+
+abbrev read : List Stored → ℕ → Event
+read batch place = Answered (Ok (reply.Read batch place false))
+
+-- two full batches wait, and reading goes on
+reading_on : (r : Stored) → phase_after made (read (full r) 5 ∷ read (full r) 3 ∷ started) ≡ Filling 5 (waits (full r) ∷ waits (full r) ∷ [])
+reading_on r = refl
+
+-- a batch of fewer records than the limit ends it: the first batch is handed out
+abbrev all_read : Stored → Past
+all_read r = read (r ∷ []) 6 ∷ read (full r) 5 ∷ read (full r) 3 ∷ started
+
+read_enough : (r : Stored) → phase_after made (all_read r) ≡ Holding 6 (waits (full r) ∷ waits (full r) ∷ waits (r ∷ []) ∷ [])
+read_enough r = refl
+
+-- the next ones follow with no read between them, and then reading goes on
+given_once : (r : Stored) → phase_after made (Answered (Ok reply.Done) ∷ Called ask.None ∷ all_read r) ≡ Holding 6 (waits (full r) ∷ waits (r ∷ []) ∷ [])
+given_once r = refl
+
+all_given : (r : Stored) → phase_after made (Answered (Ok reply.Done) ∷ Called ask.None ∷ Answered (Ok reply.Done) ∷ Called ask.None ∷ Answered (Ok reply.Done) ∷ Called ask.None ∷ all_read r) ≡ Filling 6 []
+all_given r = refl
+
+-- the batch that ends the shard is handed out at once
+end_read : (r : Stored) → phase_after made (Answered (Ok (reply.Read (full r) 3 true)) ∷ started) ≡ Holding 3 (record { batch = full r; ended = true } ∷ [])
+end_read r = refl
+
+end_given : (r : Stored) → phase_after made (Answered (Ok reply.Done) ∷ Called ask.None ∷ Answered (Ok (reply.Read (full r) 3 true)) ∷ started) ≡ Ending
+end_given r = refl
+
+-- eight batches are the most that wait
+abbrev reads : ℕ → Stored → Past
+reads zero r = started
+reads (suc n) r = read (full r) 7 ∷ reads n r
+
+abbrev wait : ℕ → Stored → List Fetched
+wait zero r = []
+wait (suc n) r = waits (full r) ∷ wait n r
+
+seven_wait : (r : Stored) → phase_after made (reads 7 r) ≡ Filling 7 (wait 7 r)
+seven_wait r = refl
+
+eight_wait : (r : Stored) → phase_after made (reads 8 r) ≡ Holding 7 (wait 8 r)
+eight_wait r = refl

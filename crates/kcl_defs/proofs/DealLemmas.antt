@@ -1,0 +1,582 @@
+-- The reads and gives among an actor's turns are those of its tenures in the journal.
+use Rattle.std.proofs.Common.{◌≡◌, ℕ, ◌+◌, ◌<◌, Bool, true, false, List, [], ◌∷◌, ◌++◌, Option, Some, None, Ok, Err, refl, sym, ap, subst, ◌∙◌, arith}
+use Rattle.std.specs.Prelude.{◌==◌, ◌||◌, not, cond, if◌then◌else◌, Result, map}
+use Rattle.std.specs.List.{AllByRecursion}
+use Rattle.std.specs.Option.{option_map}
+use Rattle.std.proofs.lemmas.Bool.Decides.{nat_tests}
+use Rattle.std.proofs.lemmas.List.{append-nil}
+use Rattle.kds_base.specs.declared.lease_key.Checkpoint.{Checkpoint}
+use Rattle.kds_base.specs.declared.lease_key.ShardRef.{ShardRef}
+use Rattle.kds_defs.specs.declared.command.Command.{Command}
+use Rattle.kds_defs.specs.declared.command.Command.TheVariants as command
+use Rattle.kds_defs.specs.declared.command.NewItem.{NewItem}
+use Rattle.kds_defs.specs.declared.command.Target.{Target}
+use Rattle.kds_defs.specs.declared.command.Target.TheVariants as target
+use Rattle.kds_defs.specs.declared.command.Turn.{Turn}
+use Rattle.kcl_defs.specs.declared.consumer.Fetched.{Fetched}
+use Rattle.kds_defs.specs.declared.entry.Entry.{Entry}
+use Rattle.kds_defs.specs.declared.entry.Entry.TheVariants as entry
+use Rattle.kds_defs.specs.declared.reply.Refusal.{Refusal}
+use Rattle.kds_defs.specs.declared.reply.Reply.{Reply}
+use Rattle.kds_defs.specs.declared.reply.Reply.TheVariants as reply
+use Rattle.kds_defs.specs.declared.reply.Stored.{Stored}
+use Rattle.kds_defs.specs.declared.scale.ScaleStep.{ScaleStep}
+use Rattle.kds_defs.specs.declared.scale.ScaleStep.TheVariants.{Join, Cut}
+use Rattle.kds_defs.specs.Decision.{Decision, Refused, Accepted, refuse◌if◌else◌, with◌or◌then◌}
+use Rattle.kds_defs.specs.Histories.{decide, lines_of, answer_of, journal, clock, answer}
+use Rattle.kds_defs.specs.Journal.{Line, Journal, with_lines}
+use Rattle.kds_defs.specs.Leases.{TenureState, tenure, tenure_after, taken_count, taken_count_after, new_tenure, with_opened, with_read, with_given, row, checkpoint_in, reach, delivered}
+use Rattle.kds_defs.specs.LeaseCommands.{take_lease, open_shard, read, give, past_parent, past_parents, past_target}
+use Rattle.kds_defs.specs.Listings.{records_reply, ends_at, behind, iterator_at}
+use Rattle.kcl_defs.specs.Lives.{Deal, deals_of, reads_of, reads_in, gives_of, gives_in, give_in}
+use Rattle.kds_defs.specs.Records.{Logged, left_from, stored, numbers_of, batch, place_after}
+use Rattle.kds_defs.specs.Shards.{ShardState, shard_at, shown, children}
+use Rattle.kds_defs.specs.PutCommands.{is_held_back, put_lines}
+use Rattle.kds_defs.specs.ScaleCommands.{step_lines}
+use Rattle.kcl_defs.proofs.WorkerLemmas.{begins, was_taken, IsNewTenure, AreNewTenures, IsQuiet}
+use Rattle.kcl_defs.specs.WorkerLives.{read_done, AreOfTenure}
+
+-- ---- what a decision leads to
+
+abbrev pub Leads : (List Line → Result Reply Refusal → Type 0) → Decision → Type 0
+Leads P (Refused r) = P [] (Err r)
+Leads P (Accepted lines reply) = P lines (Ok reply)
+
+leads_so : (P : List Line → Result Reply Refusal → Type 0) (d : Decision) → Leads P d → P (lines_of d) (answer_of d)
+leads_so P (Refused r) h = h
+leads_so P (Accepted lines reply) h = h
+
+if_refused : (P : List Line → Result Reply Refusal → Type 0) (r : Refusal) (b : Bool) (d : Decision) → P [] (Err r) → (b ≡ false → Leads P d) → Leads P (refuse r if b else d)
+unfolding refuse◌if◌else◌
+if_refused P r true d h g = h
+if_refused P r false d h g = g refl
+
+if_none : {A : Type 0} (P : List Line → Result Reply Refusal → Type 0) (r : Refusal) (o : Option A) (d : A → Decision) → P [] (Err r) → ((x : A) → o ≡ Some x → Leads P (d x)) → Leads P (with o or r then d)
+unfolding with◌or◌then◌
+if_none P r None d h g = h
+if_none P r (Some x) d h g = g x refl
+
+-- ---- lines that leave the tenures
+
+abbrev pub IsStill : Entry → Type 0
+IsStill (entry.Taken key tenure counter owner) = ⊥
+IsStill (entry.Opened tenure) = ⊥
+IsStill (entry.Read tenure limit ended numbers) = ⊥
+IsStill (entry.Given tenure) = ⊥
+IsStill _ = Unit {0}
+
+abbrev pub AreStill : List Line → Type 0
+AreStill lines = AllByRecursion (λ line. IsStill line.what) lines
+
+still_tenure : (log : Journal) (line : Line) (what : Entry) (t : ℕ) (before : Option TenureState) → IsStill what → tenure_after log line what t before ≡ before
+still_tenure log line (entry.Taken key tenure counter owner) t before h = absurd h
+still_tenure log line (entry.Opened tenure) t before h = absurd h
+still_tenure log line (entry.Read tenure limit ended numbers) t before h = absurd h
+still_tenure log line (entry.Given tenure) t before h = absurd h
+still_tenure log line _ t before h = refl
+
+still_tenures : (lines : List Line) (log : Journal) (t : ℕ) → AreStill lines → tenure (with_lines lines log) t ≡ tenure log t
+still_tenures [] log t h = refl
+still_tenures (line ∷ lines) log t h = still_tenures lines (line ∷ log) t h.1 ∙ still_tenure log line line.what t (tenure log t) h.0
+
+-- the lines leave the tenures, and the answer begins none
+pub record LeavesTenures (lines : List Line) (answer : Result Reply Refusal) : Type 0 where
+  pub lines_still : AreStill lines
+  pub begins_none : (t : ℕ) → begins t answer ≡ false
+
+refused_leaves : (r : Refusal) → LeavesTenures [] (Err r)
+refused_leaves r = record { lines_still = tt; begins_none = λ t. refl }
+
+-- ---- which commands do so
+
+one_still : (b : Bool) (xs ys : List Line) → AreStill xs → AreStill ys → AreStill (if b then xs else ys)
+one_still true xs ys h g = h
+one_still false xs ys h g = g
+
+put_still : (c by s : ℕ) (items : List NewItem) (log : Journal) → AreStill (put_lines log c by s items)
+put_still c by s [] log = tt
+put_still c by s (item ∷ items) log = one_still (is_held_back log c s item) _ _ (put_still c by s items log) (tt, put_still c by s items _)
+
+step_still : (c by s : ℕ) (steps : List ScaleStep) (log : Journal) → AreStill (step_lines log c by s steps)
+step_still c by s [] log = tt
+step_still c by s (Join b ∷ steps) log = (tt, step_still c by s steps _)
+step_still c by s (Cut b ∷ steps) log = (tt, step_still c by s steps _)
+
+no : (r : Refusal) (b : Bool) (d : Decision) → Leads LeavesTenures d → Leads LeavesTenures (refuse r if b else d)
+no r b d h = if_refused LeavesTenures r b d (refused_leaves r) (λ e. h)
+
+on : {A : Type 0} (r : Refusal) (o : Option A) (d : A → Decision) → ((x : A) → Leads LeavesTenures (d x)) → Leads LeavesTenures (with o or r then d)
+on r o d h = if_none LeavesTenures r o d (refused_leaves r) (λ x e. h x)
+
+done : {lines : List Line} {reply : Reply} → AreStill lines → ((t : ℕ) → begins t (Ok reply) ≡ false) → LeavesTenures lines (Ok reply)
+done h g = record { lines_still = h; begins_none = g }
+
+records_leave : (log : Journal) (c s sh : ℕ) (rs : List Logged) (place : ℕ) → Leads LeavesTenures (records_reply log c s sh rs place)
+records_leave log c s sh rs place = record { lines_still = tt; begins_none = λ t. choice t (ends_at log c s sh place) (reply.Records (map stored rs) None (behind c (left_from log c s sh place)) (map shown (children log s sh))) (reply.Records (map stored rs) (Some (iterator_at c s sh place)) (behind c (left_from log c s sh place)) []) refl refl }
+  where
+    choice : (t : ℕ) (b : Bool) (x y : Reply) → begins t (Ok x) ≡ false → begins t (Ok y) ≡ false → begins t (Ok (cond b x y)) ≡ false
+    choice t true x y h g = h
+    choice t false x y h g = g
+
+-- a parent that is unread refuses
+parent_leaves : (log : Journal) (c s : ℕ) (o : Option ℕ) (d : Decision) → Leads LeavesTenures d → Leads LeavesTenures (past_parent log c s o d)
+parent_leaves log c s None d h = h
+parent_leaves log c s (Some parent) d h = no _ _ d h
+
+plain : Leads LeavesTenures (Accepted [] reply.Done)
+plain = record { lines_still = tt; begins_none = λ t. refl }
+
+target_leaves : (log : Journal) (T : TenureState) (to : Target) (d : Decision) → Leads LeavesTenures d → Leads LeavesTenures (past_target log T to d)
+target_leaves log T (target.At q) d h = no _ _ _ (no _ _ _ (no _ _ _ h))
+target_leaves log T target.End d h = no _ _ _ h
+
+-- the commands that begin, open, read or give no tenure
+abbrev pub TouchesNone : Command → Type 0
+TouchesNone (command.Take key counter owner) = ⊥
+TouchesNone (command.OpenShard t) = ⊥
+TouchesNone (command.Read t position limit) = ⊥
+TouchesNone (command.Give t) = ⊥
+TouchesNone _ = Unit {0}
+
+command_leaves : (log : Journal) (c by : ℕ) (what : Command) → TouchesNone what → Leads LeavesTenures (decide log c by what)
+command_leaves log c by (command.Create name count) h = no _ _ _ (no _ _ _ (no _ _ _ (done (tt, tt) (λ t. refl))))
+command_leaves log c by (command.Delete name) h = on _ _ _ (λ s. done (tt, tt) (λ t. refl))
+command_leaves log c by (command.Streams after limit) h = done tt (λ t. refl)
+command_leaves log c by (command.Describe name after limit) h = on _ _ _ (λ s. done tt (λ t. refl))
+command_leaves log c by (command.Summary name) h = on _ _ _ (λ s. done tt (λ t. refl))
+command_leaves log c by (command.Shards name after limit) h = on _ _ _ (λ s. done tt (λ t. refl))
+command_leaves log c by (command.More page limit) h = no _ _ _ (no _ _ _ (done tt (λ t. refl)))
+command_leaves log c by (command.GetIterator name sh from) h = on _ _ _ (λ s. no _ _ _ (on _ _ _ (λ x. no _ _ _ (done tt (λ t. refl)))))
+command_leaves log c by (command.Records iter limit) h = no _ _ _ (no _ _ _ (no _ _ _ (records_leave log c iter.stream iter.shard _ _)))
+command_leaves log c by (command.Put name item) h = on _ _ _ (λ s. no _ _ _ (no _ _ _ (done (tt, tt) (λ t. refl))))
+command_leaves log c by (command.PutMany name items) h = on _ _ _ (λ s. no _ _ _ (done (put_still c by s items log) (λ t. refl)))
+command_leaves log c by (command.Split name sh at) h = on _ _ _ (λ s. no _ _ _ (no _ _ _ (no _ _ _ (no _ _ _ (no _ _ _ (done (tt, tt) (λ t. refl)))))))
+command_leaves log c by (command.Merge name sh other) h = on _ _ _ (λ s. no _ _ _ (no _ _ _ (no _ _ _ (no _ _ _ (done (tt, tt) (λ t. refl))))))
+command_leaves log c by (command.Keep name wanted raise) h = on _ _ _ (λ s. no _ _ _ (done (tt, tt) (λ t. refl)))
+command_leaves log c by (command.Scale name target) h = on _ _ _ (λ s. no _ _ _ (no _ _ _ (done (step_still c by s _ log) (λ t. refl))))
+command_leaves log c by (command.Enforce name limits) h = on _ _ _ (λ s. done (tt, tt) (λ t. refl))
+command_leaves log c by command.Survey h = done tt (λ t. refl)
+command_leaves log c by (command.MakeLease key from) h = no _ _ _ (no _ _ _ (done (tt, tt) (λ t. refl)))
+command_leaves log c by (command.Take key counter owner) h = absurd h
+command_leaves log c by (command.Renew t counter) h = on _ _ _ (λ T. no _ _ _ (no _ _ _ (no _ _ _ (no _ _ _ (done (tt, tt) (λ u. refl))))))
+command_leaves log c by (command.Free t counter) h = on _ _ _ (λ T. no _ _ _ (no _ _ _ (no _ _ _ (no _ _ _ (done (tt, tt) (λ u. refl))))))
+command_leaves log c by (command.OpenShard t) h = absurd h
+command_leaves log c by (command.Read t position limit) h = absurd h
+command_leaves log c by (command.Give t) h = absurd h
+command_leaves log c by (command.Mark t counter to) h = on _ _ _ (λ T. no _ _ _ (no _ _ _ (no _ _ _ (target_leaves log T to _ (no _ _ _ (done (tt, tt) (λ u. refl)))))))
+command_leaves log c by (command.CutLease key counter) h = on _ _ _ (λ r. no _ _ _ (no _ _ _ (done (tt, tt) (λ t. refl))))
+
+-- ---- an actor's reads and gives are those of its tenures
+
+-- the reads of the tenure and how many are given, where it is the actor's; none where it is not
+abbrev pub AgreeWith : ℕ → ℕ → List Deal → Option TenureState → Type 0
+AgreeWith by t deals None = (was_taken t deals ≡ false) × (reads_in t deals ≡ []) × (gives_in t deals ≡ 0)
+AgreeWith by t deals (Some T) =
+    ((T.by == by) ≡ true → (map read_done (reads_in t deals) ≡ T.reads) × (gives_in t deals ≡ T.given))
+    × ((T.by == by) ≡ false → (reads_in t deals ≡ []) × (gives_in t deals ≡ 0))
+
+plus_none : (n : ℕ) → n + 0 ≡ n
+plus_none n = omega arith
+
+neither_so : (a b : Bool) → a ≡ false → b ≡ false → (a || b) ≡ false
+neither_so true b h g = absurd cc
+neither_so false b h g = g
+
+-- a command that adds nothing
+agree_still : (by t : ℕ) (deal : Deal) (deals : List Deal) (o : Option TenureState) → begins t deal.answer ≡ false → reads_of t deal.what deal.answer ≡ [] → gives_of t deal.what deal.answer ≡ 0 → AgreeWith by t deals o → AgreeWith by t (deal ∷ deals) o
+agree_still by t deal deals None b r g h = (
+  neither_so (begins t deal.answer) (was_taken t deals) b h.0,
+  ap (λ rs. reads_in t deals ++ rs) r ∙ append-nil (reads_in t deals) ∙ h.1,
+  ap (λ n. gives_in t deals + n) g ∙ plus_none (gives_in t deals) ∙ h.2,
+)
+agree_still by t deal deals (Some T) b r g h =
+    let same_reads : reads_in t (deal ∷ deals) ≡ reads_in t deals = ap (λ rs. reads_in t deals ++ rs) r ∙ append-nil (reads_in t deals) in
+    let same_gives : gives_in t (deal ∷ deals) ≡ gives_in t deals = ap (λ n. gives_in t deals + n) g ∙ plus_none (gives_in t deals) in (
+      λ e. (ap (λ rs. map read_done rs) same_reads ∙ (h.0 e).0, same_gives ∙ (h.0 e).1),
+      λ e. (same_reads ∙ (h.1 e).0, same_gives ∙ (h.1 e).1),
+    )
+
+same_none : (b : Bool) → cond {A = Option TenureState} b None None ≡ None
+same_none true = refl
+same_none false = refl
+
+none_of : {o : Option TenureState} (f : TenureState → TenureState) (b : Bool) → o ≡ None → cond b (option_map f o) o ≡ None
+none_of f b h = ap (λ o. cond b (option_map f o) o) h ∙ same_none b
+
+-- of a tenure that is there, whatever begins
+agree_still_some : (by t : ℕ) (deal : Deal) (deals : List Deal) (T : TenureState) → reads_of t deal.what deal.answer ≡ [] → gives_of t deal.what deal.answer ≡ 0 → AgreeWith by t deals (Some T) → AgreeWith by t (deal ∷ deals) (Some T)
+agree_still_some by t deal deals T r g h =
+    let same_reads : reads_in t (deal ∷ deals) ≡ reads_in t deals = ap (λ rs. reads_in t deals ++ rs) r ∙ append-nil (reads_in t deals) in
+    let same_gives : gives_in t (deal ∷ deals) ≡ gives_in t deals = ap (λ n. gives_in t deals + n) g ∙ plus_none (gives_in t deals) in (
+      λ e. (ap (λ rs. map read_done rs) same_reads ∙ (h.0 e).0, same_gives ∙ (h.0 e).1),
+      λ e. (same_reads ∙ (h.1 e).0, same_gives ∙ (h.1 e).1),
+    )
+
+-- the tenures of a journal have numbers up to their count
+unborn_at : (log : Journal) (line : Line) (what : Entry) (t : ℕ) → (taken_count log < t → tenure log t ≡ None) → taken_count_after what (taken_count log) < t → tenure_after log line what t (tenure log t) ≡ None
+unborn_at log line (entry.Taken key which counter owner) t before h =
+    ap (λ b. cond b (Some (new_tenure line.by key (checkpoint_in (row log key)))) (tenure_at log t)) (apart (taken_count log) t h) ∙ before (below (taken_count log) t h)
+  where
+    tenure_at : Journal → ℕ → Option TenureState
+    tenure_at log t = tenure log t
+
+    apart : (n t : ℕ) → n + 1 < t → (t == n + 1) ≡ false
+    apart n t h = grind (arith, nat_tests)
+
+    below : (n t : ℕ) → n + 1 < t → n < t
+    below n t h = omega (arith, h)
+unborn_at log line (entry.Opened which) t before h = none_of with_opened (which == t) (before h)
+unborn_at log line (entry.Read which limit ended numbers) t before h = none_of (with_read numbers ended) (which == t) (before h)
+unborn_at log line (entry.Given which) t before h = none_of with_given (which == t) (before h)
+unborn_at log line _ t before h = before h
+
+unborn : (log : Journal) (t : ℕ) → taken_count log < t → tenure log t ≡ None
+unborn [] t h = refl
+unborn (line ∷ log) t h = unborn_at log line line.what t (λ l. unborn log t l) h
+
+-- ---- one turn
+
+-- what is known before the turn, of each tenure
+abbrev pub AllAgree : ℕ → List Deal → Journal → Type 0
+AllAgree by deals log = (t : ℕ) → AgreeWith by t deals (tenure log t)
+
+abbrev with_answer : Command → Result Reply Refusal → List Deal → List Deal
+with_answer what answer deals = record { what = what; answer = answer } ∷ deals
+
+-- after a turn of its own, and after another's
+abbrev OwnAgrees : ℕ → Command → List Deal → Journal → ℕ → List Line → Result Reply Refusal → Type 0
+OwnAgrees by what deals log t lines answer = AgreeWith by t (with_answer what answer deals) (tenure (with_lines lines log) t)
+
+abbrev OtherAgrees : ℕ → List Deal → Journal → ℕ → List Line → Result Reply Refusal → Type 0
+OtherAgrees by deals log t lines answer = AgreeWith by t deals (tenure (with_lines lines log) t)
+
+same_number : (t u : ℕ) → (t == u) ≡ true → t ≡ u
+same_number t u h = grind (arith, nat_tests)
+
+flipped : (t u : ℕ) → (u == t) ≡ false → (t == u) ≡ false
+flipped t u h = grind (arith, nat_tests)
+
+own_actor : (a b d : ℕ) → (a == b) ≡ true → (b == d) ≡ true → (a == d) ≡ true
+own_actor a b d h g = grind (arith, nat_tests)
+
+other_actor : (a b d : ℕ) → (a == b) ≡ true → (b == d) ≡ false → (a == d) ≡ false
+other_actor a b d h g = grind (arith, nat_tests)
+
+apart_tests : (b : Bool) → b ≡ true → b ≡ false → ⊥
+apart_tests true h g = absurd cc
+apart_tests false h g = absurd cc
+
+not_not : (b : Bool) → not b ≡ false → b ≡ true
+not_not true h = refl
+not_not false h = absurd cc
+
+-- nothing of a tenure that is not there yet
+nothing_yet : (by : ℕ) (deals : List Deal) (log : Journal) → AllAgree by deals log → (was_taken (taken_count log + 1) deals ≡ false) × (reads_in (taken_count log + 1) deals ≡ []) × (gives_in (taken_count log + 1) deals ≡ 0)
+nothing_yet by deals log h =
+    subst (λ o. AgreeWith by (taken_count log + 1) deals o) (unborn log (taken_count log + 1) (above (taken_count log))) (h (taken_count log + 1))
+  where
+    above : (n : ℕ) → n < n + 1
+    above n = omega arith
+
+-- a refusal adds nothing
+own_refused : (by : ℕ) (what : Command) (deals : List Deal) (log : Journal) (t : ℕ) (r : Refusal) → reads_of t what (Err r) ≡ [] → gives_of t what (Err r) ≡ 0 → AllAgree by deals log → OwnAgrees by what deals log t [] (Err r)
+own_refused by what deals log t r no_read no_give h = agree_still by t (record { what = what; answer = Err r }) deals (tenure log t) refl no_read no_give (h t)
+
+-- ---- the words of a decision, for any refusal
+
+past_test : (P : List Line → Result Reply Refusal → Type 0) → ((r : Refusal) → P [] (Err r)) → (r : Refusal) (b : Bool) (d : Decision) → (b ≡ false → Leads P d) → Leads P (refuse r if b else d)
+past_test P all r b d g = if_refused P r b d (all r) g
+
+past_none : {A : Type 0} (P : List Line → Result Reply Refusal → Type 0) → ((r : Refusal) → P [] (Err r)) → (r : Refusal) (o : Option A) (d : A → Decision) → ((x : A) → o ≡ Some x → Leads P (d x)) → Leads P (with o or r then d)
+past_none P all r o d g = if_none P r o d (all r) g
+
+past_a_parent : (P : List Line → Result Reply Refusal → Type 0) → ((r : Refusal) → P [] (Err r)) → (log : Journal) (c s : ℕ) (o : Option ℕ) (d : Decision) → Leads P d → Leads P (past_parent log c s o d)
+past_a_parent P all log c s None d h = h
+past_a_parent P all log c s (Some parent) d h = past_test P all _ _ _ (λ e. h)
+
+past_the_parents : (P : List Line → Result Reply Refusal → Type 0) → ((r : Refusal) → P [] (Err r)) → (log : Journal) (c s : ℕ) (o : Option ShardState) (d : Decision) → Leads P d → Leads P (past_parents log c s o d)
+past_the_parents P all log c s None d h = h
+past_the_parents P all log c s (Some x) d h = past_a_parent P all log c s x.parent (past_parent log c s x.adjacent d) (past_a_parent P all log c s x.adjacent d h)
+
+-- ---- Take
+
+-- a tenure that has nothing yet agrees with a new one
+agree_new : (by t actor : ℕ) (key : ShardRef) (start : Checkpoint) (deals : List Deal) → reads_in t deals ≡ [] → gives_in t deals ≡ 0 → AgreeWith by t deals (Some (new_tenure actor key start))
+agree_new by t actor key start deals r g = (λ e. (ap (λ rs. map read_done rs) r, g), λ e. (r, g))
+
+begun : (by actor : ℕ) (key : ShardRef) (start : Checkpoint) (t n : ℕ) (deals : List Deal) (before : Option TenureState) (b : Bool) → (t == n) ≡ b → (was_taken n deals ≡ false) × (reads_in n deals ≡ []) × (gives_in n deals ≡ 0) → (b ≡ false → AgreeWith by t deals before) → (b ≡ true → (reads_in t deals ≡ []) × (gives_in t deals ≡ 0) → AgreeWith by t deals (Some (new_tenure actor key start))) → AgreeWith by t deals (cond b (Some (new_tenure actor key start)) before)
+begun by actor key start t n deals before true e nothing same new =
+    let u : t ≡ n = same_number t n e in
+    new refl (subst (λ m. reads_in m deals ≡ []) (sym u) nothing.1, subst (λ m. gives_in m deals ≡ 0) (sym u) nothing.2)
+begun by actor key start t n deals before false e nothing same new = same refl
+
+-- a turn of its own that begins a tenure
+begun_own : (by actor : ℕ) (key : ShardRef) (what : Command) (from start : Checkpoint) (t n counter : ℕ) (deals : List Deal) (before : Option TenureState) (b : Bool) → (t == n) ≡ b → IsQuiet what → (was_taken n deals ≡ false) × (reads_in n deals ≡ []) × (gives_in n deals ≡ 0) → AgreeWith by t deals before → AgreeWith by t (with_answer what (Ok (reply.Taken n counter from)) deals) (cond b (Some (new_tenure actor key start)) before)
+begun_own by actor key what from start t n counter deals before true e quiet nothing h =
+    let u : t ≡ n = same_number t n e in
+    let q = quiet t (Ok (reply.Taken n counter from)) in
+    agree_still_some by t (record { what = what; answer = Ok (reply.Taken n counter from) }) deals (new_tenure actor key start) q.0 q.1
+    (agree_new by t actor key start deals (subst (λ m. reads_in m deals ≡ []) (sym u) nothing.1) (subst (λ m. gives_in m deals ≡ 0) (sym u) nothing.2))
+begun_own by actor key what from start t n counter deals before false e quiet nothing h =
+    let q = quiet t (Ok (reply.Taken n counter from)) in
+    agree_still by t (record { what = what; answer = Ok (reply.Taken n counter from) }) deals before (flipped n t e) q.0 q.1 h
+
+take_own : (by actor c : ℕ) (key : ShardRef) (counter owner : ℕ) (deals : List Deal) (log : Journal) (t : ℕ) → AllAgree by deals log → Leads (OwnAgrees by (command.Take key counter owner) deals log t) (take_lease log c actor key counter owner)
+take_own by actor c key counter owner deals log t h =
+    let P : List Line → Result Reply Refusal → Type 0 = OwnAgrees by (command.Take key counter owner) deals log t in
+    let refused : (r : Refusal) → P [] (Err r) = λ r. own_refused by (command.Take key counter owner) deals log t r refl refl h in
+    past_none P refused _ _ _ (λ r e. past_test P refused _ _ _ (λ a. past_test P refused _ _ _ (λ b. past_test P refused _ _ _ (λ d.
+    begun_own by actor key (command.Take key counter owner) r.checkpoint (checkpoint_in (row log key)) t (taken_count log + 1) (r.counter + 1) deals (tenure log t) (t == taken_count log + 1) refl (λ u x. (refl, refl)) (nothing_yet by deals log h) (h t)))))
+
+-- another's turn that begins a tenure
+begun_other : (by actor : ℕ) (key : ShardRef) (start : Checkpoint) (t n : ℕ) (deals : List Deal) (before : Option TenureState) (b : Bool) → (t == n) ≡ b → (was_taken n deals ≡ false) × (reads_in n deals ≡ []) × (gives_in n deals ≡ 0) → AgreeWith by t deals before → AgreeWith by t deals (cond b (Some (new_tenure actor key start)) before)
+begun_other by actor key start t n deals before true e nothing h =
+    let u : t ≡ n = same_number t n e in
+    agree_new by t actor key start deals (subst (λ m. reads_in m deals ≡ []) (sym u) nothing.1) (subst (λ m. gives_in m deals ≡ 0) (sym u) nothing.2)
+begun_other by actor key start t n deals before false e nothing h = h
+
+take_other : (by actor c : ℕ) (key : ShardRef) (counter owner : ℕ) (deals : List Deal) (log : Journal) (t : ℕ) → AllAgree by deals log → Leads (OtherAgrees by deals log t) (take_lease log c actor key counter owner)
+take_other by actor c key counter owner deals log t h =
+    let P : List Line → Result Reply Refusal → Type 0 = OtherAgrees by deals log t in
+    let refused : (r : Refusal) → P [] (Err r) = λ r. h t in
+    past_none P refused _ _ _ (λ r e. past_test P refused _ _ _ (λ a. past_test P refused _ _ _ (λ b. past_test P refused _ _ _ (λ d.
+    begun_other by actor key (checkpoint_in (row log key)) t (taken_count log + 1) deals (tenure log t) (t == taken_count log + 1) refl (nothing_yet by deals log h) (h t)))))
+
+-- ---- OpenShard
+
+agree_opened : (by t : ℕ) (deals : List Deal) (b : Bool) (o : Option TenureState) → AgreeWith by t deals o → AgreeWith by t deals (cond b (option_map with_opened o) o)
+agree_opened by t deals true None h = h
+agree_opened by t deals true (Some T) h = h
+agree_opened by t deals false o h = h
+
+open_own : (by actor c which : ℕ) (deals : List Deal) (log : Journal) (t : ℕ) → AllAgree by deals log → Leads (OwnAgrees by (command.OpenShard which) deals log t) (open_shard log c actor which)
+open_own by actor c which deals log t h =
+    let P : List Line → Result Reply Refusal → Type 0 = OwnAgrees by (command.OpenShard which) deals log t in
+    let refused : (r : Refusal) → P [] (Err r) = λ r. own_refused by (command.OpenShard which) deals log t r refl refl h in
+    past_none P refused _ _ _ (λ T e. past_test P refused _ _ _ (λ a. past_test P refused _ _ _ (λ b. past_test P refused _ _ _ (λ d. past_test P refused _ _ _ (λ f.
+    past_the_parents P refused log c T.key.stream (shard_at log T.key.stream T.key.shard) _
+    (agree_still by t (record { what = command.OpenShard which; answer = Ok reply.Done }) deals (cond (which == t) (option_map with_opened (tenure log t)) (tenure log t)) refl refl refl
+    (agree_opened by t deals (which == t) (tenure log t) (h t))))))))
+
+open_other : (by actor c which : ℕ) (deals : List Deal) (log : Journal) (t : ℕ) → AllAgree by deals log → Leads (OtherAgrees by deals log t) (open_shard log c actor which)
+open_other by actor c which deals log t h =
+    let P : List Line → Result Reply Refusal → Type 0 = OtherAgrees by deals log t in
+    let refused : (r : Refusal) → P [] (Err r) = λ r. h t in
+    past_none P refused _ _ _ (λ T e. past_test P refused _ _ _ (λ a. past_test P refused _ _ _ (λ b. past_test P refused _ _ _ (λ d. past_test P refused _ _ _ (λ f.
+    past_the_parents P refused log c T.key.stream (shard_at log T.key.stream T.key.shard) _
+    (agree_opened by t deals (which == t) (tenure log t) (h t)))))))
+
+-- ---- Read
+
+-- the numbers of what is read are those of the line
+numbers_stored : (rs : List Logged) → map (λ (r : Stored). r.seq) (map stored rs) ≡ numbers_of rs
+numbers_stored [] = refl
+numbers_stored (r ∷ rs) = ap (λ ns. r.seq ∷ ns) (numbers_stored rs)
+
+map-append : (xs ys : List Fetched) → map read_done (xs ++ ys) ≡ map read_done xs ++ map read_done ys
+map-append [] ys = refl
+map-append (x ∷ xs) ys = ap (λ l. read_done x ∷ l) (map-append xs ys)
+
+-- a read of the tenure, which is the actor's
+agree_read : (by t : ℕ) (deals : List Deal) (T : TenureState) (rs : List Logged) (ended : Bool) (what : Command) (place : ℕ) → (T.by == by) ≡ true → reads_of t what (Ok (reply.Read (map stored rs) place ended)) ≡ record { batch = map stored rs; ended = ended } ∷ [] → gives_of t what (Ok (reply.Read (map stored rs) place ended)) ≡ 0 → AgreeWith by t deals (Some T) → AgreeWith by t (with_answer what (Ok (reply.Read (map stored rs) place ended)) deals) (Some (with_read (numbers_of rs) ended T))
+agree_read by t deals T rs ended what place own one none h = (
+  λ e. (
+    ap (λ xs. map read_done (reads_in t deals ++ xs)) one
+        ∙ map-append (reads_in t deals) (record { batch = map stored rs; ended = ended } ∷ [])
+        ∙ ap (λ xs. xs ++ (record { numbers = map (λ (r : Stored). r.seq) (map stored rs); ended = ended } ∷ [])) (h.0 e).0
+        ∙ ap (λ ns. T.reads ++ (record { numbers = ns; ended = ended } ∷ [])) (numbers_stored rs),
+    ap (λ n. gives_in t deals + n) none ∙ plus_none (gives_in t deals) ∙ (h.0 e).1,
+  ),
+  λ e. absurd (apart_tests (T.by == by) own e),
+)
+
+read_in_tenure : (which t : ℕ) (x : List Fetched) (b : Bool) → (which == t) ≡ b → b ≡ true → (if which == t then x else []) ≡ x
+read_in_tenure which t x b e h = ap (λ c. cond c x []) (e ∙ h)
+
+read_at : (by actor which t position limit place : ℕ) (deals : List Deal) (before found : Option TenureState) (T : TenureState) (rs : List Logged) (ended : Bool) (b : Bool) → (which == t) ≡ b → (b ≡ true → before ≡ Some T) → (T.by == actor) ≡ true → (actor == by) ≡ true → AgreeWith by t deals before → AgreeWith by t (with_answer (command.Read which position limit) (Ok (reply.Read (map stored rs) place ended)) deals) (cond b (option_map (with_read (numbers_of rs) ended) before) before)
+read_at by actor which t position limit place deals before found T rs ended true e is a o h =
+    let P : Option TenureState → Type 0 = λ x. AgreeWith by t (with_answer (command.Read which position limit) (Ok (reply.Read (map stored rs) place ended)) deals) (option_map (with_read (numbers_of rs) ended) x) in
+    subst P (sym (is refl)) (agree_read by t deals T rs ended (command.Read which position limit) place (own_actor T.by actor by a o)
+    (ap (λ c. cond c (record { batch = map stored rs; ended = ended } ∷ []) []) e) refl (subst (λ x. AgreeWith by t deals x) (is refl) h))
+read_at by actor which t position limit place deals before found T rs ended false e is a o h =
+    agree_still by t (record { what = command.Read which position limit; answer = Ok (reply.Read (map stored rs) place ended) }) deals before refl
+    (ap (λ c. cond c (record { batch = map stored rs; ended = ended } ∷ []) []) e) refl h
+
+reads_refused : (which t position limit : ℕ) (r : Refusal) → reads_of t (command.Read which position limit) (Err r) ≡ []
+reads_refused which t position limit r = choice (which == t)
+  where
+    choice : (b : Bool) → cond {A = List Fetched} b [] [] ≡ []
+    choice true = refl
+    choice false = refl
+
+gives_refused : (which t : ℕ) (r : Refusal) → gives_of t (command.Give which) (Err r) ≡ 0
+gives_refused which t r = choice (which == t)
+  where
+    choice : (b : Bool) → cond {A = ℕ} b 0 0 ≡ 0
+    choice true = refl
+    choice false = refl
+
+same_tenure : (log : Journal) (which t : ℕ) (T : TenureState) → tenure log which ≡ Some T → (which == t) ≡ true → tenure log t ≡ Some T
+same_tenure log which t T e h = subst (λ n. tenure log n ≡ Some T) (same_number which t h) e
+
+read_own : (by actor c which position limit : ℕ) (deals : List Deal) (log : Journal) (t : ℕ) → (actor == by) ≡ true → AllAgree by deals log → Leads (OwnAgrees by (command.Read which position limit) deals log t) (read log c actor which position limit)
+read_own by actor c which position limit deals log t own h =
+    let P : List Line → Result Reply Refusal → Type 0 = OwnAgrees by (command.Read which position limit) deals log t in
+    let refused : (r : Refusal) → P [] (Err r) = λ r. own_refused by (command.Read which position limit) deals log t r (reads_refused which t position limit r) refl h in
+    past_none P refused _ _ _ (λ T e. past_test P refused _ _ _ (λ a. past_test P refused _ _ _ (λ b. past_test P refused _ _ _ (λ d. past_test P refused _ _ _ (λ f. past_test P refused _ _ _ (λ g.
+    let rs = batch log c T.key.stream T.key.shard (reach T) limit in
+    read_at by actor which t position limit (place_after (reach T) (numbers_of rs)) deals (tenure log t) None T rs (ends_at log c T.key.stream T.key.shard (place_after (reach T) (numbers_of rs))) (which == t) refl
+    (λ x. same_tenure log which t T e x) (not_not (T.by == actor) a) own (h t)))))))
+
+-- a line of a tenure that is another's
+agree_other : (by t : ℕ) (deals : List Deal) (T U : TenureState) → U.by ≡ T.by → (T.by == by) ≡ false → AgreeWith by t deals (Some T) → AgreeWith by t deals (Some U)
+agree_other by t deals T U same other h =
+    (λ e. absurd (apart_tests (T.by == by) (ap (λ n. n == by) (sym same) ∙ e) other), λ e. h.1 other)
+
+other_at : (f : TenureState → TenureState) → ((T : TenureState) → (f T).by ≡ T.by) → (by actor t : ℕ) (deals : List Deal) (before : Option TenureState) (T : TenureState) (b : Bool) → (b ≡ true → before ≡ Some T) → (T.by == actor) ≡ true → (actor == by) ≡ false → AgreeWith by t deals before → AgreeWith by t deals (cond b (option_map f before) before)
+other_at f keeps by actor t deals before T true is a o h =
+    let P : Option TenureState → Type 0 = λ x. AgreeWith by t deals (option_map f x) in
+    subst P (sym (is refl)) (agree_other by t deals T (f T) (keeps T) (other_actor T.by actor by a o) (subst (λ x. AgreeWith by t deals x) (is refl) h))
+other_at f keeps by actor t deals before T false is a o h = h
+
+read_other : (by actor c which position limit : ℕ) (deals : List Deal) (log : Journal) (t : ℕ) → (actor == by) ≡ false → AllAgree by deals log → Leads (OtherAgrees by deals log t) (read log c actor which position limit)
+read_other by actor c which position limit deals log t other h =
+    let P : List Line → Result Reply Refusal → Type 0 = OtherAgrees by deals log t in
+    let refused : (r : Refusal) → P [] (Err r) = λ r. h t in
+    past_none P refused _ _ _ (λ T e. past_test P refused _ _ _ (λ a. past_test P refused _ _ _ (λ b. past_test P refused _ _ _ (λ d. past_test P refused _ _ _ (λ f. past_test P refused _ _ _ (λ g.
+    let rs = batch log c T.key.stream T.key.shard (reach T) limit in
+    other_at (with_read (numbers_of rs) (ends_at log c T.key.stream T.key.shard (place_after (reach T) (numbers_of rs)))) (λ T. refl) by actor t deals (tenure log t) T (which == t)
+    (λ x. same_tenure log which t T e x) (not_not (T.by == actor) a) other (h t)))))))
+
+-- ---- Give
+
+agree_given : (by t : ℕ) (deals : List Deal) (T : TenureState) (which n : ℕ) → (T.by == by) ≡ true → gives_of t (command.Give which) (Ok (reply.Given n)) ≡ 1 → AgreeWith by t deals (Some T) → AgreeWith by t (with_answer (command.Give which) (Ok (reply.Given n)) deals) (Some (with_given T))
+agree_given by t deals T which n own one h = (
+  λ e. (
+    ap (λ rs. map read_done rs) (append-nil (reads_in t deals)) ∙ (h.0 e).0,
+    ap (λ m. gives_in t deals + m) one ∙ ap (λ m. m + 1) (h.0 e).1,
+  ),
+  λ e. absurd (apart_tests (T.by == by) own e),
+)
+
+give_at : (by actor which t n : ℕ) (deals : List Deal) (before : Option TenureState) (T : TenureState) (b : Bool) → (which == t) ≡ b → (b ≡ true → before ≡ Some T) → (T.by == actor) ≡ true → (actor == by) ≡ true → AgreeWith by t deals before → AgreeWith by t (with_answer (command.Give which) (Ok (reply.Given n)) deals) (cond b (option_map with_given before) before)
+give_at by actor which t n deals before T true e is a o h =
+    let P : Option TenureState → Type 0 = λ x. AgreeWith by t (with_answer (command.Give which) (Ok (reply.Given n)) deals) (option_map with_given x) in
+    subst P (sym (is refl)) (agree_given by t deals T which n (own_actor T.by actor by a o)
+    (ap (λ c. cond c (give_in (Ok (reply.Given n))) 0) e) (subst (λ x. AgreeWith by t deals x) (is refl) h))
+give_at by actor which t n deals before T false e is a o h =
+    agree_still by t (record { what = command.Give which; answer = Ok (reply.Given n) }) deals before refl refl
+    (ap (λ c. cond c (give_in (Ok (reply.Given n))) 0) e) h
+
+give_own : (by actor c which : ℕ) (deals : List Deal) (log : Journal) (t : ℕ) → (actor == by) ≡ true → AllAgree by deals log → Leads (OwnAgrees by (command.Give which) deals log t) (give log c actor which)
+give_own by actor c which deals log t own h =
+    let P : List Line → Result Reply Refusal → Type 0 = OwnAgrees by (command.Give which) deals log t in
+    let refused : (r : Refusal) → P [] (Err r) = λ r. own_refused by (command.Give which) deals log t r refl (gives_refused which t r) h in
+    past_none P refused _ _ _ (λ T e. past_test P refused _ _ _ (λ a. past_test P refused _ _ _ (λ b.
+    give_at by actor which t (delivered (with_given T)) deals (tenure log t) T (which == t) refl
+    (λ x. same_tenure log which t T e x) (not_not (T.by == actor) a) own (h t))))
+
+give_other : (by actor c which : ℕ) (deals : List Deal) (log : Journal) (t : ℕ) → (actor == by) ≡ false → AllAgree by deals log → Leads (OtherAgrees by deals log t) (give log c actor which)
+give_other by actor c which deals log t other h =
+    let P : List Line → Result Reply Refusal → Type 0 = OtherAgrees by deals log t in
+    let refused : (r : Refusal) → P [] (Err r) = λ r. h t in
+    past_none P refused _ _ _ (λ T e. past_test P refused _ _ _ (λ a. past_test P refused _ _ _ (λ b.
+    other_at with_given (λ T. refl) by actor t deals (tenure log t) T (which == t)
+    (λ x. same_tenure log which t T e x) (not_not (T.by == actor) a) other (h t))))
+
+-- ---- any command
+
+quiet_command : (what : Command) → TouchesNone what → IsQuiet what
+quiet_command (command.Take key counter owner) h = absurd h
+quiet_command (command.OpenShard t) h = absurd h
+quiet_command (command.Read t position limit) h = absurd h
+quiet_command (command.Give t) h = absurd h
+quiet_command _ h = λ u a. (refl, refl)
+
+leaves_own : (by c actor : ℕ) (what : Command) (deals : List Deal) (log : Journal) (t : ℕ) → TouchesNone what → AllAgree by deals log → (d : Decision) → Leads LeavesTenures d → OwnAgrees by what deals log t (lines_of d) (answer_of d)
+leaves_own by c actor what deals log t touches h d leads =
+    let l = leads_so LeavesTenures d leads in
+    let q = quiet_command what touches t (answer_of d) in
+    subst (λ o. AgreeWith by t (with_answer what (answer_of d) deals) o) (sym (still_tenures (lines_of d) log t l.lines_still))
+    (agree_still by t (record { what = what; answer = answer_of d }) deals (tenure log t) (l.begins_none t) q.0 q.1 (h t))
+
+leaves_other : (by c actor : ℕ) (deals : List Deal) (log : Journal) (t : ℕ) → AllAgree by deals log → (d : Decision) → Leads LeavesTenures d → OtherAgrees by deals log t (lines_of d) (answer_of d)
+leaves_other by c actor deals log t h d leads =
+    let l = leads_so LeavesTenures d leads in
+    subst (λ o. AgreeWith by t deals o) (sym (still_tenures (lines_of d) log t l.lines_still)) (h t)
+
+turn_own : (by actor c : ℕ) (what : Command) (deals : List Deal) (log : Journal) (t : ℕ) → (actor == by) ≡ true → AllAgree by deals log → OwnAgrees by what deals log t (lines_of (decide log c actor what)) (answer_of (decide log c actor what))
+turn_own by actor c (command.Take key counter owner) deals log t own h = leads_so (OwnAgrees by (command.Take key counter owner) deals log t) (take_lease log c actor key counter owner) (take_own by actor c key counter owner deals log t h)
+turn_own by actor c (command.OpenShard which) deals log t own h = leads_so (OwnAgrees by (command.OpenShard which) deals log t) (open_shard log c actor which) (open_own by actor c which deals log t h)
+turn_own by actor c (command.Read which position limit) deals log t own h = leads_so (OwnAgrees by (command.Read which position limit) deals log t) (read log c actor which position limit) (read_own by actor c which position limit deals log t own h)
+turn_own by actor c (command.Give which) deals log t own h = leads_so (OwnAgrees by (command.Give which) deals log t) (give log c actor which) (give_own by actor c which deals log t own h)
+turn_own by actor c what deals log t own h = leaves_own by c actor what deals log t tt h (decide log c actor what) (command_leaves log c actor what tt)
+
+turn_other : (by actor c : ℕ) (what : Command) (deals : List Deal) (log : Journal) (t : ℕ) → (actor == by) ≡ false → AllAgree by deals log → OtherAgrees by deals log t (lines_of (decide log c actor what)) (answer_of (decide log c actor what))
+turn_other by actor c (command.Take key counter owner) deals log t other h = leads_so (OtherAgrees by deals log t) (take_lease log c actor key counter owner) (take_other by actor c key counter owner deals log t h)
+turn_other by actor c (command.OpenShard which) deals log t other h = leads_so (OtherAgrees by deals log t) (open_shard log c actor which) (open_other by actor c which deals log t h)
+turn_other by actor c (command.Read which position limit) deals log t other h = leads_so (OtherAgrees by deals log t) (read log c actor which position limit) (read_other by actor c which position limit deals log t other h)
+turn_other by actor c (command.Give which) deals log t other h = leads_so (OtherAgrees by deals log t) (give log c actor which) (give_other by actor c which deals log t other h)
+turn_other by actor c what deals log t other h = leaves_other by c actor deals log t h (decide log c actor what) (command_leaves log c actor what tt)
+
+-- ---- histories
+
+agree_turn : (by : ℕ) (turn : Turn) (h : List Turn) (t : ℕ) (b : Bool) → (turn.by == by) ≡ b → AllAgree by (deals_of by h) (journal h) → AgreeWith by t (cond b (record { what = turn.what; answer = answer h turn } ∷ deals_of by h) (deals_of by h)) (tenure (journal (turn ∷ h)) t)
+agree_turn by turn h t true e all = turn_own by turn.by (clock (turn ∷ h)) turn.what (deals_of by h) (journal h) t e all
+agree_turn by turn h t false e all = turn_other by turn.by (clock (turn ∷ h)) turn.what (deals_of by h) (journal h) t e all
+
+-- the reads and gives among an actor's turns are those of its tenures
+pub agree : (by : ℕ) (h : List Turn) → AllAgree by (deals_of by h) (journal h)
+agree by [] = λ t. (refl, refl, refl)
+agree by (turn ∷ h) = λ t. agree_turn by turn h t (turn.by == by) refl (agree by h)
+
+-- a tenure that an answer begins is new
+abbrev NewAfter : List Deal → List Line → Result Reply Refusal → Type 0
+NewAfter deals lines answer = IsNewTenure answer deals
+
+new_take : (by actor c : ℕ) (key : ShardRef) (counter owner : ℕ) (deals : List Deal) (log : Journal) → AllAgree by deals log → Leads (NewAfter deals) (take_lease log c actor key counter owner)
+new_take by actor c key counter owner deals log h =
+    past_none (NewAfter deals) (λ r. tt) _ _ _ (λ r e. past_test (NewAfter deals) (λ r. tt) _ _ _ (λ a. past_test (NewAfter deals) (λ r. tt) _ _ _ (λ b. past_test (NewAfter deals) (λ r. tt) _ _ _ (λ d.
+    nothing_yet by deals log h))))
+
+begins_no : (answer : Result Reply Refusal) (deals : List Deal) → ((t : ℕ) → begins t answer ≡ false) → IsNewTenure answer deals
+begins_no (Ok (reply.Taken tenure counter start)) deals h = absurd (own_begins tenure (h tenure))
+  where
+    own_begins : (t : ℕ) → (t == t) ≡ false → ⊥
+    own_begins t e = grind (arith, nat_tests)
+begins_no (Ok _) deals h = tt
+begins_no (Err r) deals h = tt
+
+new_open : (log : Journal) (c actor which : ℕ) (deals : List Deal) → Leads (NewAfter deals) (open_shard log c actor which)
+new_open log c actor which deals =
+    past_none (NewAfter deals) (λ r. tt) _ _ _ (λ T e. past_test (NewAfter deals) (λ r. tt) _ _ _ (λ a. past_test (NewAfter deals) (λ r. tt) _ _ _ (λ b. past_test (NewAfter deals) (λ r. tt) _ _ _ (λ d. past_test (NewAfter deals) (λ r. tt) _ _ _ (λ f.
+    past_the_parents (NewAfter deals) (λ r. tt) log c T.key.stream (shard_at log T.key.stream T.key.shard) _ tt)))))
+
+new_read : (log : Journal) (c actor which position limit : ℕ) (deals : List Deal) → Leads (NewAfter deals) (read log c actor which position limit)
+new_read log c actor which position limit deals =
+    past_none (NewAfter deals) (λ r. tt) _ _ _ (λ T e. past_test (NewAfter deals) (λ r. tt) _ _ _ (λ a. past_test (NewAfter deals) (λ r. tt) _ _ _ (λ b. past_test (NewAfter deals) (λ r. tt) _ _ _ (λ d. past_test (NewAfter deals) (λ r. tt) _ _ _ (λ f. past_test (NewAfter deals) (λ r. tt) _ _ _ (λ g. tt))))))
+
+new_give : (log : Journal) (c actor which : ℕ) (deals : List Deal) → Leads (NewAfter deals) (give log c actor which)
+new_give log c actor which deals =
+    past_none (NewAfter deals) (λ r. tt) _ _ _ (λ T e. past_test (NewAfter deals) (λ r. tt) _ _ _ (λ a. past_test (NewAfter deals) (λ r. tt) _ _ _ (λ b. tt)))
+
+new_turn : (by actor c : ℕ) (what : Command) (deals : List Deal) (log : Journal) → AllAgree by deals log → IsNewTenure (answer_of (decide log c actor what)) deals
+new_turn by actor c (command.Take key counter owner) deals log h = leads_so (NewAfter deals) (take_lease log c actor key counter owner) (new_take by actor c key counter owner deals log h)
+new_turn by actor c (command.OpenShard which) deals log h = leads_so (NewAfter deals) (open_shard log c actor which) (new_open log c actor which deals)
+new_turn by actor c (command.Read which position limit) deals log h = leads_so (NewAfter deals) (read log c actor which position limit) (new_read log c actor which position limit deals)
+new_turn by actor c (command.Give which) deals log h = leads_so (NewAfter deals) (give log c actor which) (new_give log c actor which deals)
+new_turn by actor c what deals log h = begins_no (answer_of (decide log c actor what)) deals (leads_so LeavesTenures (decide log c actor what) (command_leaves log c actor what tt)).begins_none
+
+new_turns : (by : ℕ) (turn : Turn) (h : List Turn) (b : Bool) → AreNewTenures (deals_of by h) → AreNewTenures (cond b (record { what = turn.what; answer = answer h turn } ∷ deals_of by h) (deals_of by h))
+new_turns by turn h true new = (new_turn by turn.by (clock (turn ∷ h)) turn.what (deals_of by h) (journal h) (agree by h), new)
+new_turns by turn h false new = new
+
+pub new_tenures : (by : ℕ) (h : List Turn) → AreNewTenures (deals_of by h)
+new_tenures by [] = tt
+new_tenures by (turn ∷ h) = new_turns by turn h (turn.by == by) (new_tenures by h)
+
+-- the reads and gives of an actor's tenure are those of the journal
+pub of_tenure : (by : ℕ) (h : List Turn) (t : ℕ) (T : TenureState) → tenure (journal h) t ≡ Some T → (T.by == by) ≡ true → AreOfTenure by h t T
+of_tenure by h t T begun own =
+    let a = (subst (λ o. AgreeWith by t (deals_of by h) o) begun (agree by h t)).0 own in
+    record { reads = a.0; gives = a.1 }

@@ -1,0 +1,9 @@
+pub mod AheadExamples
+pub mod LifeLemmas
+pub mod StepLemmas
+pub mod WorkerExamples
+pub mod WorkerLemmas
+pub mod DealLemmas
+pub mod SettledLemmas
+pub mod GiveLemmas
+pub mod RetiredLemmas

@@ -1,0 +1,5 @@
+pub mod Plans
+pub mod Consumers
+pub mod Lives
+pub mod Workers
+pub mod WorkerLives

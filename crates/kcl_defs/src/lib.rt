@@ -1,0 +1,8 @@
+//! What plans, consumers and workers are: their types, and the definitions that their contracts cite (in `specs/`).
+#![tactic(auto)]
+
+pub mod consumer;
+pub mod plans;
+
+pub use consumer::{Ask, Call, Due, Fetched, Progress, Settings, Tenancy, Why, WorkerMade};
+pub use plans::{Held, LeaseId, Seen, SyncStep, TakeStep};
