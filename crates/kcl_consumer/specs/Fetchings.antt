@@ -1,0 +1,17 @@
+-- What a Read was answered, as a consumer takes it.
+use Rattle.std.specs.Prelude.{ℕ, ◌≡◌, List, Result}
+use Rattle.kcl_defs.specs.declared.consumer.Fetched.{Fetched}
+use Rattle.kds_defs.specs.declared.reply.Refusal.{Refusal}
+use Rattle.kds_defs.specs.declared.reply.Reply.{Reply}
+use Rattle.kcl_consumer.specs.declared.consumer.Fetching.{Fetching}
+use Rattle.kcl_consumer.specs.declared.consumer.Fetching.TheVariants as fetching
+use Rattle.kcl_defs.specs.Consumers.{Phase, Filling, Leaving, fetched, after_read}
+
+-- where it leads
+abbrev pub phase_by : ℕ → ℕ → List Fetched → Fetching → Phase
+phase_by limit reach waiting (fetching.Read f place) = fetched limit place waiting f
+phase_by limit reach waiting fetching.Nothing = Filling reach waiting
+phase_by limit reach waiting (fetching.Left why) = Leaving why
+
+abbrev pub IsFetching : Result Reply Refusal → Fetching → Type 0
+IsFetching answer f = (limit reach : ℕ) (waiting : List Fetched) → after_read limit reach waiting answer ≡ phase_by limit reach waiting f

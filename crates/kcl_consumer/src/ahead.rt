@@ -1,0 +1,113 @@
+//! The batches that were read and not yet given.
+ghost use Rattle.std.specs.Prelude.{ℕ, ◌≡◌, ◌+◌, ◌<◌, [], ◌∷◌, ◌++◌, length, IfOk, None, false};
+ghost use Rattle.kds_defs.specs.declared.limits.TheConstants.{PENDING_READS};
+ghost use Rattle.kcl_defs.specs.Consumers.{first_batch, front, is_filled, over_at, was_handed};
+ghost use Rattle.kcl_consumer.specs.Aheads.{IsTaken};
+ghost use Rattle.kcl_consumer.specs.Stages.{IsKept, phase_of};
+
+use crate::stage::Stage;
+use circular_buffer::HeapCircularBuffer;
+use kcl_defs::Fetched;
+use kds_base::Memory;
+use kds_defs::Stored;
+use kds_defs::limits::PENDING_READS;
+use std::alloc::Global;
+use std::marker::Model;
+
+/// A ring of batches that were read and not yet given, at most eight, as many as a tenure may have (Kinesis Client
+/// Library, PrefetchRecordsPublisher).
+#[derive(Drop)]
+pub struct Ahead {
+    ring: HeapCircularBuffer<Fetched>,
+}
+
+impl Model for Ahead {
+    ghost use Rattle.std.specs.Prelude.{◌≡◌, List};
+    ghost use Rattle.kcl_defs.specs.declared.consumer.Fetched.{Fetched};
+    ghost use Rattle.kds_defs.specs.declared.limits.TheConstants.{PENDING_READS};
+
+    ghost Value = { List Fetched };
+
+    ghost view = { λ a. a.ring.items };
+
+    ghost invariant = { λ a. a.ring.capacity ≡ PENDING_READS };
+}
+
+impl Ahead {
+    /// An empty ring, with its memory. The error is want of memory.
+    pub fn new(alloc: Global) -> Result<Ahead, Memory>
+        ensures { IfOk result (λ a. a ≡ []) }
+    {
+        Ok(Ahead {
+            ring: HeapCircularBuffer::with_capacity(alloc, PENDING_READS as usize)?,
+        })
+    }
+
+    /// The first batch, or nothing.
+    pub(crate) fn first_batch(&self) -> &[Stored]
+        ensures { result.now ≡ first_batch self.now }
+    {
+        match self.ring.front() {
+            Some(f) => f.batch.as_slice(),
+            None => &[],
+        }
+    }
+
+    /// The first batch is there, and not empty.
+    pub(crate) fn is_handed(&self) -> bool
+        ensures { result ≡ was_handed self.now }
+    {
+        match self.ring.front() {
+            Some(f) => !f.batch.as_slice().is_empty(),
+            None => false,
+        }
+    }
+
+    /// Handing out begins once this batch is among those that wait.
+    pub(crate) fn is_filled(&self, f: &Fetched, limit: u32) -> bool
+        ensures { result ≡ is_filled limit (length self.now + 1) f.now }
+    {
+        PENDING_READS <= self.ring.len() as u64 + 1
+            || f.ended
+            || f.batch.as_slice().len() < limit as usize
+    }
+
+    /// A batch goes last into the ring.
+    pub(crate) fn add(&mut self, f: Fetched)
+        requires { length self.old < PENDING_READS }
+        ensures { self.new ≡ self.old ++ f ∷ [] }
+    {
+        match self.ring.try_push_back(f) {
+            Ok(()) => {}
+            Err(_) => {}
+        }
+    }
+
+    /// The first batch leaves the ring: whether it ended the shard.
+    pub(crate) fn give(&mut self) -> Option<bool>
+        ensures { IsTaken self.old self.new result }
+    {
+        match self.ring.pop_front() {
+            Some(f) => Some(f.ended),
+            None => None,
+        }
+    }
+
+    /// The first batch is handed to the processor, unless it is empty; where there is none, reading goes on.
+    pub(crate) fn front(&self) -> Stage
+        ensures phase { (reach : ℕ) → phase_of result reach self.now None false ≡ front reach self.now }
+        ensures going { (reach : ℕ) → over_at (front reach self.now) ≡ None }
+        ensures kept { IsKept result self.now }
+    {
+        match self.ring.front() {
+            Some(f) => {
+                if f.batch.as_slice().is_empty() {
+                    Stage::Giving
+                } else {
+                    Stage::Holding
+                }
+            }
+            None => Stage::Filling,
+        }
+    }
+}

@@ -1,0 +1,465 @@
+ghost use Rattle.std.specs.Prelude.{◌≡◌, ◌<◌, ℕ, false, length, List, [], ◌∷◌, IsSome, IfOk, OnOk, OnErr, Some, None, Option, Bool};
+ghost use Rattle.kcl_defs.specs.declared.consumer.Ask.{Ask};
+ghost use Rattle.kcl_defs.specs.Consumers.{Past, calls_after, Opening, due_call, over_at, next_command, after_answer, after_end, after_open, progress_of, after_loss, first_place, last_number_in, target_of, given, after_give, after_mark, after_read, told_over, told_refusal};
+ghost use Rattle.kcl_defs.specs.Workers.{is_giving_phase, is_marking_or_opening};
+ghost use Rattle.kds_defs.specs.Kinds.{is_service};
+ghost use Rattle.kds_defs.specs.Lawful.{IsLawfulCommand, IsLimit};
+ghost use Rattle.kcl_consumer.specs.Stages.{phase_of, IsKept};
+ghost use Rattle.kds_defs.specs.declared.command.Target.{Target};
+ghost use Rattle.kcl_defs.specs.declared.consumer.Fetched.{Fetched};
+ghost use Rattle.kds_defs.specs.declared.limits.TheConstants.{PENDING_READS};
+ghost use Rattle.kcl_defs.specs.declared.consumer.Tenancy.{Tenancy};
+ghost use Rattle.kcl_defs.specs.Lives.{IsLife, reads_after, gives_after};
+ghost use Rattle.kcl_consumer.specs.Standing.{HasCalled, IsAsBefore};
+ghost use Rattle.kcl_consumer.specs.Fetchings.{IsFetching};
+
+use crate::ahead::Ahead;
+use crate::processor::Processor;
+use crate::stage::Stage;
+use kcl_defs::{Ask, Due, Fetched, Progress, Tenancy, Why};
+use kds_base::{Checkpoint, Memory, Seq, ShardRef, TenureNo};
+use kds_defs::{Answer, Command, Refusal, Reply, Stored, Target};
+use std::marker::Model;
+
+/// The place where a checkpoint lets reading begin.
+fn first_place(start: Checkpoint) -> u64
+    ensures { result ≡ first_place start }
+{
+    match start {
+        Checkpoint::TrimHorizon => 0,
+        Checkpoint::At(seq) => seq.0.saturating_add(1),
+        Checkpoint::ShardEnd => 0,
+    }
+}
+
+/// The number of the last record.
+fn last_in(batch: &[Stored]) -> Option<Seq>
+    ensures { result ≡ last_number_in batch.now }
+{
+    match batch.last() {
+        Some(r) => Some(r.seq),
+        None => None,
+    }
+}
+
+/// The mark that a processor asks for after a batch.
+fn target_after(asked: Ask, batch: &[Stored]) -> Option<Target>
+    ensures { result ≡ target_of asked batch.now }
+{
+    match asked {
+        Ask::None => None,
+        Ask::At(seq) => Some(Target::At(seq)),
+        Ask::Last => match last_in(batch) {
+            Some(seq) => Some(Target::At(seq)),
+            None => None,
+        },
+        Ask::End => Some(Target::End),
+    }
+}
+
+/// What a Read was answered.
+#[derive(Drop)]
+enum Fetching {
+    Read(Fetched, u64),
+    Nothing,
+    Left(Why),
+}
+
+/// What a Read was answered.
+fn fetched_of(answer: Answer) -> Fetching
+    ensures { IsFetching answer result }
+{
+    match answer {
+        Ok(reply) => match reply {
+            Reply::Read { batch, reach, end } => Fetching::Read(
+                Fetched { batch, ended: end },
+                reach,
+            ),
+            _ => Fetching::Nothing,
+        },
+        Err(Refusal::ShardGone) => Fetching::Left(Why::Gone),
+        Err(_) => Fetching::Left(Why::Lost),
+    }
+}
+
+/// Where a consumer stands once the first batch is given, which ended the shard or not.
+fn stage_after_give(ahead: &Ahead, ended: bool, asked: Option<Target>, lost: bool) -> Stage
+    ensures phase { (reach : ℕ) (f : Fetched) → f.ended ≡ ended → phase_of result reach ahead.now None false ≡ given reach (f ∷ ahead.now) asked lost }
+    ensures going { (reach : ℕ) (f : Fetched) → f.ended ≡ ended → over_at (given reach (f ∷ ahead.now) asked lost) ≡ None }
+    ensures kept { IsKept result ahead.now }
+{
+    if lost {
+        Stage::Leaving(Why::Lost)
+    } else if ended {
+        Stage::Ending
+    } else {
+        match asked {
+            Some(to) => Stage::Marking(to),
+            None => ahead.front(),
+        }
+    }
+}
+
+/// Where a consumer stands after the answer to a Give, which takes the first batch out of the ring.
+fn after_giving(ahead: &mut Ahead, asked: Option<Target>, lost: bool, answer: &Answer) -> Stage
+    ensures phase { (reach : ℕ) → phase_of result reach ahead.new None false ≡ after_give reach ahead.old asked lost answer.now }
+    ensures going { (reach : ℕ) → over_at (after_give reach ahead.old asked lost answer.now) ≡ None }
+    ensures kept { IsKept result ahead.new }
+{
+    match answer {
+        Ok(_) => match ahead.give() {
+            Some(ended) => stage_after_give(ahead, ended, asked, lost),
+            None => Stage::Leaving(Why::Lost),
+        },
+        Err(_) => Stage::Leaving(Why::Lost),
+    }
+}
+
+/// Where a consumer stands after a mark that its processor asked for, and what is told of it.
+fn after_marking(ahead: &Ahead, answer: &Answer) -> (Stage, Progress)
+    ensures phase { (reach : ℕ) → phase_of result.0 reach ahead.now None false ≡ after_mark reach ahead.now answer.now }
+    ensures kept { IsKept result.0 ahead.now }
+    ensures told { result.1 ≡ told_refusal answer.now }
+{
+    match answer {
+        Ok(_) => (ahead.front(), Progress::Going),
+        Err(Refusal::Lost(_)) => (Stage::Leaving(Why::Lost), Progress::Going),
+        Err(Refusal::Moved(_)) => (Stage::Leaving(Why::Lost), Progress::Going),
+        Err(r) => (ahead.front(), Progress::Refused(*r)),
+    }
+}
+
+/// Where a consumer stands after the answer to the opening of its shard, and what is told of it.
+fn after_opening(answer: &Answer) -> (Stage, Progress)
+    ensures phase { (reach : ℕ) (waiting : List Fetched) (asked : Option Target) (lost : Bool) → phase_of result.0 reach waiting asked lost ≡ after_open answer.now }
+    ensures kept { (waiting : List Fetched) → waiting ≡ [] → IsKept result.0 waiting }
+    ensures told { result.1 ≡ told_over (over_at (after_open answer.now)) }
+{
+    match answer {
+        Ok(_) => (Stage::Starting, Progress::Going),
+        Err(Refusal::ParentsOpen(_)) => (Stage::Opening, Progress::Going),
+        Err(_) => (
+            Stage::Over(Why::NeverOpened),
+            Progress::Over(Why::NeverOpened),
+        ),
+    }
+}
+
+/// Where a consumer stands after the mark at its shard's end, and what is told of it.
+fn after_ending(answer: &Answer) -> (Stage, Progress)
+    ensures phase { (reach : ℕ) (waiting : List Fetched) (asked : Option Target) (lost : Bool) → phase_of result.0 reach waiting asked lost ≡ after_end answer.now }
+    ensures kept { (waiting : List Fetched) → IsKept result.0 waiting }
+    ensures told { result.1 ≡ told_over (over_at (after_end answer.now)) }
+{
+    match answer {
+        Ok(_) => (Stage::Over(Why::Ended), Progress::Over(Why::Ended)),
+        Err(_) => (Stage::Leaving(Why::Lost), Progress::Going),
+    }
+}
+
+/// What is told of a consumer at this stage.
+fn told_over(stage: Stage) -> Progress
+    ensures { (reach : ℕ) (waiting : List Fetched) (asked : Option Target) (lost : Bool) → result ≡ told_over (over_at (phase_of stage reach waiting asked lost)) }
+{
+    match stage {
+        Stage::Over(why) => Progress::Over(why),
+        _ => Progress::Going,
+    }
+}
+
+/// What was asked, and that the lease is known to be lost, are of no more use.
+fn forget(asked: &mut Option<Target>, lost: &mut bool)
+    ensures asked { asked.new ≡ None }
+    ensures lost { lost.new ≡ false }
+{
+    *asked = None;
+    *lost = false;
+}
+
+/// The answer isn't needed any more.
+fn let_go(_answer: Answer) {}
+
+/// Where a consumer stands after the answer to a Read, and its reach.
+fn after_reading(ahead: &mut Ahead, limit: u32, reach: u64, answer: Answer) -> (Stage, u64)
+    requires { length ahead.old < PENDING_READS }
+    ensures phase { phase_of result.0 result.1 ahead.new None false ≡ after_read limit reach ahead.old answer }
+    ensures going { over_at (after_read limit reach ahead.old answer) ≡ None }
+    ensures kept { IsKept result.0 ahead.new }
+{
+    match fetched_of(answer) {
+        Fetching::Read(f, place) => {
+            let filled = ahead.is_filled(&f, limit);
+            ahead.add(f);
+            if filled {
+                (ahead.front(), place)
+            } else {
+                (Stage::Filling, place)
+            }
+        }
+        Fetching::Nothing => (Stage::Filling, reach),
+        Fetching::Left(why) => (Stage::Leaving(why), reach),
+    }
+}
+
+/// The consumer of one lease, through one tenure of it (Kinesis Client Library, ShardConsumer and its ConsumerStates): it
+/// opens the shard, reads ahead, hands each batch that isn't empty to the processor, gives it, and marks what the
+/// processor asks for.
+#[derive(Drop)]
+pub struct Consumer<P> {
+    made: Tenancy,
+    stage: Stage,
+    reach: u64,
+    ahead: Ahead,
+    asked: Option<Target>,
+    lost: bool,
+    processor: P,
+}
+
+impl<P> Model for Consumer<P> {
+    ghost use Rattle.kcl_consumer.specs.Standing.{Standing};
+
+    ghost Value = { Standing P };
+
+    ghost use Rattle.kcl_consumer.specs.Stages.{phase_of, IsKept};
+    ghost use Rattle.kds_defs.specs.Lawful.{IsLimit};
+
+    ghost view = { λ c. record { made = c.made; phase = phase_of c.stage c.reach c.ahead c.asked c.lost; processor = c.processor } };
+
+    ghost invariant = { λ c. IsKept c.stage c.ahead × IsLimit c.made.limit };
+}
+
+impl<P: Processor> Consumer<P> {
+    /// A consumer that has to open its shard, for a tenure that begins at this checkpoint of the lease. It reads at most
+    /// `limit` records at once, 1 to 10,000.
+    pub fn new(
+        key: ShardRef,
+        tenure: TenureNo,
+        start: Checkpoint,
+        limit: u32,
+        processor: P,
+        ahead: Ahead,
+    ) -> Consumer<P>
+        requires limit { IsLimit limit }
+        requires empty { ahead ≡ [] }
+        ensures made { result.made ≡ record { key = key; tenure = tenure; start = start; limit = limit } }
+        ensures opening { result.phase ≡ Opening }
+        ensures processor { result.processor ≡ processor }
+    {
+        Consumer {
+            made: Tenancy {
+                key,
+                tenure,
+                start,
+                limit,
+            },
+            stage: Stage::Opening,
+            reach: 0,
+            ahead,
+            asked: None,
+            lost: false,
+            processor,
+        }
+    }
+
+    /// The key of its lease.
+    pub fn key(&self) -> ShardRef
+        ensures { result ≡ self.now.made.key }
+    {
+        self.made.key
+    }
+
+    /// The tenure of its lease.
+    pub fn tenure(&self) -> TenureNo
+        ensures { result ≡ self.now.made.tenure }
+    {
+        self.made.tenure
+    }
+
+    /// The processor call that must come next.
+    pub fn due(&self) -> Option<Due>
+        ensures { result ≡ due_call self.now.phase }
+    {
+        match self.stage {
+            Stage::Starting => Some(Due::Initialize),
+            Stage::Holding => Some(Due::Process),
+            Stage::Ending => Some(Due::ShardEnded),
+            Stage::Leaving(_) => Some(Due::LeaseLost),
+            _ => None,
+        }
+    }
+
+    /// Why it is over.
+    pub fn over(&self) -> Option<Why>
+        ensures { result ≡ over_at self.now.phase }
+    {
+        match self.stage {
+            Stage::Over(why) => Some(why),
+            _ => None,
+        }
+    }
+
+    /// Whether a batch of it is to be given.
+    pub fn is_giving(&self) -> bool
+        ensures { result ≡ is_giving_phase self.now.phase }
+    {
+        match self.stage {
+            Stage::Giving => true,
+            _ => false,
+        }
+    }
+
+    /// Whether its next command opens its shard or sets its checkpoint.
+    pub fn is_writing(&self) -> bool
+        ensures { result ≡ is_marking_or_opening self.now.phase }
+    {
+        match self.stage {
+            Stage::Opening => true,
+            Stage::Marking(_) => true,
+            Stage::MarkingEnd => true,
+            _ => false,
+        }
+    }
+
+    /// The command that comes next, at the counter of the lease. No memory.
+    pub fn next(&self, counter: u64) -> Command
+        requires none_due { due_call self.now.phase ≡ None }
+        requires not_over { over_at self.now.phase ≡ None }
+        ensures next { next_command self.now.made self.now.phase counter ≡ Some result }
+        ensures lawful { IsLawfulCommand result }
+        ensures own { is_service result ≡ false }
+    {
+        let tenure = self.made.tenure;
+        match self.stage {
+            Stage::Filling => Command::Read {
+                tenure,
+                position: self.reach,
+                limit: self.made.limit,
+            },
+            Stage::Giving => Command::Give { tenure },
+            Stage::Marking(to) => Command::Mark {
+                tenure,
+                counter,
+                to,
+            },
+            Stage::MarkingEnd => Command::Mark {
+                tenure,
+                counter,
+                to: Target::End,
+            },
+            _ => Command::OpenShard { tenure },
+        }
+    }
+
+    /// Makes the processor call that is due. The error is the processor's want of memory, and then the same call is due.
+    pub fn call(&mut self) -> Result<(), Memory>
+        requires { IsSome (due_call self.old.phase) }
+        ensures ok { OnOk result ((asked : Ask) × HasCalled P.stands_for P.asks asked self.old self.new) }
+        ensures err { OnErr result (IsAsBefore P.stands_for P.asks self.old self.new) }
+    {
+        match self.stage {
+            Stage::Starting => {
+                self.processor.initialize(self.made.key, self.made.start)?;
+                self.reach = first_place(self.made.start);
+                self.stage = Stage::Filling;
+            }
+            Stage::Holding => {
+                let batch = self.ahead.first_batch();
+                let asked = self.processor.process_records(batch)?;
+                self.asked = target_after(asked, batch);
+                self.lost = false;
+                self.stage = Stage::Giving;
+            }
+            Stage::Ending => {
+                self.processor.shard_ended()?;
+                self.stage = Stage::MarkingEnd;
+            }
+            Stage::Leaving(why) => {
+                self.processor.lease_lost()?;
+                self.stage = Stage::Over(why);
+            }
+            _ => {}
+        }
+        Ok(())
+    }
+
+    /// Takes the answer to the command that `next` gave. No memory.
+    pub fn absorb(&mut self, answer: Answer) -> Progress
+        ensures made { self.new.made ≡ self.old.made }
+        ensures phase { self.new.phase ≡ after_answer self.old.made answer self.old.phase }
+        ensures processor { self.new.processor ≡ self.old.processor }
+        ensures progress { result ≡ progress_of self.old.made answer self.old.phase }
+    {
+        match self.stage {
+            Stage::Opening => {
+                let (stage, progress) = after_opening(&answer);
+                self.stage = stage;
+                let_go(answer);
+                progress
+            }
+            Stage::Filling => {
+                let limit = self.made.limit;
+                let (stage, reach) = after_reading(&mut self.ahead, limit, self.reach, answer);
+                self.stage = stage;
+                forget(&mut self.asked, &mut self.lost);
+                self.reach = reach;
+                Progress::Going
+            }
+            Stage::Giving => {
+                self.stage = after_giving(&mut self.ahead, self.asked, self.lost, &answer);
+                forget(&mut self.asked, &mut self.lost);
+                let_go(answer);
+                Progress::Going
+            }
+            Stage::Marking(_) => {
+                let (stage, progress) = after_marking(&self.ahead, &answer);
+                self.stage = stage;
+                forget(&mut self.asked, &mut self.lost);
+                let_go(answer);
+                progress
+            }
+            Stage::MarkingEnd => {
+                let (stage, progress) = after_ending(&answer);
+                self.stage = stage;
+                let_go(answer);
+                progress
+            }
+            stage => {
+                let_go(answer);
+                told_over(stage)
+            }
+        }
+    }
+
+    /// The lease is known to be lost. A batch that was handed is still given.
+    pub fn lose(&mut self)
+        ensures made { self.new.made ≡ self.old.made }
+        ensures phase { self.new.phase ≡ after_loss self.old.phase }
+        ensures processor { self.new.processor ≡ self.old.processor }
+    {
+        match self.stage {
+            Stage::Opening => self.stage = Stage::Over(Why::NeverOpened),
+            Stage::Starting => self.stage = Stage::Over(Why::NeverOpened),
+            Stage::Giving => {
+                if self.ahead.is_handed() {
+                    self.lost = true;
+                } else {
+                    self.stage = Stage::Leaving(Why::Lost);
+                }
+            }
+            Stage::Over(_) => {}
+            _ => self.stage = Stage::Leaving(Why::Lost),
+        }
+    }
+
+    /// The processor, for whoever wants it back.
+    pub fn into_processor(self) -> P
+        ensures { result ≡ self.processor }
+    {
+        self.processor
+    }
+}
+
+/// The calls of a processor are the reads that its consumer gave, in order, whatever its consumer was answered.
+pub fn life()
+    ensures { (made : Tenancy) (past : Past) → IsLife made (reads_after made past) (gives_after made past) (calls_after made past) }
+{}

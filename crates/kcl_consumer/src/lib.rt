@@ -1,0 +1,15 @@
+//! A consumer of one lease, which reads batches, hands them to a processor, and sets checkpoints (Kinesis Client Library,
+//! ShardConsumer).
+#![tactic(auto)]
+
+mod ahead;
+pub mod consumer;
+pub mod processor;
+mod stage;
+#[cfg(test)]
+mod tests;
+
+pub use ahead::Ahead;
+pub use consumer::{Consumer, life};
+pub use kcl_defs::{Ask, Call, Due, Progress, Why};
+pub use processor::{Maker, Processor};

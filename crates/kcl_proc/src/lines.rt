@@ -1,0 +1,90 @@
+ghost use Rattle.std.specs.Prelude.{◌≡◌, ◌++◌, [], OnErr, OnOk};
+ghost use Rattle.kcl_proc.specs.Numbers.{first_ask, numbers_of};
+
+use kcl_consumer::Processor;
+use kcl_defs::Ask;
+use kds_base::{Checkpoint, Memory, Seq, ShardRef};
+use kds_defs::Stored;
+use std::alloc::Global;
+use std::marker::Model;
+
+/// A processor that keeps the numbers of each batch, one batch after the other, and asks for a checkpoint at the first
+/// number of each. After want of memory it keeps what it kept.
+#[derive(Drop)]
+pub struct Lines {
+    numbers: Vec<Seq>,
+}
+
+impl Model for Lines {
+    ghost use Rattle.std.specs.Prelude.{List, ℕ};
+
+    ghost Value = { List ℕ };
+
+    ghost view = { λ l. l.numbers.items };
+}
+
+/// Adds the numbers of a batch.
+fn add_numbers(numbers: &mut Vec<Seq>, batch: &[Stored]) -> Result<(), Memory>
+    ensures ok { OnOk result (numbers.new.items ≡ numbers.old.items ++ numbers_of batch.now) }
+    ensures err { OnErr result (numbers.new.items ≡ numbers.old.items) }
+{
+    numbers.reserve(batch.len())?;
+    for r in batch {
+        numbers.push_reserved(r.seq);
+    }
+    Ok(())
+}
+
+/// A checkpoint at the first number of a batch.
+fn first_ask(batch: &[Stored]) -> Ask
+    ensures { result ≡ first_ask batch.now }
+{
+    match batch {
+        [r, ..] => Ask::At(r.seq),
+        [] => Ask::None,
+    }
+}
+
+impl Lines {
+    /// No numbers.
+    pub fn new(alloc: Global) -> Lines
+        ensures { result ≡ [] }
+    {
+        Lines {
+            numbers: Vec::new(alloc),
+        }
+    }
+
+    /// The numbers of the records that it was handed, in order.
+    pub fn numbers(&self) -> &[Seq]
+        ensures { result.now ≡ self.now }
+    {
+        self.numbers.as_slice()
+    }
+}
+
+impl Processor for Lines {
+    ghost use Rattle.std.specs.Prelude.{◌≡◌};
+    ghost use Rattle.kcl_proc.specs.Numbers.{first_ask, numbers_in};
+
+    ghost stands_for = { λ p calls. p ≡ numbers_in calls };
+
+    ghost asks = { λ p batch a. a ≡ first_ask batch };
+
+    fn initialize(&mut self, _key: ShardRef, _start: Checkpoint) -> Result<(), Memory> {
+        Ok(())
+    }
+
+    fn process_records(&mut self, batch: &[Stored]) -> Result<Ask, Memory> {
+        add_numbers(&mut self.numbers, batch)?;
+        Ok(first_ask(batch))
+    }
+
+    fn lease_lost(&mut self) -> Result<(), Memory> {
+        Ok(())
+    }
+
+    fn shard_ended(&mut self) -> Result<(), Memory> {
+        Ok(())
+    }
+}
