@@ -1,0 +1,142 @@
+//! Leases in the order of their keys, and then of their tenures.
+ghost use Rattle.std.specs.Prelude.{◌≡◌, ◌<◌, ◌≤◌, ◌&&◌, if◌then◌else◌, length};
+ghost use Rattle.std.specs.List.{find, insert};
+ghost use Rattle.std.specs.Vec.{vec_capacity, vec_len};
+ghost use Rattle.kcl_defs.specs.Plans.{is_due, renewed_held};
+ghost use Rattle.kcl_defs.specs.Workers.{counter_of, id_of_held, is_before_id, is_nothing_held, is_past, renewed, same_id, with_held, without_held};
+
+use kcl_defs::{Held, LeaseId};
+use kds_base::Moment;
+
+/// Both are one lease.
+pub fn same_id(a: &LeaseId, b: &LeaseId) -> bool
+    ensures { result ≡ same_id a.now b.now }
+{
+    a.key.stream == b.key.stream && a.key.shard == b.key.shard && a.tenure == b.tenure
+}
+
+/// Whether a comes before b.
+pub fn is_before_id(a: &LeaseId, b: &LeaseId) -> bool
+    ensures { result ≡ is_before_id a.now b.now }
+{
+    if a.key.stream != b.key.stream {
+        a.key.stream.0 < b.key.stream.0
+    } else if a.key.shard != b.key.shard {
+        a.key.shard.0 < b.key.shard.0
+    } else {
+        a.tenure.0 < b.tenure.0
+    }
+}
+
+/// The lease comes after this place, where there is one.
+pub fn is_past(place: &Option<LeaseId>, id: &LeaseId) -> bool
+    ensures { result ≡ is_past place.now id.now }
+{
+    match place {
+        Some(place) => is_before_id(place, id),
+        None => true,
+    }
+}
+
+/// The lease by its key and its tenure.
+pub fn id_of_held(h: &Held) -> LeaseId
+    ensures { result ≡ id_of_held h.now }
+{
+    LeaseId {
+        key: h.key,
+        tenure: h.tenure,
+    }
+}
+
+/// The counter of a lease, and 0 where the worker hasn't got it.
+pub fn counter_of(held: &[Held], id: &LeaseId) -> u64
+    ensures { result ≡ counter_of id.now held.now }
+{
+    for h in held {
+        if same_id(&id_of_held(h), id) {
+            return h.counter;
+        }
+    }
+    0
+}
+
+/// The first lease after this place that is to be renewed.
+pub fn next_due(held: &[Held], place: &Option<LeaseId>, now: Moment, failover: u64) -> Option<Held>
+    ensures { result ≡ find (λ h. is_past place.now (id_of_held h) && is_due h now failover) held.now }
+{
+    for h in held {
+        if is_past(place, &id_of_held(h)) && kcl_renew::due(h, now, failover) {
+            return Some(*h);
+        }
+    }
+    None
+}
+
+/// A lease, where it is this one, is written at this counter.
+fn renew_if(h: &mut Held, same: bool, counter: u64, now: Moment)
+    ensures { h.new ≡ (if same then renewed_held counter now h.old else h.old) }
+{
+    if same {
+        h.renewed(counter, now);
+    }
+}
+
+/// A lease is written at this counter.
+#[tactic(auto, using(crate::proofs::Calls::map_over))]
+pub fn renew(held: &mut Vec<Held>, id: &LeaseId, counter: u64, now: Moment)
+    ensures { held.new.items ≡ renewed id.now counter now held.old.items }
+{
+    for h in held.iter_mut() {
+        let same = same_id(&id_of_held(h), id);
+        renew_if(h, same, counter, now);
+    }
+}
+
+/// A lease is given up.
+pub fn drop_held(held: &mut Vec<Held>, id: &LeaseId)
+    ensures { held.new.items ≡ without_held id.now held.old.items }
+{
+    let mut i = 0;
+    while i < held.len() {
+        if same_id(&id_of_held(&held[i]), id) {
+            held.remove(i);
+        } else {
+            i += 1;
+        }
+    }
+}
+
+/// The place of a lease among these.
+fn place_of(held: &[Held], h: &Held) -> usize
+    ensures place { insert held.now result h.now ≡ with_held h.now held.now }
+    ensures within { result ≤ length held.now }
+{
+    for i in 0..held.len() {
+        if is_before_id(&id_of_held(h), &id_of_held(&held[i])) {
+            return i;
+        }
+    }
+    held.len()
+}
+
+/// One more lease, for which there is memory.
+pub fn add_held(held: &mut Vec<Held>, h: Held)
+    requires { vec_len held.old < vec_capacity held.old }
+    ensures { held.new.items ≡ with_held h held.old.items }
+{
+    let place = place_of(held.as_slice(), &h);
+    match held.insert(place, h) {
+        Ok(()) => {}
+        Err(_) => {}
+    }
+}
+
+/// The worker has no lease.
+pub fn is_nothing_held(held: &[Held]) -> bool
+    ensures { result ≡ is_nothing_held held.now }
+{
+    match held {
+        [] => true,
+        [_, ..] => false,
+    }
+}

@@ -1,0 +1,317 @@
+-- The next command, by the consumers as the code keeps them and by those of the record.
+use Rattle.std.proofs.Common.{◌≡◌, ℕ, ◌<◌, ◌≤◌, suc, get_or, drop, length, Bool, true, false, List, [], ◌∷◌, Option, Some, None, refl, sym, ap, subst, ◌∙◌, arith}
+use Rattle.std.specs.Prelude.{◌==◌, ◌&&◌, ◌||◌, cond, is_some, not}
+use Rattle.std.specs.List.{AllByRecursion, find, list_any}
+use Rattle.std.specs.Option.{option_map}
+use Rattle.std.proofs.lemmas.Bool.Decides.{nat_tests}
+use Rattle.kds_defs.specs.declared.command.Command.{Command}
+use Rattle.kds_defs.specs.declared.command.Command.TheVariants as command
+use Rattle.kcl_defs.specs.declared.consumer.Call.{Call}
+use Rattle.kcl_defs.specs.declared.consumer.Due.{Due}
+use Rattle.kcl_defs.specs.declared.consumer.WorkerMade.{WorkerMade}
+use Rattle.kcl_defs.specs.declared.plans.Held.{Held}
+use Rattle.kcl_defs.specs.declared.plans.LeaseId.{LeaseId}
+use Rattle.kcl_defs.specs.declared.plans.SyncStep.{SyncStep}
+use Rattle.kcl_defs.specs.declared.plans.TakeStep.{TakeStep}
+use Rattle.kcl_defs.specs.Consumers.{Phase, due_call, next_command, over_at, phase_after}
+use Rattle.kcl_defs.specs.Workers.{Known, WorkerState, WorkerPast, Gave_command, Pending, Round, AtStopping, Chore, Surveying, Consuming, Finishing, Freeing, chore_from, consumer_chore, consumer_command, counter_of, freeing_chore, from_consumers, id_of, is_giving, is_giving_phase, is_nothing_held, is_past, is_stopping, known_of, next_pending, pending_chore, pending_of, phase_of_known, same_id, stopping_chore, worker_after}
+use Rattle.kcl_consumer.specs.Standing.{Standing}
+use Rattle.kcl_worker.specs.declared.round.Asked.{Asked}
+use Rattle.kcl_worker.specs.declared.round.Asked.TheVariants as asked
+use Rattle.kcl_round.specs.Lists.{giving_in, id_in, past_in}
+use Rattle.kcl_worker.specs.Outlook.{IsAsking, IsGiven, IsReady}
+use Rattle.kcl_worker.specs.Parts.{chore_of}
+use Rattle.kcl_round.specs.Lists.{due_in, due_or, is_due}
+use Rattle.kcl_worker.specs.Standing.{ConsumersStand, ShowsState, StandsFor, WorkerStanding, is_idle_in}
+
+-- ---- the same consumer is found on both sides
+
+abbrev pub IsFoundSo : {P : Type 0} → Option (Standing P) → Option Known → Type 0
+IsFoundSo None None = Unit {0}
+IsFoundSo (Some c) (Some k) = (c.made ≡ k.made) × (c.phase ≡ phase_of_known k)
+IsFoundSo None (Some k) = ⊥
+IsFoundSo (Some c) None = ⊥
+
+pub found_so : {P : Type 0} (stands : P → List Call → Type 0) (t : LeaseId → Phase → Bool) (cs : List (Standing P)) (ks : List Known) → ConsumersStand stands cs ks → IsFoundSo (find (λ c. t (id_in c) c.phase) cs) (find (λ k. t (id_of k) (phase_of_known k)) ks)
+found_so stands t [] [] s = tt
+found_so stands t (c ∷ cs) (k ∷ ks) s =
+    let same : c.phase ≡ phase_of_known k = s.1.phase ∙ ap (λ m. phase_after m k.past) s.0 in
+    let e : t (id_in c) c.phase ≡ t (id_of k) (phase_of_known k) = ap (λ m. t (record { key = m.key; tenure = m.tenure }) c.phase) s.0 ∙ ap (λ p. t (id_of k) p) same in
+    head (t (id_in c) c.phase) (t (id_of k) (phase_of_known k)) e (s.0, same) (found_so stands t cs ks s.2)
+  where
+    head : (a b : Bool) → a ≡ b → (c.made ≡ k.made) × (c.phase ≡ phase_of_known k) → IsFoundSo (find (λ c. t (id_in c) c.phase) cs) (find (λ k. t (id_of k) (phase_of_known k)) ks) → IsFoundSo (cond a (Some c) (find (λ c. t (id_in c) c.phase) cs)) (cond b (Some k) (find (λ k. t (id_of k) (phase_of_known k)) ks))
+    head true true e same rest = same
+    head false false e same rest = rest
+    head true false e same rest = absurd cc
+    head false true e same rest = absurd cc
+found_so stands t [] (k ∷ ks) s = absurd s
+found_so stands t (c ∷ cs) [] s = absurd s
+
+-- ---- what is found by its lease is the first of that lease
+
+same_numbers : (a b c d e f : ℕ) → ((a == d) && (b == e) && (c == f)) ≡ true → (a ≡ d) × (b ≡ e) × (c ≡ f)
+same_numbers a b c d e f h = (one a d (b == e) (c == f) h, two b e (a == d) (c == f) h, three c f ((a == d) && (b == e)) h)
+  where
+    one : (a d : ℕ) (s t : Bool) → ((a == d) && s && t) ≡ true → a ≡ d
+    one a d true true h = grind (arith, nat_tests)
+    one a d true false h = grind (arith, nat_tests)
+    one a d false t h = grind (arith, nat_tests)
+
+    two : (b e : ℕ) (s t : Bool) → (s && (b == e) && t) ≡ true → b ≡ e
+    two b e true true h = grind (arith, nat_tests)
+    two b e true false h = grind (arith, nat_tests)
+    two b e false t h = absurd cc
+
+    three : (c f : ℕ) (s : Bool) → (s && (c == f)) ≡ true → c ≡ f
+    three c f true h = grind (arith, nat_tests)
+    three c f false h = absurd cc
+
+pub same_test : (t : LeaseId → Bool) (a b : LeaseId) → same_id a b ≡ true → t a ≡ t b
+same_test t a b h =
+    let e = same_numbers a.key.stream a.key.shard a.tenure b.key.stream b.key.shard b.tenure h in
+    ap (λ n. t (record { key = record { stream = n; shard = a.key.shard }; tenure = a.tenure })) e.0
+    ∙ ap (λ n. t (record { key = record { stream = b.key.stream; shard = n }; tenure = a.tenure })) e.1
+    ∙ ap (λ n. t (record { key = b.key; tenure = n })) e.2
+
+own_id : (a b c : ℕ) → ((a == a) && (b == b) && (c == c)) ≡ true
+own_id a b c = grind (arith, nat_tests)
+
+pub by_id : (t : LeaseId → Bool) (k : Known) (ks : List Known) → find (λ j. t (id_of j)) ks ≡ Some k → (known_of (id_of k) ks ≡ Some k) × (t (id_of k) ≡ true)
+by_id t k [] h = absurd cc
+by_id t k (x ∷ xs) h = head (t (id_of x)) refl h (λ g. by_id t k xs g)
+  where
+    same_known : (x k : Known) → Some x ≡ Some k → x ≡ k
+    same_known x k e = cc
+
+    passes : (b : Bool) → same_id (id_of x) (id_of k) ≡ b → t (id_of x) ≡ false → t (id_of k) ≡ true → b ≡ false
+    passes false e n y = refl
+    passes true e n y = absurd (let f = same_test t (id_of x) (id_of k) e in cc)
+
+    head : (b : Bool) → t (id_of x) ≡ b → cond b (Some x) (find (λ j. t (id_of j)) xs) ≡ Some k → (find (λ j. t (id_of j)) xs ≡ Some k → (known_of (id_of k) xs ≡ Some k) × (t (id_of k) ≡ true)) → (known_of (id_of k) (x ∷ xs) ≡ Some k) × (t (id_of k) ≡ true)
+    head true e g rest =
+        let P : Known → Type 0 = λ j. (known_of (id_of j) (x ∷ xs) ≡ Some j) × (t (id_of j) ≡ true) in
+        subst P (same_known x k g) (ap (λ b. cond b (Some x) (known_of (id_of x) xs)) (own_id x.made.key.stream x.made.key.shard x.made.tenure), e)
+    head false e g rest =
+        let r = rest g in
+        (ap (λ b. cond b (Some x) (known_of (id_of k) xs)) (passes (same_id (id_of x) (id_of k)) refl e r.1) ∙ r.0, r.1)
+
+-- ---- what holds of all holds of what is found
+
+pub all_found : {A : Type 0} (P : A → Type 0) (t : A → Bool) (x : A) (xs : List A) → find t xs ≡ Some x → AllByRecursion P xs → P x
+all_found P t x [] h all = absurd cc
+all_found {A} P t x (y ∷ ys) h all = head (t y) h (λ g. all_found P t x ys g all.1)
+  where
+    same : (y x : A) → Some y ≡ Some x → y ≡ x
+    same y x e = cc
+
+    head : (b : Bool) → cond b (Some y) (find t ys) ≡ Some x → (find t ys ≡ Some x → P x) → P x
+    head true g rest = subst P (same y x g) all.0
+    head false g rest = rest g
+
+-- no call is due, and none is over: each is ready
+pub ready : {P : Type 0} (cs : List (Standing P)) → due_in cs ≡ None → AllByRecursion (λ c. over_at c.phase ≡ None) cs → AllByRecursion IsReady cs
+ready [] none all = tt
+ready (c ∷ cs) none all = head (due_call c.phase) refl none (λ n. ready cs n all.1)
+  where
+    head : (o : Option Due) → due_call c.phase ≡ o → due_or c o (due_in cs) ≡ None → (due_in cs ≡ None → AllByRecursion IsReady cs) → AllByRecursion IsReady (c ∷ cs)
+    head None e n rest = ((e, all.0), rest n)
+    head (Some due) e n rest = absurd cc
+
+-- ---- a consumer's command
+
+pub consumer_given : {P : Type 0} (stands : P → List Call → Type 0) (made : WorkerMade) (s : WorkerState) (syncs : List SyncStep) (takes : List TakeStep) (place : Option LeaseId) (cs : List (Standing P)) (held : List Held) (c : Standing P) (what : Command) → ConsumersStand stands cs s.consumers → held ≡ s.held → past_in place cs ≡ Some c → next_command c.made c.phase (counter_of (id_in c) held) ≡ Some what → IsGiven made s syncs takes (Some (from_consumers place s)) (asked.Consume (id_in c)) what
+consumer_given {P} stands made s syncs takes place cs held c what stand same found next =
+    go (find (λ k. is_past place (id_of k)) s.consumers) refl
+    (subst (λ o. IsFoundSo o (find (λ k. is_past place (id_of k)) s.consumers)) found (found_so stands (λ id p. is_past place id) cs s.consumers stand))
+  where
+    go : (o : Option Known) → find (λ k. is_past place (id_of k)) s.consumers ≡ o → IsFoundSo (Some c) o → IsGiven made s syncs takes (Some (consumer_chore o)) (asked.Consume (id_in c)) what
+    go None e f = absurd f
+    go (Some k) e f =
+        let of_known : next_command k.made (phase_of_known k) (counter_of (id_of k) s.held) ≡ Some what =
+        ap (λ h. next_command k.made (phase_of_known k) (counter_of (id_of k) h)) (sym same)
+        ∙ ap (λ p. next_command k.made p (counter_of (id_of k) held)) (sym f.1)
+        ∙ ap (λ m. next_command m c.phase (counter_of (record { key = m.key; tenure = m.tenure }) held)) (sym f.0)
+        ∙ next in
+        record {
+          which = Consuming (id_of k);
+          is = refl;
+          asks = ap (λ m. Some (Consuming (record { key = m.key; tenure = m.tenure }))) f.0;
+          command = ap (λ o. consumer_command s o) (by_id (is_past place) k s.consumers e).0 ∙ of_known;
+        }
+
+pub survey_given : {P : Type 0} (stands : P → List Call → Type 0) (made : WorkerMade) (s : WorkerState) (syncs : List SyncStep) (takes : List TakeStep) (place : Option LeaseId) (cs : List (Standing P)) → ConsumersStand stands cs s.consumers → past_in place cs ≡ None → IsGiven made s syncs takes (Some (from_consumers place s)) asked.Survey command.Survey
+survey_given {P} stands made s syncs takes place cs stand found =
+    go (find (λ k. is_past place (id_of k)) s.consumers)
+    (subst (λ o. IsFoundSo o (find (λ k. is_past place (id_of k)) s.consumers)) found (found_so stands (λ id p. is_past place id) cs s.consumers stand))
+  where
+    go : (o : Option Known) → IsFoundSo {P = P} None o → IsGiven made s syncs takes (Some (consumer_chore o)) asked.Survey command.Survey
+    go None f = record { which = Surveying; is = refl; asks = refl; command = refl }
+    go (Some k) f = absurd f
+
+-- ---- at a stop
+
+pub giving_given : {P : Type 0} (stands : P → List Call → Type 0) (made : WorkerMade) (s : WorkerState) (syncs : List SyncStep) (takes : List TakeStep) (cs : List (Standing P)) (c : Standing P) → ConsumersStand stands cs s.consumers → giving_in cs ≡ Some c → IsGiven made s syncs takes (stopping_chore s (find is_giving s.consumers)) (asked.Finish (id_in c)) (command.Give c.made.tenure)
+giving_given stands made s syncs takes cs c stand found =
+    go (find is_giving s.consumers)
+    (subst (λ o. IsFoundSo o (find is_giving s.consumers)) found (found_so stands (λ id p. is_giving_phase p) cs s.consumers stand))
+  where
+    go : (o : Option Known) → IsFoundSo (Some c) o → IsGiven made s syncs takes (stopping_chore s o) (asked.Finish (id_in c)) (command.Give c.made.tenure)
+    go None f = absurd f
+    go (Some k) f = record {
+      which = Finishing (id_of k);
+      is = refl;
+      asks = ap (λ m. Some (Finishing (record { key = m.key; tenure = m.tenure }))) f.0;
+      command = ap (λ m. Some (command.Give m.tenure)) (sym f.0);
+    }
+
+none_giving : {P : Type 0} (stands : P → List Call → Type 0) (s : WorkerState) (cs : List (Standing P)) → ConsumersStand stands cs s.consumers → giving_in cs ≡ None → stopping_chore s (find is_giving s.consumers) ≡ freeing_chore s.held
+none_giving {P} stands s cs stand found =
+    go (find is_giving s.consumers)
+    (subst (λ o. IsFoundSo o (find is_giving s.consumers)) found (found_so stands (λ id p. is_giving_phase p) cs s.consumers stand))
+  where
+    go : (o : Option Known) → IsFoundSo {P = P} None o → stopping_chore s o ≡ freeing_chore s.held
+    go None f = refl
+    go (Some k) f = absurd f
+
+pub freeing_given : {P : Type 0} (stands : P → List Call → Type 0) (made : WorkerMade) (s : WorkerState) (syncs : List SyncStep) (takes : List TakeStep) (cs : List (Standing P)) (held : List Held) (h : Held) (rest : List Held) → ConsumersStand stands cs s.consumers → held ≡ s.held → giving_in cs ≡ None → held ≡ h ∷ rest → IsGiven made s syncs takes (stopping_chore s (find is_giving s.consumers)) (asked.Free h) (command.Free h.tenure h.counter)
+freeing_given stands made s syncs takes cs held h rest stand same found first = record {
+  which = Freeing h;
+  is = none_giving stands s cs stand found ∙ ap freeing_chore (sym same ∙ first);
+  asks = refl;
+  command = refl;
+}
+
+pub nothing_given : {P : Type 0} (stands : P → List Call → Type 0) (s : WorkerState) (cs : List (Standing P)) (held : List Held) → ConsumersStand stands cs s.consumers → held ≡ s.held → giving_in cs ≡ None → held ≡ [] → stopping_chore s (find is_giving s.consumers) ≡ None
+nothing_given stands s cs held stand same found none = none_giving stands s cs stand found ∙ ap freeing_chore (sym same ∙ none)
+
+-- ---- a command is given
+
+none_mapped : (o : Option Pending) → None ≡ option_map (λ p. p.chore) o → o ≡ None
+none_mapped None e = refl
+none_mapped (Some p) e = absurd cc
+
+pub asked_stands : {P F : Type 0} (stands : P → List Call → Type 0) (w new : WorkerStanding P F) (now : ℕ) (syncs : List SyncStep) (takes : List TakeStep) (asked : Asked) (what : Command) (past : WorkerPast) → w.waiting ≡ None → new ≡ record w { waiting = chore_of asked syncs takes } → IsGiven w.made (worker_after w.made past) syncs takes (chore_from w.made.settings.failover now (worker_after w.made past) w.round) asked what → StandsFor stands w past → (p : Pending) × (next_pending w.made now (worker_after w.made past) ≡ Some p) × (p.what ≡ what) × StandsFor stands new (Gave_command now ∷ past)
+asked_stands {P} {F} stands w new now syncs takes asked what past free is g st =
+    let s : WorkerState = worker_after w.made past in
+    let p : Pending = record { chore = g.which; what = what } in
+    let next : next_pending w.made now s ≡ Some p =
+    ap (λ r. pending_chore w.made s (chore_from w.made.settings.failover now s r)) (sym st.shows.round)
+    ∙ ap (λ o. pending_chore w.made s o) g.is
+    ∙ ap (λ o. pending_of g.which o) g.command in
+    let S : WorkerStanding P F → Type 0 = λ v. StandsFor stands v (Gave_command now ∷ past) in (
+      p,
+      next,
+      refl,
+      subst S (sym is) (record {
+        orderly = (none_mapped s.waiting (sym free ∙ st.shows.waiting), st.orderly);
+        shows = record {
+          round = st.shows.round;
+          waiting = g.asks ∙ sym (ap (λ o. option_map (λ q. q.chore) o) next);
+          seen = st.shows.seen;
+          held = st.shows.held;
+          consumers = st.shows.consumers;
+          retired = st.shows.retired;
+        };
+      }),
+    )
+
+-- where no call is due a command may be asked
+pub may_ask : {P : Type 0} (o : Option Chore) (cs : List (Standing P)) → due_in cs ≡ None → IsAsking o cs
+may_ask None cs none = tt
+may_ask (Some chore) cs none = none
+
+-- ---- lists by their first element
+
+pub empty_list : {X : Type 0} (xs : List X) → length xs < 1 → xs ≡ []
+empty_list [] h = refl
+empty_list (x ∷ xs) h = absurd (none (length xs) h)
+  where
+    none : (n : ℕ) → suc n < 1 → ⊥
+    none n h = omega (arith, h)
+
+pub first_list : {X : Type 0} (xs : List X) (x : X) → 1 ≤ length xs → x ≡ get_or xs 0 x → xs ≡ x ∷ drop 1 xs
+first_list [] x h e = absurd (none h)
+  where
+    none : 1 ≤ 0 → ⊥
+    none h = omega (arith, h)
+first_list (y ∷ ys) x h e = ap (λ z. z ∷ ys) (sym e)
+
+pub giving_as : {P : Type 0} (stands : P → List Call → Type 0) (made : WorkerMade) (s : WorkerState) (syncs : List SyncStep) (takes : List TakeStep) (cs : List (Standing P)) (c : Standing P) (id : LeaseId) (t : ℕ) → id ≡ id_in c → t ≡ c.made.tenure → ConsumersStand stands cs s.consumers → giving_in cs ≡ Some c → IsGiven made s syncs takes (stopping_chore s (find is_giving s.consumers)) (asked.Finish id) (command.Give t)
+giving_as stands made s syncs takes cs c id t a b stand found =
+    subst (λ i. IsGiven made s syncs takes (stopping_chore s (find is_giving s.consumers)) (asked.Finish i) (command.Give t)) (sym a)
+    (subst (λ n. IsGiven made s syncs takes (stopping_chore s (find is_giving s.consumers)) (asked.Finish (id_in c)) (command.Give n)) (sym b)
+    (giving_given stands made s syncs takes cs c stand found))
+
+pub consumer_as : {P : Type 0} (stands : P → List Call → Type 0) (made : WorkerMade) (s : WorkerState) (syncs : List SyncStep) (takes : List TakeStep) (place : Option LeaseId) (cs : List (Standing P)) (held : List Held) (c : Standing P) (id : LeaseId) (counter : ℕ) (what : Command) → id ≡ id_in c → counter ≡ counter_of id held → ConsumersStand stands cs s.consumers → held ≡ s.held → past_in place cs ≡ Some c → next_command c.made c.phase counter ≡ Some what → IsGiven made s syncs takes (Some (from_consumers place s)) (asked.Consume id) what
+consumer_as stands made s syncs takes place cs held c id counter what a b stand same found next =
+    subst (λ i. IsGiven made s syncs takes (Some (from_consumers place s)) (asked.Consume i) what) (sym a)
+    (consumer_given stands made s syncs takes place cs held c what stand same found
+    (ap (λ i. next_command c.made c.phase (counter_of i held)) (sym a) ∙ ap (λ n. next_command c.made c.phase n) (sym b) ∙ next))
+
+-- ---- where nothing is left to do
+
+none_due_any : {P : Type 0} (cs : List (Standing P)) → due_in cs ≡ None → list_any is_due cs ≡ false
+none_due_any [] none = refl
+none_due_any (c ∷ cs) none = head (due_call c.phase) none (λ n. none_due_any cs n)
+  where
+    head : (o : Option Due) → due_or c o (due_in cs) ≡ None → (due_in cs ≡ None → list_any is_due cs ≡ false) → (is_some o || list_any is_due cs) ≡ false
+    head None n rest = rest n
+    head (Some due) n rest = absurd cc
+
+none_found_any : {A : Type 0} (t : A → Bool) (xs : List A) → find t xs ≡ None → list_any t xs ≡ false
+none_found_any t [] none = refl
+none_found_any {A} t (x ∷ xs) none = head (t x) none (λ n. none_found_any t xs n)
+  where
+    head : (b : Bool) → cond b (Some x) (find t xs) ≡ None → (find t xs ≡ None → list_any t xs ≡ false) → (b || list_any t xs) ≡ false
+    head true n rest = absurd cc
+    head false n rest = rest n
+
+none_giving_in : {P : Type 0} (stands : P → List Call → Type 0) (cs : List (Standing P)) (ks : List Known) → ConsumersStand stands cs ks → find is_giving ks ≡ None → giving_in cs ≡ None
+none_giving_in {P} stands cs ks stand none =
+    go (giving_in cs) (subst (λ o. IsFoundSo (giving_in cs) o) none (found_so stands (λ id p. is_giving_phase p) cs ks stand))
+  where
+    go : (o : Option (Standing P)) → IsFoundSo o None → o ≡ None
+    go None f = refl
+    go (Some c) f = absurd f
+
+nothing_held : (held : List Held) → freeing_chore held ≡ None → is_nothing_held held ≡ true
+nothing_held [] none = refl
+nothing_held (h ∷ held) none = absurd cc
+
+nothing_left : (s : WorkerState) (o : Option Known) → stopping_chore s o ≡ None → (o ≡ None) × (freeing_chore s.held ≡ None)
+nothing_left s None none = (refl, none)
+nothing_left s (Some k) none = absurd cc
+
+stops_at : (failover now : ℕ) (s : WorkerState) (round : Round) → chore_from failover now s round ≡ None → (is_stopping round ≡ true) × (stopping_chore s (find is_giving s.consumers) ≡ None)
+stops_at failover now s AtStopping none = (refl, none)
+stops_at failover now s _ none = absurd cc
+
+pub idle_so : {P F : Type 0} (stands : P → List Call → Type 0) (w : WorkerStanding P F) (s : WorkerState) (failover now : ℕ) → ShowsState stands w s → due_in w.consumers ≡ None → chore_from failover now s w.round ≡ None → is_idle_in w ≡ true
+idle_so stands w s failover now shows none chore =
+    let r = stops_at failover now s w.round chore in
+    let l = nothing_left s (find is_giving s.consumers) r.1 in
+    ap (λ b. b && not (list_any is_due w.consumers) && not (list_any (λ c. is_giving_phase c.phase) w.consumers) && is_nothing_held w.held) r.0
+    ∙ ap (λ b. true && not b && not (list_any (λ c. is_giving_phase c.phase) w.consumers) && is_nothing_held w.held) (none_due_any w.consumers none)
+    ∙ ap (λ b. true && not false && not b && is_nothing_held w.held) (none_found_any (λ c. is_giving_phase c.phase) w.consumers (none_giving_in stands w.consumers s.consumers shows.consumers l.0))
+    ∙ nothing_held w.held (ap freeing_chore shows.held ∙ l.1)
+
+-- ---- by the fields that the code has, whose value is `old`
+
+pub asked_leaves : {P F : Type 0} (stands : P → List Call → Type 0) (w old : WorkerStanding P F) → w ≡ old → (now : ℕ) (syncs : List SyncStep) (takes : List TakeStep) (asked : Asked) (what : Command) (past : WorkerPast) → old.waiting ≡ None → ((s : WorkerState) → ConsumersStand stands w.consumers s.consumers → w.held ≡ s.held → IsGiven w.made s syncs takes (chore_from w.made.settings.failover now s w.round) asked what) → StandsFor stands old past → (p : Pending) × (next_pending old.made now (worker_after old.made past) ≡ Some p) × (p.what ≡ what) × StandsFor stands (record w { waiting = chore_of asked syncs takes }) (Gave_command now ∷ past)
+asked_leaves {P} {F} stands w old is now syncs takes asked what past free given st =
+    let st0 : StandsFor stands w past = subst (λ v. StandsFor stands v past) (sym is) st in
+    let Q : WorkerStanding P F → Type 0 = λ v. (p : Pending) × (next_pending v.made now (worker_after v.made past) ≡ Some p) × (p.what ≡ what) × StandsFor stands (record w { waiting = chore_of asked syncs takes }) (Gave_command now ∷ past) in
+    subst Q is
+    (asked_stands stands w (record w { waiting = chore_of asked syncs takes }) now syncs takes asked what past (ap (λ v. v.waiting) is ∙ free) refl
+    (given (worker_after w.made past) st0.shows.consumers st0.shows.held) st0)
+
+pub none_left : {P F : Type 0} (stands : P → List Call → Type 0) (w old : WorkerStanding P F) → w ≡ old → (now : ℕ) (past : WorkerPast) → due_in old.consumers ≡ None → is_idle_in old ≡ false → ((s : WorkerState) → ConsumersStand stands w.consumers s.consumers → w.held ≡ s.held → chore_from w.made.settings.failover now s w.round ≡ None) → StandsFor stands old past → ⊥
+none_left stands w old is now past none busy left st =
+    let st0 : StandsFor stands w past = subst (λ v. StandsFor stands v past) (sym is) st in
+    let s : WorkerState = worker_after w.made past in
+    apart (is_idle_in old)
+    (sym (ap is_idle_in is) ∙ idle_so stands w s w.made.settings.failover now st0.shows (ap (λ v. due_in v.consumers) is ∙ none) (left s st0.shows.consumers st0.shows.held)) busy
+  where
+    apart : (b : Bool) → b ≡ true → b ≡ false → ⊥
+    apart true e f = absurd cc
+    apart false e f = absurd cc

@@ -1,0 +1,18 @@
+use Rattle.std.proofs.Common.{map, subst, sym}
+use Rattle.std.specs.List.{AllByRecursion}
+use Rattle.kcl_worker.specs.Asks.{IsWithin}
+use Rattle.kcl_worker.specs.Outlook.{NoneOver}
+use Rattle.kcl_round.specs.Retirements.{retirement}
+use Rattle.kcl_worker.proofs.Askings.{within_settled}
+use Rattle.kcl_worker.proofs.Absorbings.{renewal_leaves}
+use Rattle.kcl_worker.proofs.Happenings.{live_on}
+use Rattle.kcl_worker.proofs.worker.Worker.absorb_renewal.Goals as goal
+
+pub invariant_of-self : goal.invariant_of-self
+invariant_of-self g c =
+    (subst NoneOver (sym c.settle.ensures.live) (live_on c.after_renewal.new.consumers.items), tt, c.settle.ensures.room, c.self.invariant.3, c.self.invariant.4, within_settled g.P.Processor.asks (g.F.Maker.asks c.self.inside.maker) c.after_renewal.new.consumers.items _ c.settle.ensures.live (subst (AllByRecursion (IsWithin g.P.Processor.asks (g.F.Maker.asks c.self.inside.maker))) (sym c.after_renewal.ensures.processors) c.self.invariant.5))
+
+pub returns-clause-absorbed : goal.returns-clause-absorbed
+returns-clause-absorbed g c = λ past st.
+    renewal_leaves g.P.Processor.stands_for _ _ c.self.view_is c.args.now c.args.answer.now c.args.h c.id_of_held.result c.after_renewal.new.held.items c.after_renewal.new.consumers.items
+    c.settle.new.consumers.items (map retirement c.settle.new.retired.items) past c.id_of_held.ensures c.requires c.settle.ensures.live c.settle.ensures.over c.after_renewal.ensures.leaves st

@@ -1,0 +1,19 @@
+use Rattle.std.proofs.Common.{◌∙◌, ap, map, subst, sym}
+use Rattle.kcl_round.specs.Changes.{lost_among}
+use Rattle.kcl_worker.specs.Outlook.{NoneOver}
+use Rattle.kcl_round.specs.Planning.{is_among}
+use Rattle.kcl_round.specs.Retirements.{retirement}
+use Rattle.kcl_worker.specs.Asks.{AskWithin}
+use Rattle.kcl_worker.proofs.Askings.{within_lost, within_settled}
+use Rattle.kcl_worker.proofs.Happenings.{live_on}
+use Rattle.kcl_worker.proofs.Surveys.{planned_leaves}
+use Rattle.kcl_worker.proofs.worker.Worker.follow.Goals as goal
+
+pub invariant_of-self : goal.invariant_of-self
+invariant_of-self g c = (subst NoneOver (sym c.settle.ensures.live) (live_on c.lose_gone.new.consumers.items), tt, c.settle.ensures.room, c.self.invariant.3, c.self.invariant.4, within_settled g.P.Processor.asks (g.F.Maker.asks c.self.inside.maker) c.lose_gone.new.consumers.items _ c.settle.ensures.live (subst (AskWithin g.P.Processor.asks (g.F.Maker.asks c.self.inside.maker)) (sym c.lose_gone.ensures) (within_lost g.P.Processor.asks (g.F.Maker.asks c.self.inside.maker) (is_among c.as_slice.result.now) c.self.inside.consumers.items c.self.invariant.5)))
+
+pub returns-clause-absorbed : goal.returns-clause-absorbed
+returns-clause-absorbed g c = λ past now answer planned st.
+    planned_leaves g.P.Processor.stands_for _ _ c.self.view_is now answer c.args.p c.new-left_syncs.result c.new-left_takes.result c.lose_gone.new.consumers.items
+    c.settle.new.consumers.items (map retirement c.settle.new.retired.items) past c.requires planned c.new-left_syncs.ensures c.new-left_takes.ensures
+    (c.lose_gone.ensures ∙ ap (λ hs. lost_among (is_among hs) c.self.inside.consumers.items) c.as_slice.ensures.value) c.settle.ensures.live c.settle.ensures.over st

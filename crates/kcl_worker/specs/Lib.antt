@@ -1,0 +1,6 @@
+pub mod Parts
+pub mod Standing
+pub mod Outlook
+pub mod Written
+pub mod Asks
+pub mod Adding

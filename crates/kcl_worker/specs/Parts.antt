@@ -1,0 +1,46 @@
+-- How a worker keeps its round and the chore that waits.
+use Rattle.std.specs.Prelude.{List, [], ◌∷◌, Option, Some, None}
+use Rattle.kcl_defs.specs.declared.plans.SyncStep.{SyncStep}
+use Rattle.kcl_defs.specs.declared.plans.TakeStep.{TakeStep}
+use Rattle.kcl_defs.specs.Workers.{Round, AtSurvey, AtSync, AtTakes, AtRenewals, AtConsumers, AtStopping, Chore, Surveying, Syncing, Taking, Renewing, Consuming, Finishing, Freeing}
+use Rattle.kcl_worker.specs.declared.round.Part.{Part}
+use Rattle.kcl_worker.specs.declared.round.Part.TheVariants as part
+use Rattle.kcl_worker.specs.declared.round.Asked.{Asked}
+use Rattle.kcl_worker.specs.declared.round.Asked.TheVariants as asked
+
+-- the steps that are left
+abbrev pub round_of : Part → List SyncStep → List TakeStep → Round
+round_of part.Survey syncs takes = AtSurvey
+round_of part.Sync syncs takes = AtSync syncs takes
+round_of part.Takes syncs takes = AtTakes takes
+round_of (part.Renewals place) syncs takes = AtRenewals place
+round_of (part.Consumers place) syncs takes = AtConsumers place
+round_of part.Stopping syncs takes = AtStopping
+
+-- the step that was asked is the first of those that are left
+abbrev pub syncing : List SyncStep → List TakeStep → Option Chore
+syncing [] takes = None
+syncing (step ∷ syncs) takes = Some (Syncing step syncs takes)
+
+abbrev pub taking : List TakeStep → Option Chore
+taking [] = None
+taking (step ∷ takes) = Some (Taking step takes)
+
+abbrev pub chore_of : Asked → List SyncStep → List TakeStep → Option Chore
+chore_of asked.Nothing syncs takes = None
+chore_of asked.Survey syncs takes = Some Surveying
+chore_of asked.Sync syncs takes = syncing syncs takes
+chore_of asked.Take syncs takes = taking takes
+chore_of (asked.Renew h) syncs takes = Some (Renewing h)
+chore_of (asked.Consume id) syncs takes = Some (Consuming id)
+chore_of (asked.Finish id) syncs takes = Some (Finishing id)
+chore_of (asked.Free h) syncs takes = Some (Freeing h)
+
+-- the command that waits is a step of the sync plan, or a taking
+abbrev pub IsSyncing : Option Chore → Type 0
+IsSyncing (Some (Syncing step syncs takes)) = Unit {0}
+IsSyncing _ = ⊥
+
+abbrev pub IsTaking : Option Chore → Type 0
+IsTaking (Some (Taking step takes)) = Unit {0}
+IsTaking _ = ⊥

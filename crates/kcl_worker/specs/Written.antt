@@ -1,0 +1,49 @@
+-- What a write of a row was answered, as a worker takes it.
+use Rattle.std.specs.Prelude.{ℕ, ◌≡◌, ◌&&◌, Bool, if◌then◌else◌, List, Option, Some, None, Result, Ok, Err}
+use Rattle.kcl_defs.specs.declared.consumer.Call.{Call}
+use Rattle.kcl_defs.specs.declared.plans.Held.{Held}
+use Rattle.kcl_defs.specs.declared.plans.LeaseId.{LeaseId}
+use Rattle.kds_defs.specs.declared.reply.Refusal.{Refusal}
+use Rattle.kds_defs.specs.declared.reply.Reply.{Reply}
+use Rattle.kds_defs.specs.declared.reply.Reply.TheVariants as reply
+use Rattle.kcl_defs.specs.Consumers.{Losing, Phase}
+use Rattle.kcl_defs.specs.Workers.{WorkerState, after_renewal, happens_to, held_after, id_of, id_of_held, is_marking_or_opening, renewed, same_id, without_held}
+use Rattle.kcl_consumer.specs.Standing.{Standing}
+use Rattle.kcl_worker.specs.declared.answers.Taken.{Taken}
+use Rattle.kcl_worker.specs.declared.answers.Written.{Written}
+use Rattle.kcl_worker.specs.declared.answers.Written.TheVariants as written
+use Rattle.kcl_worker.specs.Standing.{ConsumersStand}
+
+-- what it does to a lease after a consumer's command, which wrote or did not
+abbrev pub held_by : ℕ → LeaseId → Bool → Written → List Held → List Held
+held_by now id writing (written.Counter counter) held = renewed id counter now held
+held_by now id writing written.Nothing held = held
+held_by now id writing (written.Refused loss) held = if loss && writing then without_held id held else held
+
+-- and after a renewal
+abbrev pub renewal_by : ℕ → Held → Written → WorkerState → WorkerState
+renewal_by now h (written.Counter counter) w = record w { held = renewed (id_of_held h) counter now w.held }
+renewal_by now h written.Nothing w = w
+renewal_by now h (written.Refused loss) w = record w {
+  held = without_held (id_of_held h) w.held;
+  consumers = happens_to (λ k. same_id (id_of k) (id_of_held h)) Losing w.consumers;
+}
+
+pub record IsWritten (answer : Result Reply Refusal) (w : Written) : Type 0 where
+  pub renewal : (now : ℕ) (h : Held) (s : WorkerState) → after_renewal now h answer s ≡ renewal_by now h w s
+  pub held : (now : ℕ) (id : LeaseId) (phase : Phase) (held : List Held) → held_after now id phase answer held ≡ held_by now id (is_marking_or_opening phase) w held
+
+-- these leases and consumers show the state t, which is s but for them
+pub record Leaves {P : Type 0} (stands : P → List Call → Type 0) (s t : WorkerState) (held : List Held) (cs : List (Standing P)) : Type 0 where
+  pub held_so : held ≡ t.held
+  pub consumers : ConsumersStand stands cs t.consumers
+  pub round : t.round ≡ s.round
+  pub waiting : t.waiting ≡ s.waiting
+  pub seen : t.seen ≡ s.seen
+  pub retired : t.retired ≡ s.retired
+
+-- what a Take was answered
+abbrev pub IsTaken : Result Reply Refusal → Option Taken → Type 0
+IsTaken (Ok (reply.Taken tenure counter start)) o = o ≡ Some (record { tenure = tenure; counter = counter; start = start })
+IsTaken (Ok _) o = o ≡ None
+IsTaken (Err r) o = o ≡ None

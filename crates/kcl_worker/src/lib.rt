@@ -1,0 +1,15 @@
+//! A worker: which command comes next, and what its answer leads to (Kinesis Client Library, Scheduler).
+#![tactic(auto)]
+
+mod answers;
+mod laws;
+mod nexts;
+mod round;
+#[cfg(test)]
+mod tests;
+mod worker;
+
+pub use kcl_defs::Settings;
+pub use kcl_round::Retired;
+pub use laws::{served, service};
+pub use worker::{NoRoom, Worker};

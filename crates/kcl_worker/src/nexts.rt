@@ -1,0 +1,196 @@
+//! The command that comes next. A part of the round that has nothing left is passed over.
+ghost use Rattle.std.specs.Prelude.{◌≡◌, ◌≤◌, List, Option, None, Some, IfNone, IfSome, IsSome};
+ghost use Rattle.std.specs.List.{AllByRecursion};
+ghost use Rattle.kds_defs.specs.declared.command.Command.TheVariants as command;
+ghost use Rattle.kcl_defs.specs.declared.plans.SyncStep.{SyncStep};
+ghost use Rattle.kcl_defs.specs.declared.plans.TakeStep.{TakeStep};
+ghost use Rattle.kcl_defs.specs.declared.consumer.WorkerMade.{WorkerMade};
+ghost use Rattle.kcl_defs.specs.Workers.{WorkerState, chore_from, from_consumers, from_renewals, from_sync, from_takes, is_giving, stopping_chore, sync_command};
+ghost use Rattle.std.specs.List.{find};
+ghost use Rattle.kcl_worker.specs.Outlook.{IsGiven, IsLeaseCommand, IsReady};
+ghost use Rattle.kcl_worker.specs.Parts.{chore_of, round_of};
+ghost use Rattle.kcl_worker.specs.Standing.{ConsumersStand};
+
+use crate::round::{Asked, Part};
+use kcl_consumer::{Consumer, Processor};
+use kcl_defs::{Held, LeaseId, SyncStep, TakeStep, WorkerMade};
+use kcl_round::consumers::{first_giving, first_past, id_of};
+use kcl_round::leases::{counter_of, next_due};
+use kds_base::Moment;
+use kds_defs::Command;
+
+/// The command of the first consumer after this place, or else a survey.
+pub fn from_consumers<P: Processor>(
+    consumers: &[Consumer<P>],
+    held: &[Held],
+    place: Option<LeaseId>,
+) -> (Asked, Command)
+    requires { AllByRecursion IsReady consumers.now }
+    ensures given { (made : WorkerMade) (s : WorkerState) (syncs : List SyncStep) (takes : List TakeStep) → ConsumersStand P.stands_for consumers.now s.consumers → held.now ≡ s.held → IsGiven made s syncs takes (Some (from_consumers place s)) result.0 result.1 }
+    ensures lawful { IsLeaseCommand result.1 }
+    ensures asks { (syncs : List SyncStep) (takes : List TakeStep) → IsSome (chore_of result.0 syncs takes) }
+{
+    match first_past(consumers, &place) {
+        Some(c) => {
+            let id = id_of(c);
+            (Asked::Consume(id), c.next(counter_of(held, &id)))
+        }
+        None => (Asked::Survey, Command::Survey),
+    }
+}
+
+/// The renewal of a lease.
+fn renewal_of(h: &Held) -> Command
+    ensures command { result ≡ command.Renew h.now.tenure h.now.counter }
+    ensures lawful { IsLeaseCommand result }
+{
+    Command::Renew {
+        tenure: h.tenure,
+        counter: h.counter,
+    }
+}
+
+/// The renewal of the first lease after this place that is due, or else what the consumers have to do.
+pub fn from_renewals<P: Processor>(
+    consumers: &[Consumer<P>],
+    held: &[Held],
+    place: Option<LeaseId>,
+    now: Moment,
+    failover: u64,
+) -> (Asked, Command)
+    requires { AllByRecursion IsReady consumers.now }
+    ensures given { (made : WorkerMade) (s : WorkerState) (syncs : List SyncStep) (takes : List TakeStep) → ConsumersStand P.stands_for consumers.now s.consumers → held.now ≡ s.held → IsGiven made s syncs takes (Some (from_renewals failover now place s)) result.0 result.1 }
+    ensures lawful { IsLeaseCommand result.1 }
+    ensures asks { (syncs : List SyncStep) (takes : List TakeStep) → IsSome (chore_of result.0 syncs takes) }
+{
+    match next_due(held, &place, now, failover) {
+        Some(h) => (Asked::Renew(h), renewal_of(&h)),
+        None => from_consumers(consumers, held, None),
+    }
+}
+
+/// The first taking that is left, or else what is to be renewed.
+pub fn from_takes<P: Processor>(
+    made: &WorkerMade,
+    takes: &[TakeStep],
+    consumers: &[Consumer<P>],
+    held: &[Held],
+    now: Moment,
+) -> (Asked, Command)
+    requires ready { AllByRecursion IsReady consumers.now }
+    requires name { 1 ≤ made.now.name }
+    ensures given { (s : WorkerState) (syncs : List SyncStep) → ConsumersStand P.stands_for consumers.now s.consumers → held.now ≡ s.held → IsGiven made.now s syncs takes.now (Some (from_takes made.now.settings.failover now takes.now s)) result.0 result.1 }
+    ensures lawful { IsLeaseCommand result.1 }
+    ensures asks { (syncs : List SyncStep) → IsSome (chore_of result.0 syncs takes.now) }
+{
+    match takes {
+        [step, ..] => (
+            Asked::Take,
+            Command::Take {
+                key: step.key,
+                counter: step.counter,
+                owner: made.name,
+            },
+        ),
+        [] => from_renewals(consumers, held, None, now, made.settings.failover),
+    }
+}
+
+/// The command of a step that brings the rows in line with the shards.
+fn sync_command(step: &SyncStep) -> Command
+    ensures command { result ≡ sync_command step.now }
+    ensures lawful { IsLeaseCommand result }
+{
+    match step {
+        SyncStep::Make(key, from) => Command::MakeLease {
+            key: *key,
+            from: *from,
+        },
+        SyncStep::Cut(key, counter) => Command::CutLease {
+            key: *key,
+            counter: *counter,
+        },
+    }
+}
+
+/// The first step that is left of those that bring the rows in line with the shards, or else what is to be taken.
+pub fn from_sync<P: Processor>(
+    made: &WorkerMade,
+    syncs: &[SyncStep],
+    takes: &[TakeStep],
+    consumers: &[Consumer<P>],
+    held: &[Held],
+    now: Moment,
+) -> (Asked, Command)
+    requires ready { AllByRecursion IsReady consumers.now }
+    requires name { 1 ≤ made.now.name }
+    ensures given { (s : WorkerState) → ConsumersStand P.stands_for consumers.now s.consumers → held.now ≡ s.held → IsGiven made.now s syncs.now takes.now (Some (from_sync made.now.settings.failover now syncs.now takes.now s)) result.0 result.1 }
+    ensures lawful { IsLeaseCommand result.1 }
+    ensures asks { IsSome (chore_of result.0 syncs.now takes.now) }
+{
+    match syncs {
+        [step, ..] => (Asked::Sync, sync_command(step)),
+        [] => from_takes(made, takes, consumers, held, now),
+    }
+}
+
+/// The give of the first consumer that has a batch, or else the freeing of the first lease.
+pub fn at_stopping<P: Processor>(
+    consumers: &[Consumer<P>],
+    held: &[Held],
+) -> Option<(Asked, Command)>
+    ensures none { IfNone result ((s : WorkerState) → ConsumersStand P.stands_for consumers.now s.consumers → held.now ≡ s.held → stopping_chore s (find is_giving s.consumers) ≡ None) }
+    ensures some { IfSome result (λ given. (made : WorkerMade) (s : WorkerState) (syncs : List SyncStep) (takes : List TakeStep) → ConsumersStand P.stands_for consumers.now s.consumers → held.now ≡ s.held → IsGiven made s syncs takes (stopping_chore s (find is_giving s.consumers)) given.0 given.1) }
+    ensures lawful { IfSome result (λ given. IsLeaseCommand given.1) }
+    ensures asks { IfSome result (λ given. (syncs : List SyncStep) (takes : List TakeStep) → IsSome (chore_of given.0 syncs takes)) }
+{
+    match first_giving(consumers) {
+        Some(c) => Some((
+            Asked::Finish(id_of(c)),
+            Command::Give { tenure: c.tenure() },
+        )),
+        None => match held {
+            [h, ..] => Some((
+                Asked::Free(*h),
+                Command::Free {
+                    tenure: h.tenure,
+                    counter: h.counter,
+                },
+            )),
+            [] => None,
+        },
+    }
+}
+
+/// What comes next in this part of the round, if there is anything.
+pub fn given<P: Processor>(
+    made: &WorkerMade,
+    part: Part,
+    syncs: &[SyncStep],
+    takes: &[TakeStep],
+    consumers: &[Consumer<P>],
+    held: &[Held],
+    now: Moment,
+) -> Option<(Asked, Command)>
+    requires ready { AllByRecursion IsReady consumers.now }
+    requires name { 1 ≤ made.now.name }
+    ensures none { IfNone result ((s : WorkerState) → ConsumersStand P.stands_for consumers.now s.consumers → held.now ≡ s.held → chore_from made.now.settings.failover now s (round_of part syncs.now takes.now) ≡ None) }
+    ensures some { IfSome result (λ given. (s : WorkerState) → ConsumersStand P.stands_for consumers.now s.consumers → held.now ≡ s.held → IsGiven made.now s syncs.now takes.now (chore_from made.now.settings.failover now s (round_of part syncs.now takes.now)) given.0 given.1) }
+    ensures lawful { IfSome result (λ given. IsLeaseCommand given.1) }
+    ensures asks { IfSome result (λ given. IsSome (chore_of given.0 syncs.now takes.now)) }
+{
+    match part {
+        Part::Survey => Some((Asked::Survey, Command::Survey)),
+        Part::Sync => Some(from_sync(made, syncs, takes, consumers, held, now)),
+        Part::Takes => Some(from_takes(made, takes, consumers, held, now)),
+        Part::Renewals(place) => Some(from_renewals(
+            consumers,
+            held,
+            place,
+            now,
+            made.settings.failover,
+        )),
+        Part::Consumers(place) => Some(from_consumers(consumers, held, place)),
+        Part::Stopping => at_stopping(consumers, held),
+    }
+}
