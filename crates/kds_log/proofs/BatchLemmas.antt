@@ -1,9 +1,11 @@
 -- A batch is the longest prefix within its limits.
-use Rattle.std.proofs.Common.{◌≡◌, ℕ, zero, suc, ◌-◌, ◌<◌, ◌≤◌, Bool, true, false, List, [], ◌∷◌, ◌++◌, length, refl, sym, ap, subst, arith}
-use Rattle.std.specs.Prelude.{nat_le, if◌then◌else◌}
+use Rattle.std.proofs.Common.{◌≡◌, ◌≢◌, ℕ, zero, suc, ◌-◌, ◌<◌, ◌≤◌, Bool, true, false, List, [], ◌∷◌, ◌++◌, length, map, refl, sym, ap, subst, ◌∙◌, arith}
+use Rattle.std.specs.Prelude.{nat_le, if◌then◌else◌, IfOk, Result, Ok, Err}
 use Rattle.std.proofs.lemmas.Bool.Decides.{nat_tests}
-use Rattle.kds_defs.specs.Records.{Logged, beginning}
-use Rattle.kds_log.specs.Log.{IsWithin, IsPrefix}
+use Rattle.kds_defs.specs.Records.{Logged, beginning, stored}
+use Rattle.kds_defs.specs.declared.limits.TheConstants.{BATCH_BYTES}
+use Rattle.kds_defs.specs.declared.reply.Stored.{Stored}
+use Rattle.kds_log.specs.Log.{FirstFits, IsWithin, IsPrefix}
 
 -- the beginning of a list whose first record takes these bytes
 abbrev chosen : Bool → Logged → List Logged → List Logged
@@ -20,6 +22,9 @@ prefix (suc limit) room (r ∷ rs) = prefix_more (nat_le r.bytes room) r (beginn
 
 fits : (bytes room : ℕ) → nat_le bytes room ≡ true → bytes ≤ room
 fits bytes room h = grind (arith, nat_tests)
+
+fits_so : (bytes room : ℕ) → bytes ≤ room → nat_le bytes room ≡ true
+fits_so bytes room h = grind (arith, nat_tests)
 
 fits_not : (bytes room : ℕ) → nat_le bytes room ≡ false → room < bytes
 fits_not bytes room h = grind (arith, nat_tests)
@@ -57,3 +62,25 @@ no_longer (suc limit) room (r ∷ rs) (x ∷ front) p h =
     let t : rs ≡ front ++ p.0 = same_tail r x rs (front ++ p.0) p.1 in
     let w : IsWithin (suc limit) room (r ∷ front) = subst (λ (z : Logged). IsWithin (suc limit) room (z ∷ front)) (sym e) h in
     longest_more (nat_le r.bytes room) limit room r front (beginning limit (room - r.bytes) rs) refl w (λ inner. no_longer limit (room - r.bytes) rs front (p.0, t) inner)
+
+-- ---- a batch that isn't empty
+
+pub some_taken : (limit room : ℕ) (rs : List Logged) → 1 ≤ limit → FirstFits room rs → beginning limit room rs ≢ []
+some_taken limit room [] some fits = absurd fits
+some_taken zero room (r ∷ rs) some fits = absurd (omega arith)
+some_taken (suc limit) room (r ∷ rs) some fits = taken (nat_le r.bytes room) (fits_so r.bytes room fits)
+  where
+    taken : (b : Bool) → b ≡ true → chosen b r (beginning limit (room - r.bytes) rs) ≢ []
+    taken true is = λ none. cc
+    taken false is = absurd cc
+
+none_stored : (rs : List Logged) → map stored rs ≡ [] → rs ≡ []
+none_stored [] none = refl
+none_stored (r ∷ rs) none = absurd cc
+
+pub some_stored : (limit room : ℕ) (rs : List Logged) → 1 ≤ limit → FirstFits room rs → map stored (beginning limit room rs) ≢ []
+some_stored limit room rs some fits none = some_taken limit room rs some fits (none_stored (beginning limit room rs) none)
+
+pub some_answered : {E : Type 0} (r : Result (List Stored) E) (limit : ℕ) (rs : List Logged) → IfOk r (λ b. b ≡ map stored (beginning limit BATCH_BYTES rs)) → 1 ≤ limit → FirstFits BATCH_BYTES rs → IfOk r (λ b. b ≢ [])
+some_answered (Err e) limit rs is some fits = tt
+some_answered (Ok b) limit rs is some fits = λ none. some_stored limit BATCH_BYTES rs some fits (sym is ∙ none)

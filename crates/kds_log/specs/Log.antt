@@ -62,15 +62,20 @@ IsLeast ns (Some n) = Contains ns n × AllByRecursion (λ m. n ≤ m) ns
 
 -- ---- batches
 
--- the payload bytes of these records
+-- the payload and key bytes of these records
 abbrev pub bytes_in : List Logged → ℕ
 bytes_in [] = 0
 bytes_in (r ∷ rs) = r.bytes + bytes_in rs
 
--- at most so many records and so many payload bytes
+-- at most so many records and so many payload and key bytes
 abbrev pub IsWithin : ℕ → ℕ → List Logged → Type 0
 IsWithin limit room rs = (length rs ≤ limit) × (bytes_in rs ≤ room)
 
 -- the records begin with these
 abbrev pub IsPrefix : List Logged → List Logged → Type 0
 IsPrefix front rs = (rest : List Logged) × (rs ≡ front ++ rest)
+
+-- there are such records, and the first of them has at most so many payload and key bytes
+abbrev pub FirstFits : ℕ → List Logged → Type 0
+FirstFits room [] = ⊥
+FirstFits room (r ∷ rs) = r.bytes ≤ room

@@ -1,10 +1,10 @@
 //! The log of one shard.
-ghost use Rattle.std.specs.Prelude.{◌≡◌, ◌+◌, ◌++◌, ◌∷◌, [], ◌<◌, ◌≤◌, map, Some, None, IfOk, IfSome, OnOk, OnErr};
+ghost use Rattle.std.specs.Prelude.{◌≡◌, ◌≢◌, ◌+◌, ◌++◌, ◌∷◌, [], ◌<◌, ◌≤◌, map, Some, None, IfOk, IfSome, OnOk, OnErr};
 ghost use Rattle.std.specs.List.{AllByRecursion};
 ghost use Rattle.kds_defs.specs.declared.limits.TheConstants.{BATCH_BYTES};
 ghost use Rattle.kds_defs.specs.Records.{beginning, left_among, logged, numbers_of, stored};
 ghost use Rattle.kds_defs.specs.Streams.{floor_of};
-ghost use Rattle.kds_log.specs.Log.{first_arrival, first_number, log_of, since, IsLeast, IsOrderly};
+ghost use Rattle.kds_log.specs.Log.{first_arrival, first_number, log_of, since, FirstFits, IsLeast, IsOrderly};
 
 use crate::batch::batch_from;
 use crate::place::{drop_below, first_since, place};
@@ -114,7 +114,8 @@ impl ShardLog {
     }
 
     /// The longest beginning of the untrimmed records at or above the position, of at most `limit` records and
-    /// `BATCH_BYTES` payload bytes (Kinesis API Reference, GetRecords).
+    /// `BATCH_BYTES` payload and key bytes together (Kinesis API Reference, GetRecords). It isn't empty where a record may be
+    /// in it and the first one that is left has at most that many.
     pub fn batch(
         &self,
         alloc: Global,
@@ -123,6 +124,7 @@ impl ShardLog {
         limit: u32,
     ) -> Result<Items<Stored>, Memory>
         ensures value { IfOk result (λ b. b ≡ map stored (beginning limit BATCH_BYTES (left_among (floor_of cut) position self.now.kept))) }
+        ensures some { 1 ≤ limit → FirstFits BATCH_BYTES (left_among (floor_of cut) position self.now.kept) → IfOk result (λ b. b ≢ []) }
         ensures orderly { IsOrderly (log_of self.now) }
     {
         let start = place(&self.records, floor_of(cut), position);
