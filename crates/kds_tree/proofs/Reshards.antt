@@ -1,22 +1,23 @@
 -- Splits and merges over plain lists.
-use Rattle.std.proofs.Common.{◌≡◌, ℕ, zero, suc, ◌+◌, ◌<◌, ◌≤◌, Bool, true, false, List, [], ◌∷◌, ◌++◌, length, map, Option, Some, None, refl, sym, ap, subst, ◌∙◌, arith}
-use Rattle.std.specs.Prelude.{Ok, Err, slice_get, slice_set, slice_index_or, not, is_some, ◌&&◌, if◌then◌else◌}
+use Rattle.std.proofs.Common.{◌≡◌, ℕ, zero, suc, ◌+◌, ◌-◌, ◌*◌, ◌/◌, ◌^◌, ◌<◌, ◌≤◌, Bool, true, false, List, [], ◌∷◌, ◌++◌, length, map, Option, Some, None, refl, sym, ap, subst, ◌∙◌, arith}
+use Rattle.std.specs.Prelude.{Result, Ok, Err, slice_get, slice_set, slice_index_or, not, is_some, ◌&&◌, if◌then◌else◌}
 use Rattle.std.proofs.lemmas.Option.{slice_get_within, get_or_from_slice_get}
 use Rattle.std.proofs.lemmas.List.{get_or_append_left, length-append}
-use Rattle.kds_base.specs.Span.{Span, is_inside, lower_part, upper_part, are_adjacent, joined}
+use Rattle.std.proofs.lemmas.Bool.Decides.{nat_tests}
+use Rattle.kds_base.specs.Span.{Span, is_inside, lower_part, upper_part, are_adjacent, follows, joined, uniform_from}
 use Rattle.kds_defs.specs.declared.reply.Refusal.{Refusal}
-use Rattle.kds_defs.specs.Shards.{ShardState, Closing, is_open, new_shard, range_of, with_closed, split_shards, merged_shards, made_shards}
+use Rattle.kds_defs.specs.Shards.{ShardState, Closing, first_shards, is_open, new_shard, range_of, with_closed, split_shards, merged_shards, made_shards}
 use Rattle.kds_defs.specs.StreamCommands.{is_open_at}
 use Rattle.kds_defs.specs.Tiled.{AreNumbered, IsTiled}
 use Rattle.kds_defs.proofs.Numbers.{numbered-closed, numbered-append, length-closed, numbered-first}
 use Rattle.kds_defs.proofs.Tiles.{tiled_split, tiled_merge, tiled_new}
 use Rattle.kds_base.specs.Span.{uniform}
-use Rattle.std.specs.List.{filter}
+use Rattle.std.specs.List.{AllByRecursion, filter}
 use Rattle.std.specs.List.Sorted.{IsNonDecreasingBy, IsPermutation}
 use Rattle.kds_tree.specs.Starts.{AreStarts, own_start, stays}
 use Rattle.kds_tree.specs.declared.start.Start.{Start}
 use Rattle.kds_tree.proofs.OpenStarts.{reshaped, closes_one, closes_two}
-use Rattle.kds_tree.specs.Tree.{IsTree, split_refusal, merge_refusal, answer_by, value_by}
+use Rattle.kds_tree.specs.Tree.{IsTree, IsWithinKeys, split_refusal, merge_refusal, answer_by, value_by}
 
 -- ---- what no refusal says
 
@@ -84,6 +85,36 @@ can_merge xs sh other h =
 numbered_two : (n : ℕ) (x y : ShardState) → x.no ≡ n → y.no ≡ n + 1 → AreNumbered n (x ∷ y ∷ [])
 numbered_two n x y h g = (h, (g, tt))
 
+within-closed : (xs : List ShardState) (sh : ℕ) (closing : Closing) → AllByRecursion IsWithinKeys xs → AllByRecursion IsWithinKeys (with_closed sh closing xs)
+within-closed [] sh closing h = tt
+within-closed (y ∷ ys) zero closing h = (h.0, h.1)
+within-closed (y ∷ ys) (suc sh) closing h = (h.0, within-closed ys sh closing h.1)
+
+within-append : (xs ys : List ShardState) → AllByRecursion IsWithinKeys xs → AllByRecursion IsWithinKeys ys → AllByRecursion IsWithinKeys (xs ++ ys)
+within-append [] ys h g = g
+within-append (x ∷ xs) ys h g = (h.0, within-append xs ys h.1 g)
+
+within_at : (xs : List ShardState) (sh : ℕ) (x : ShardState) → slice_get xs sh ≡ Some x → AllByRecursion IsWithinKeys xs → x.range.end < 2 ^ 128
+within_at [] sh x is h = absurd cc
+within_at (y ∷ ys) zero x is h = let e : y ≡ x = cc in omega (arith, h.0, ap (λ (z : ShardState). z.range.end) e)
+within_at (y ∷ ys) (suc sh) x is h = within_at ys sh x is h.1
+
+chosen_within : (b : Bool) (x y : Span) → x.end < 2 ^ 128 → y.end < 2 ^ 128 → (if b then x else y).end < 2 ^ 128
+chosen_within true x y h g = h
+chosen_within false x y h g = g
+
+lower_within : (r : Span) (at : ℕ) → is_inside r at ≡ true → r.end < 2 ^ 128 → at - 1 < 2 ^ 128
+lower_within r at inside h = grind (arith, nat_tests)
+
+-- the ranges but the last end before a further one begins, at or below so many widths
+within_last : (width start n : ℕ) → start + n * width ≤ 2 ^ 128 → (i s : ℕ) → AllByRecursion IsWithinKeys (first_shards i s (uniform_from width start n))
+within_last width start zero fits i s = tt
+within_last width start (suc zero) fits i s = (omega arith, tt)
+within_last width start (suc (suc n)) fits i s = (before_key start width n fits, within_last width (start + width) (suc n) (omega (arith, fits)) (i + 1) s)
+  where
+    before_key : (start width n : ℕ) → start + suc (suc n) * width ≤ 2 ^ 128 → start + width - 1 < 2 ^ 128
+    before_key start width n fits = omega (arith, fits)
+
 pub tree_split : (xs : List ShardState) (sh at start : ℕ) (closing : Closing) → split_refusal xs sh at ≡ None → IsTree xs → IsTree (split_shards sh at closing start xs)
 tree_split xs sh at start closing h tree =
     let can = can_split xs sh at h in
@@ -96,6 +127,11 @@ tree_split xs sh at start closing h tree =
       tiled =
           subst (λ o. IsTiled (with_closed sh closing xs ++ (new_shard (length xs) (lower_part (range_of o) at) (Some sh) None start ∷ new_shard (length xs + 1) (upper_part (range_of o) at) (Some sh) None start ∷ []))) (sym can.made)
           (tiled_split xs sh (length xs) (length xs + 1) at start closing (Some sh) None can.state can.made can.is_open_now can.inside tree.tiled);
+      within =
+          within-append (with_closed sh closing xs) (low ∷ high ∷ []) (within-closed xs sh closing tree.within) (
+            subst (λ o. (lower_part (range_of o) at).end < 2 ^ 128) (sym can.made) (lower_within can.state.range at can.inside (within_at xs sh can.state can.made tree.within)),
+            (subst (λ o. (upper_part (range_of o) at).end < 2 ^ 128) (sym can.made) (within_at xs sh can.state can.made tree.within), tt),
+          );
     }
 
 pub tree_merged : (xs : List ShardState) (sh other start : ℕ) (closing : Closing) → merge_refusal xs sh other ≡ None → IsTree xs → IsTree (merged_shards sh other closing start xs)
@@ -111,10 +147,21 @@ tree_merged xs sh other start closing h tree =
           subst (λ o. IsTiled (closed ++ (new_shard (length xs) (joined (range_of o) (range_of (slice_get xs other))) (Some sh) (Some other) start ∷ []))) (sym can.made)
           (subst (λ o. IsTiled (closed ++ (new_shard (length xs) (joined can.state.range (range_of o)) (Some sh) (Some other) start ∷ []))) (sym can.other_made)
           (tiled_merge xs sh other (length xs) start closing (Some sh) (Some other) can.state can.beside can.made can.other_made can.is_open_now can.other_open can.touch tree.tiled));
+      within =
+          let low : Span = range_of (slice_get xs sh) in
+          let high : Span = range_of (slice_get xs other) in
+          let a : low.end < 2 ^ 128 = subst (λ o. (range_of o).end < 2 ^ 128) (sym can.made) (within_at xs sh can.state can.made tree.within) in
+          let b : high.end < 2 ^ 128 = subst (λ o. (range_of o).end < 2 ^ 128) (sym can.other_made) (within_at xs other can.beside can.other_made tree.within) in
+          within-append closed (child ∷ []) (within-closed (with_closed sh closing xs) other closing (within-closed xs sh closing tree.within))
+          (chosen_within (follows low high) (record { start = low.start; end = high.end }) (record { start = high.start; end = low.end }) b a, tt);
     }
 
+within_made : (n : ℕ) → n ≤ 500 → AllByRecursion IsWithinKeys (made_shards n 1)
+within_made zero high = tt
+within_made (suc n) high = within_last (2 ^ 128 / suc n) 0 (suc n) (omega arith) 0 1
+
 pub tree_made : (n : ℕ) → 1 ≤ n → n ≤ 500 → IsTree (made_shards n 1)
-tree_made n low high = record { numbered = numbered-first 0 1 (uniform n); tiled = tiled_new n 1 low high }
+tree_made n low high = record { numbered = numbered-first 0 1 (uniform n); tiled = tiled_new n 1 low high; within = within_made n high }
 
 -- ---- a shard that is closed at its place, where others follow
 
@@ -139,6 +186,14 @@ answered (Some r) x y h = absurd cc
 pub refused_value : {A : Type 0} (o : Option Refusal) (r : Refusal) (x : A) (before after : List ShardState) → Err r ≡ answer_by o x → before ≡ value_by o before after
 refused_value None r x before after h = absurd cc
 refused_value (Some s) r x before after h = refl
+
+-- its answer is the refusal
+same_refusal : {A : Type 0} (r q : Refusal) → (let a : Result A Refusal = Err r in let b : Result A Refusal = Err q in a ≡ b) → r ≡ q
+same_refusal r q h = cc
+
+pub refused_answer : {A B : Type 0} (o : Option Refusal) (r : Refusal) (x : A) (y : B) → Err r ≡ answer_by o x → Err r ≡ answer_by o y
+refused_answer None r x y h = absurd cc
+refused_answer (Some q) r x y h = ap Err (same_refusal r q h)
 
 -- the element that is read at the place is the shard there
 read_at : (xs ys zs : List ShardState) (i : ℕ) (x old : ShardState) → zs ≡ xs ++ ys → slice_get xs i ≡ Some x → old ≡ slice_index_or zs i old → x ≡ old
@@ -215,6 +270,16 @@ split_within xs zs sh i at ranges low high answer is_i is =
     let h = answered (split_refusal xs sh at) ranges (halves (range_of (slice_get xs sh)) at) answer in
     let can = can_split xs sh at h.0 in
     omega (arith, is_i, slice_get_within xs sh can.state can.made, ap length is, length-append xs (low ∷ high ∷ []))
+
+-- both shards of a merge stand in the list with one shard more
+pub both_within : (xs zs : List ShardState) (sh other i j n : ℕ) (range joint : Span) (child : ShardState)
+    → Ok range ≡ answer_by (merge_refusal xs sh other) joint → i ≡ sh → j ≡ other → n ≡ length zs → zs ≡ xs ++ child ∷ [] → (i < n) × (j < n)
+both_within xs zs sh other i j n range joint child answer is_i is_j is_n more =
+    let can = can_merge xs sh other (answered (merge_refusal xs sh other) range joint answer).0 in
+    let a : sh < length xs = slice_get_within xs sh can.state can.made in
+    let b : other < length xs = slice_get_within xs other can.beside can.other_made in
+    let e : n ≡ length xs + 1 = is_n ∙ ap (λ (s : List ShardState). length s) more ∙ length-append xs (child ∷ []) in
+    (omega arith, omega arith)
 
 -- the value after an accepted call
 by_none : (o : Option Refusal) (before after zs : List ShardState) → o ≡ None → zs ≡ after → zs ≡ value_by o before after

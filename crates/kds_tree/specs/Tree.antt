@@ -1,16 +1,27 @@
 -- The shards of a stream as a tree keeps them, and what its calls answer.
-use Rattle.std.specs.Prelude.{ℕ, ◌≡◌, Bool, true, false, ◌&&◌, not, is_some, if◌then◌else◌, List, slice_get, Option, Some, None, Result, Ok, Err}
+use Rattle.std.specs.Prelude.{ℕ, ◌≡◌, ◌+◌, ◌<◌, ◌^◌, Bool, true, false, ◌&&◌, not, is_some, if◌then◌else◌, List, slice_get, Option, Some, None, Result, Ok, Err}
+use Rattle.std.specs.List.{AllByRecursion}
 use Rattle.kds_base.specs.Span.{Covers, is_inside, are_adjacent}
 use Rattle.kds_defs.specs.declared.reply.Refusal.{Refusal}
 use Rattle.kds_defs.specs.declared.reply.Refusal.TheVariants as refusal
-use Rattle.kds_defs.specs.Shards.{ShardState, is_open, is_closed_below, range_of}
+use Rattle.kds_defs.specs.Shards.{ShardState, is_open, is_closed_below, range_of, split_shards, merged_shards}
 use Rattle.kds_defs.specs.StreamCommands.{is_open_at}
 use Rattle.kds_defs.specs.Tiled.{AreNumbered, IsTiled}
+
+-- the shards, and for how many more there is memory
+pub record TreeValue : Type 0 where
+  pub shards : List ShardState
+  pub spare : ℕ
+
+-- the range ends within the keys
+abbrev pub IsWithinKeys : ShardState → Type 0
+IsWithinKeys x = x.range.end < 2 ^ 128
 
 -- what holds in every state: the shards are numbered in their order, and the open ranges partition the keys
 pub record IsTree (xs : List ShardState) : Type 0 where
   pub numbered : AreNumbered 0 xs
   pub tiled : IsTiled xs
+  pub within : AllByRecursion IsWithinKeys xs
 
 -- the shard of this number is there and open, and its range contains the key
 pub record IsHome (xs : List ShardState) (key sh : ℕ) : Type 0 where
@@ -51,3 +62,12 @@ answer_by None x = Ok x
 abbrev pub value_by : {A : Type 0} → Option Refusal → A → A → A
 value_by (Some r) before after = before
 value_by None before after = after
+
+-- the shards after a split or a merge that drew this number at a clock, unless it is refused
+abbrev pub after_split : List ShardState → ℕ → ℕ → ℕ → ℕ → List ShardState
+after_split xs sh at number clock =
+    value_by (split_refusal xs sh at) xs (split_shards sh at (record { number = number; clock = clock }) (number + 1) xs)
+
+abbrev pub after_merge : List ShardState → ℕ → ℕ → ℕ → ℕ → List ShardState
+after_merge xs sh other number clock =
+    value_by (merge_refusal xs sh other) xs (merged_shards sh other (record { number = number; clock = clock }) (number + 1) xs)

@@ -1,14 +1,17 @@
 //! The shards of a stream: their making, the home of a key, listings, splits and merges.
-ghost use Rattle.std.specs.Prelude.{◌≡◌, ◌+◌, ◌-◌, ◌^◌, ◌<◌, ◌≤◌, ℕ, min, length, map, take, slice_get, Some, IsSome, IfOk, IfSome, OnOk, OnErr, IsOk};
-ghost use Rattle.std.specs.List.{filter};
+ghost use Rattle.std.specs.Prelude.{◌≡◌, ◌+◌, ◌-◌, ◌^◌, ◌<◌, ◌≤◌, ℕ, min, length, nat_lt, map, take, slice_get, Some, IsSome, IfOk, IfSome, OnOk, OnErr, IsOk};
+ghost use Rattle.std.specs.List.{AllByRecursion, filter, position_or_len};
 ghost use Rattle.std.specs.Option.{option_map};
 ghost use Rattle.kds_base.specs.Span.{joined, lower_part, upper_part};
 ghost use Rattle.kds_defs.specs.Listings.{are_more, is_after_shard};
+ghost use Rattle.kds_defs.specs.Scaling as scaling;
+ghost use Rattle.kds_defs.specs.Scaling.{with_start};
+ghost use Rattle.kds_defs.specs.ScaleCommands.{starts_among};
 ghost use Rattle.kds_defs.specs.Shards.{children_among, home_among, is_open, listed_among, made_shards, merged_shards, range_of, shown, split_shards, with_closed};
 ghost use Rattle.kds_defs.specs.Streams.{floor_of};
 ghost use Rattle.kds_defs.specs.Tiled.{AreNumbered, IsTiled};
 ghost use Rattle.kds_tree.specs.Starts.{AreStarts};
-ghost use Rattle.kds_tree.specs.Tree.{IsHome, answer_by, merge_refusal, split_refusal, value_by, was_expired};
+ghost use Rattle.kds_tree.specs.Tree.{IsHome, IsWithinKeys, after_merge, after_split, answer_by, merge_refusal, split_refusal, was_expired};
 
 use crate::kept::Kept;
 use crate::start::{Start, home_of, put_in_order, take_away};
@@ -18,7 +21,8 @@ use std::alloc::Global;
 use std::marker::Model;
 
 /// The shards of one stream in the order of their numbers, which begin with 0. Contracts see all that is
-/// known of each. At every moment the ranges of the open ones partition the hash keys.
+/// known of each, and for how many shards more there is memory. At every moment the ranges of the open ones
+/// partition the hash keys.
 #[derive(Drop)]
 pub struct ShardTree {
     shards: Vec<Kept>,
@@ -27,14 +31,13 @@ pub struct ShardTree {
 }
 
 impl Model for ShardTree {
-    ghost use Rattle.std.specs.Prelude.{List};
-    ghost use Rattle.kds_defs.specs.Shards.{ShardState};
+    ghost use Rattle.std.specs.Prelude.{min, vec_capacity, vec_len, ◌-◌};
     ghost use Rattle.kds_tree.specs.Starts.{AreStarts};
-    ghost use Rattle.kds_tree.specs.Tree.{IsTree};
+    ghost use Rattle.kds_tree.specs.Tree.{IsTree, TreeValue};
 
-    ghost Value = { List ShardState };
+    ghost Value = { TreeValue };
 
-    ghost view = { λ t. t.shards.items };
+    ghost view = { λ t. record { shards = t.shards.items; spare = min (vec_capacity t.shards - vec_len t.shards) (vec_capacity t.starts - vec_len t.starts) } };
 
     ghost invariant = { λ t. IsTree t.shards.items × AreStarts t.starts.items t.shards.items };
 }
@@ -44,7 +47,7 @@ impl ShardTree {
     pub fn new(alloc: Global, n: u32) -> Result<ShardTree, Memory>
         requires least { 1 ≤ n }
         requires most { n ≤ 500 }
-        ensures { IfOk result (λ tree. tree ≡ made_shards n 1) }
+        ensures { IfOk result (λ tree. tree.shards ≡ made_shards n 1) }
     {
         let ranges = Range::uniform(alloc, n)?;
         let mut shards = Vec::new(alloc);
@@ -57,23 +60,25 @@ impl ShardTree {
 
     /// How many shards were made, the closed ones included.
     pub fn len(&self) -> u64
-        ensures value { result ≡ length self.now }
-        ensures numbered { AreNumbered 0 self.now }
-        ensures tiled { IsTiled self.now }
+        ensures value { result ≡ length self.now.shards }
+        ensures numbered { AreNumbered 0 self.now.shards }
+        ensures tiled { IsTiled self.now.shards }
+        ensures within { AllByRecursion IsWithinKeys self.now.shards }
+        ensures small { result < 2 ^ 63 }
     {
         self.shards.len() as u64
     }
 
     /// How many shards are open, and the greatest number of a `u32` where they are more.
     pub fn open_count(&self) -> u32
-        ensures { result ≡ min (length (filter is_open self.now)) (2 ^ 32 - 1) }
+        ensures { result ≡ min (length (filter is_open self.now.shards)) (2 ^ 32 - 1) }
     {
         self.starts.len().min(u32::MAX as usize) as u32
     }
 
     /// The shard of this number. `None` exactly where it was never made.
     pub fn shard(&self, no: ShardNo) -> Option<&Shard>
-        ensures value { option_map (λ s. s.now) result ≡ option_map shown (slice_get self.now no) }
+        ensures value { option_map (λ s. s.now) result ≡ option_map shown (slice_get self.now.shards no) }
         ensures numbered { IfSome result (λ s. s.now.no ≡ no) }
     {
         shown_at(&self.shards, no)
@@ -81,16 +86,16 @@ impl ShardTree {
 
     /// The open shard whose range contains the key.
     pub fn home(&self, hash: u128) -> ShardNo
-        ensures value { result ≡ home_among (filter is_open self.now) hash }
-        ensures found { IsHome self.now hash result }
-        ensures only { (sh : ℕ) → IsHome self.now hash sh → sh ≡ result }
+        ensures value { result ≡ home_among (filter is_open self.now.shards) hash }
+        ensures found { IsHome self.now.shards hash result }
+        ensures only { (sh : ℕ) → IsHome self.now.shards hash sh → sh ≡ result }
     {
         home_of(&self.starts, hash)
     }
 
     /// Whether the shard was closed at or before the cut.
     pub fn expired(&self, no: ShardNo, cut: Option<Moment>) -> bool
-        ensures { result ≡ was_expired (floor_of cut) (slice_get self.now no) }
+        ensures { result ≡ was_expired (floor_of cut) (slice_get self.now.shards no) }
     {
         match self.shards.get(no.0 as usize) {
             Some(kept) => kept.is_expired(&cut),
@@ -106,8 +111,8 @@ impl ShardTree {
         after: Option<ShardNo>,
         limit: u32,
     ) -> Result<(Items<Shard>, bool), Memory>
-        ensures shards { let xs = map shown (filter (is_after_shard after) (listed_among (floor_of cut) self.now)) in IfOk result (λ r. r.0 ≡ take limit xs) }
-        ensures more { let xs = map shown (filter (is_after_shard after) (listed_among (floor_of cut) self.now)) in IfOk result (λ r. r.1 ≡ are_more limit xs) }
+        ensures shards { let xs = map shown (filter (is_after_shard after) (listed_among (floor_of cut) self.now.shards)) in IfOk result (λ r. r.0 ≡ take limit xs) }
+        ensures more { let xs = map shown (filter (is_after_shard after) (listed_among (floor_of cut) self.now.shards)) in IfOk result (λ r. r.1 ≡ are_more limit xs) }
     {
         let mut listed = Items::new(*self.shards.allocator());
         for kept in &self.shards {
@@ -123,7 +128,7 @@ impl ShardTree {
 
     /// The children of a shard in order: it is their parent or their adjacent parent.
     pub fn children(&self, no: ShardNo) -> Result<Items<Shard>, Memory>
-        ensures { IfOk result (λ shards. shards ≡ map shown (children_among no self.now)) }
+        ensures { IfOk result (λ shards. shards ≡ map shown (children_among no self.now.shards)) }
     {
         let mut children = Items::new(*self.shards.allocator());
         for kept in &self.shards {
@@ -134,9 +139,36 @@ impl ShardTree {
         Ok(children)
     }
 
+    /// Where the ranges of the open shards start, in rising order: the starts of a partition of the hash keys.
+    pub fn starts(&self) -> Result<Items<u128>, Memory>
+        ensures value { IfOk result (λ starts. starts ≡ starts_among (filter is_open self.now.shards)) }
+        ensures partition { scaling.AreStarts (starts_among (filter is_open self.now.shards)) }
+    {
+        let mut starts = Vec::new(*self.shards.allocator());
+        let count = self.shards.len();
+        for i in 0..count {
+            let kept = &self.shards[count - 1 - i];
+            if kept.is_open() {
+                insert_start(&mut starts, kept.range().start)?;
+            }
+        }
+        Ok(Items::from_vec(starts))
+    }
+
+    /// Takes memory for so many shards more. The shards are as before, whatever the answer.
+    pub fn reserve(&mut self, shards: u32) -> Result<(), Memory>
+        ensures same { self.new.shards ≡ self.old.shards }
+        ensures spare { OnOk result (shards ≤ self.new.spare) }
+        ensures no_less { self.old.spare ≤ self.new.spare }
+    {
+        self.shards.reserve(shards as usize)?;
+        self.starts.reserve(shards as usize)?;
+        Ok(())
+    }
+
     /// The two ranges of a split, or why it is refused.
     fn split_ranges(&self, shard: ShardNo, at: u128) -> Result<(Range, Range), Refusal>
-        ensures { result ≡ answer_by (split_refusal self.now shard at) (lower_part (range_of (slice_get self.now shard)) at, upper_part (range_of (slice_get self.now shard)) at) }
+        ensures { result ≡ answer_by (split_refusal self.now.shards shard at) (lower_part (range_of (slice_get self.now.shards shard)) at, upper_part (range_of (slice_get self.now.shards shard)) at) }
     {
         match self.shards.get(shard.0 as usize) {
             None => Err(Refusal::NoShard),
@@ -148,14 +180,14 @@ impl ShardTree {
     /// Why a split of the shard at the key is refused, if it is: `NoShard` where it was never made,
     /// `ShardClosed` where it is closed, `BadSplit` where a part would be empty.
     pub fn split_refusal(&self, shard: ShardNo, at: u128) -> Option<Refusal>
-        ensures { result ≡ split_refusal self.now shard at }
+        ensures { result ≡ split_refusal self.now.shards shard at }
     {
         self.split_ranges(shard, at).err()
     }
 
     /// Splits a shard at a key, by a line that drew the number `seq` at `clock`: the shard is closed, and
-    /// its children come last, the lower one first. Refused as `split_refusal` says
-    /// (Kinesis API Reference, SplitShard).
+    /// its children come last, the lower one first. Refused as `split_refusal` says. With memory reserved for
+    /// two shards it doesn't answer `Memory` (Kinesis API Reference, SplitShard).
     pub fn split(
         &mut self,
         shard: ShardNo,
@@ -164,10 +196,12 @@ impl ShardTree {
         clock: Moment,
     ) -> Result<Result<(ShardNo, ShardNo), Refusal>, Memory>
         requires { seq + 1 < 2 ^ 64 }
-        ensures answer { IfOk result (λ a. a ≡ answer_by (split_refusal self.old shard at) (length self.old, length self.old + 1)) }
-        ensures value { OnOk result (self.new ≡ value_by (split_refusal self.old shard at) self.old (split_shards shard at (record { number = seq; clock = clock }) (seq + 1) self.old)) }
-        ensures refused { IsSome (split_refusal self.old shard at) → IsOk result }
-        ensures memory { OnErr result (self.new ≡ self.old) }
+        ensures answer { IfOk result (λ a. a ≡ answer_by (split_refusal self.old.shards shard at) (length self.old.shards, length self.old.shards + 1)) }
+        ensures value { OnOk result (self.new.shards ≡ after_split self.old.shards shard at seq clock) }
+        ensures refused { IsSome (split_refusal self.old.shards shard at) → IsOk result }
+        ensures memory { OnErr result (self.new.shards ≡ self.old.shards) }
+        ensures reserved { 2 ≤ self.old.spare → IsOk result }
+        ensures spare { self.old.spare ≤ self.new.spare + 2 }
     {
         let (lower, upper) = match self.split_ranges(shard, at) {
             Ok(ranges) => ranges,
@@ -190,7 +224,7 @@ impl ShardTree {
 
     /// The range of a merge, or why it is refused.
     fn merged_range(&self, shard: ShardNo, other: ShardNo) -> Result<Range, Refusal>
-        ensures { result ≡ answer_by (merge_refusal self.now shard other) (joined (range_of (slice_get self.now shard)) (range_of (slice_get self.now other))) }
+        ensures { result ≡ answer_by (merge_refusal self.now.shards shard other) (joined (range_of (slice_get self.now.shards shard)) (range_of (slice_get self.now.shards other))) }
     {
         match (
             self.shards.get(shard.0 as usize),
@@ -212,14 +246,15 @@ impl ShardTree {
     /// Why a merge of the shard with the other is refused, if it is: `NoShard` where one was never made,
     /// `ShardClosed` where one is closed, `NotAdjacent` where neither range starts right after the other.
     pub fn merge_refusal(&self, shard: ShardNo, other: ShardNo) -> Option<Refusal>
-        ensures { result ≡ merge_refusal self.now shard other }
+        ensures { result ≡ merge_refusal self.now.shards shard other }
     {
         self.merged_range(shard, other).err()
     }
 
     /// Merges a shard with the one beside it, by a line that drew the number `seq` at `clock`: both are
     /// closed, and their child comes last, with the shard as its parent and the other as its adjacent
-    /// parent. Refused as `merge_refusal` says (Kinesis API Reference, MergeShards).
+    /// parent. Refused as `merge_refusal` says. With memory reserved for a shard it doesn't answer `Memory`
+    /// (Kinesis API Reference, MergeShards).
     pub fn merge(
         &mut self,
         shard: ShardNo,
@@ -228,10 +263,12 @@ impl ShardTree {
         clock: Moment,
     ) -> Result<Result<ShardNo, Refusal>, Memory>
         requires { seq + 1 < 2 ^ 64 }
-        ensures answer { IfOk result (λ a. a ≡ answer_by (merge_refusal self.old shard other) (length self.old)) }
-        ensures value { OnOk result (self.new ≡ value_by (merge_refusal self.old shard other) self.old (merged_shards shard other (record { number = seq; clock = clock }) (seq + 1) self.old)) }
-        ensures refused { IsSome (merge_refusal self.old shard other) → IsOk result }
-        ensures memory { OnErr result (self.new ≡ self.old) }
+        ensures answer { IfOk result (λ a. a ≡ answer_by (merge_refusal self.old.shards shard other) (length self.old.shards)) }
+        ensures value { OnOk result (self.new.shards ≡ after_merge self.old.shards shard other seq clock) }
+        ensures refused { IsSome (merge_refusal self.old.shards shard other) → IsOk result }
+        ensures memory { OnErr result (self.new.shards ≡ self.old.shards) }
+        ensures reserved { 1 ≤ self.old.spare → IsOk result }
+        ensures spare { self.old.spare ≤ self.new.spare + 1 }
     {
         let range = match self.merged_range(shard, other) {
             Ok(range) => range,
@@ -263,6 +300,30 @@ fn open_starts(alloc: Global, shards: &[Kept]) -> Result<Vec<Start>, Memory>
     }
     put_in_order(&mut starts);
     Ok(starts)
+}
+
+/// Puts a start before the first that is above it.
+fn insert_start(starts: &mut Vec<u128>, start: u128) -> Result<(), Memory>
+    ensures { OnOk result (starts.new.items ≡ with_start start starts.old.items) }
+{
+    let place = place_above(starts, start);
+    match starts.insert(place, start) {
+        Ok(()) => Ok(()),
+        Err(_) => Err(Memory),
+    }
+}
+
+/// The place of the first of the starts that is above a key, and their count where there is none.
+fn place_above(starts: &[u128], key: u128) -> usize
+    ensures value { result ≡ position_or_len (λ start. nat_lt key start) starts.now }
+    ensures within { result ≤ length starts.now }
+{
+    for (i, start) in starts.iter().enumerate() {
+        if key < *start {
+            return i;
+        }
+    }
+    starts.len()
 }
 
 /// The shard of this number as it is shown.

@@ -1,33 +1,56 @@
-use Rattle.std.proofs.Common.{◌≡◌, ◌+◌, ◌++◌, ◌∷◌, [], List, subst, ◌∙◌, ap}
+use Rattle.std.proofs.Common.{◌≡◌, ◌+◌, ◌++◌, ◌∷◌, [], List, length, refl, rules, subst, ◌∙◌, ap}
 use Rattle.std.specs.List.{filter}
+use Rattle.std.specs.Vec.{vec_len}
 use Rattle.kds_defs.specs.Shards.{ShardState, Closing}
 use Rattle.kds_tree.specs.Starts.{AreStarts, own_start, stays}
-use Rattle.kds_tree.specs.Tree.{IsTree}
+use Rattle.kds_tree.specs.Tree.{IsTree, TreeValue}
 use Rattle.kds_tree.proofs.OpenStarts.{one_more}
-use Rattle.kds_tree.proofs.Reshards.{merges, merge_value}
+use Rattle.kds_tree.proofs.Reshards.{both_within, merges, merge_value, refused_answer, refused_value}
 use Rattle.kds_tree.proofs.tree.ShardTree.merge.Goals as goal
 
 pub invariant_of-self-2 : goal.invariant_of-self-2
 invariant_of-self-2 c =
-    let xs = c.args.self.now in
+    let xs = c.args.self.now.shards in
     let how : Closing = record { number = c.args.seq; clock = c.args.clock } in
     let born = c.new-born.result in
-    let pushed : c.push.new.self.items ≡ xs ++ born ∷ [] = c.in_ok-push.ensures.items ∙ ap (λ (ss : List ShardState). ss ++ born ∷ []) c.self.view_is in
+    let pushed : c.push.new.self.items ≡ xs ++ born ∷ [] = c.in_ok-push.ensures.items ∙ ap (λ (ss : List ShardState). ss ++ born ∷ []) (ap (λ (t : TreeValue). t.shards) c.self.view_is) in
     let s = merges xs c.push.new.self.items c.args.shard c.args.other c.shard.inside.0 c.other.inside.0 c.args.seq c.len.result c.seq.inside.0 how c.in-Ok.range born c.index_mut.result.now c.close.new.self c.index_mut-2.result.now c.close-2.new.self
     c.in-Ok.ensures c.shard.view_is c.other.view_is c.len.ensures.value c.seq.view_is c.new-born.ensures pushed c.index_mut.ensures.value c.close.ensures c.index_mut-2.ensures.value c.close-2.ensures in
     let ss = c.self.inside.starts.items in
-    let starts : AreStarts ss xs = subst (AreStarts ss) c.self.view_is c.self.invariant.1 in
+    let starts : AreStarts ss xs = subst (AreStarts ss) (ap (λ (t : TreeValue). t.shards) c.self.view_is) c.self.invariant.1 in
     let away = one_more (filter (stays c.args.shard c.args.other) ss) c.take_away.new.starts.items c.push_reserved.new.self.items c.start.result (own_start born)
     (c.take_away.ensures.left ∙ ap (filter (stays c.args.shard c.args.other)) c.reserve.ensures.items) c.push_reserved.ensures.items c.start.ensures in
-    let tree = subst IsTree c.self.view_is c.self.invariant.0 in
+    let tree = subst IsTree (ap (λ (t : TreeValue). t.shards) c.self.view_is) c.self.invariant.0 in
     (s.tree tree, s.starts tree ss c.push_reserved.new.self.items c.put_in_order.new.starts.items starts away c.put_in_order.ensures.same c.put_in_order.ensures.order)
 
 pub returns-clause-value : goal.returns-clause-value
 returns-clause-value c =
-    let xs = c.args.self.now in
+    let xs = c.args.self.now.shards in
     let how : Closing = record { number = c.args.seq; clock = c.args.clock } in
     let born = c.new-born.result in
-    let pushed : c.push.new.self.items ≡ xs ++ born ∷ [] = c.in_ok-push.ensures.items ∙ ap (λ (ss : List ShardState). ss ++ born ∷ []) c.self.view_is in
+    let pushed : c.push.new.self.items ≡ xs ++ born ∷ [] = c.in_ok-push.ensures.items ∙ ap (λ (ss : List ShardState). ss ++ born ∷ []) (ap (λ (t : TreeValue). t.shards) c.self.view_is) in
     merge_value xs c.args.shard c.args.other (c.args.seq + 1) how born _ (
     merges xs c.push.new.self.items c.args.shard c.args.other c.shard.inside.0 c.other.inside.0 c.args.seq c.len.result c.seq.inside.0 how c.in-Ok.range born c.index_mut.result.now c.close.new.self c.index_mut-2.result.now c.close-2.new.self
     c.in-Ok.ensures c.shard.view_is c.other.view_is c.len.ensures.value c.seq.view_is c.new-born.ensures pushed c.index_mut.ensures.value c.close.ensures c.index_mut-2.ensures.value c.close-2.ensures)
+
+pub returns-in-Err-clause-answer : goal.returns-in-Err-clause-answer
+returns-in-Err-clause-answer c = refused_answer _ c.in-Err.refusal _ _ c.in-Err.ensures
+
+pub returns-in-Err-clause-value : goal.returns-in-Err-clause-value
+returns-in-Err-clause-value c = refused_value _ c.in-Err.refusal _ c.args.self.now.shards _ c.in-Err.ensures
+
+pub index_mut-requires : goal.index_mut-requires
+index_mut-requires c =
+    let xs = c.args.self.now.shards in
+    let born = c.new-born.result in
+    let pushed : c.push.new.self.items ≡ xs ++ born ∷ [] = c.in_ok-push.ensures.items ∙ ap (λ (ss : List ShardState). ss ++ born ∷ []) (ap (λ (t : TreeValue). t.shards) c.self.view_is) in
+    let long : vec_len c.push.new.self ≡ length c.push.new.self.items = search rules in
+    (both_within xs c.push.new.self.items c.args.shard c.args.other c.shard.inside.0 c.args.other _ c.in-Ok.range _ born c.in-Ok.ensures c.shard.view_is refl long pushed).0
+
+pub index_mut-requires-2 : goal.index_mut-requires-2
+index_mut-requires-2 c =
+    let xs = c.args.self.now.shards in
+    let born = c.new-born.result in
+    let pushed : c.push.new.self.items ≡ xs ++ born ∷ [] = c.in_ok-push.ensures.items ∙ ap (λ (ss : List ShardState). ss ++ born ∷ []) (ap (λ (t : TreeValue). t.shards) c.self.view_is) in
+    let long : vec_len c.push.new.self ≡ length c.push.new.self.items = search rules in
+    (both_within xs c.push.new.self.items c.args.shard c.args.other c.args.shard c.other.inside.0 _ c.in-Ok.range _ born c.in-Ok.ensures refl c.other.view_is long pushed).1

@@ -2,50 +2,53 @@ use Rattle.std.proofs.Common.{◌≡◌, ◌+◌, ◌++◌, ◌∷◌, [], ◌<�
 use Rattle.std.specs.List.{filter}
 use Rattle.kds_defs.specs.Shards.{ShardState, Closing}
 use Rattle.kds_tree.specs.Starts.{AreStarts, own_start, stays}
-use Rattle.kds_tree.specs.Tree.{IsTree}
+use Rattle.kds_tree.specs.Tree.{IsTree, TreeValue}
 use Rattle.kds_tree.proofs.OpenStarts.{two_more}
-use Rattle.kds_tree.proofs.Reshards.{refused_value, split_within, splits, split_value}
+use Rattle.kds_tree.proofs.Reshards.{refused_answer, refused_value, split_within, splits, split_value}
 use Rattle.kds_tree.proofs.tree.ShardTree.split.Goals as goal
 
 pub invariant_of-self-2 : goal.invariant_of-self-2
 invariant_of-self-2 c =
-    let xs = c.args.self.now in
+    let xs = c.args.self.now.shards in
     let how : Closing = record { number = c.args.seq; clock = c.args.clock } in
     let low = c.new-lower_child.result in
     let high = c.new-upper_child.result in
     let pushed : c.extend_from_slice.new.self.items ≡ xs ++ (low ∷ high ∷ []) =
-    c.in_ok-extend_from_slice.ensures.items ∙ ap (λ (ss : List ShardState). ss ++ (low ∷ high ∷ [])) c.self.view_is in
+    c.in_ok-extend_from_slice.ensures.items ∙ ap (λ (ss : List ShardState). ss ++ (low ∷ high ∷ [])) (ap (λ (t : TreeValue). t.shards) c.self.view_is) in
     let s = splits xs c.extend_from_slice.new.self.items c.args.shard c.shard.inside.0 c.args.at c.args.seq c.len.result c.len-2.result c.seq.inside.0 how c.in-Ok.ranges low high c.index_mut.result.now c.close.new.self
     c.in-Ok.ensures c.shard.view_is c.len.ensures.value c.len-2.ensures.value c.seq.view_is c.new-lower_child.ensures c.new-upper_child.ensures pushed c.index_mut.ensures.value c.close.ensures in
     let ss = c.self.inside.starts.items in
-    let starts : AreStarts ss xs = subst (AreStarts ss) c.self.view_is c.self.invariant.1 in
+    let starts : AreStarts ss xs = subst (AreStarts ss) (ap (λ (t : TreeValue). t.shards) c.self.view_is) c.self.invariant.1 in
     let away = two_more (filter (stays c.args.shard c.args.shard) ss) c.take_away.new.starts.items c.push_reserved.new.self.items c.push_reserved-2.new.self.items c.start.result c.start-2.result (own_start low) (own_start high)
     (c.take_away.ensures.left ∙ ap (filter (stays c.args.shard c.args.shard)) c.reserve.ensures.items) c.push_reserved.ensures.items c.push_reserved-2.ensures.items c.start.ensures c.start-2.ensures in
-    let tree = subst IsTree c.self.view_is c.self.invariant.0 in
+    let tree = subst IsTree (ap (λ (t : TreeValue). t.shards) c.self.view_is) c.self.invariant.0 in
     (s.tree tree, s.starts tree ss c.push_reserved-2.new.self.items c.put_in_order.new.starts.items starts away c.put_in_order.ensures.same c.put_in_order.ensures.order)
 
 pub returns-clause-value : goal.returns-clause-value
 returns-clause-value c =
-    let xs = c.args.self.now in
+    let xs = c.args.self.now.shards in
     let how : Closing = record { number = c.args.seq; clock = c.args.clock } in
     let low = c.new-lower_child.result in
     let high = c.new-upper_child.result in
     let pushed : c.extend_from_slice.new.self.items ≡ xs ++ (low ∷ high ∷ []) =
-    c.in_ok-extend_from_slice.ensures.items ∙ ap (λ (ss : List ShardState). ss ++ (low ∷ high ∷ [])) c.self.view_is in
+    c.in_ok-extend_from_slice.ensures.items ∙ ap (λ (ss : List ShardState). ss ++ (low ∷ high ∷ [])) (ap (λ (t : TreeValue). t.shards) c.self.view_is) in
     split_value xs c.args.shard c.args.at (c.args.seq + 1) how low high _ (
     splits xs c.extend_from_slice.new.self.items c.args.shard c.shard.inside.0 c.args.at c.args.seq c.len.result c.len-2.result c.seq.inside.0 how c.in-Ok.ranges low high c.index_mut.result.now c.close.new.self
     c.in-Ok.ensures c.shard.view_is c.len.ensures.value c.len-2.ensures.value c.seq.view_is c.new-lower_child.ensures c.new-upper_child.ensures pushed c.index_mut.ensures.value c.close.ensures)
 
+pub returns-in-Err-clause-answer : goal.returns-in-Err-clause-answer
+returns-in-Err-clause-answer c = refused_answer _ c.in-Err.refusal _ _ c.in-Err.ensures
+
 pub returns-in-Err-clause-value : goal.returns-in-Err-clause-value
-returns-in-Err-clause-value c = refused_value _ c.in-Err.refusal _ c.args.self.now _ c.in-Err.ensures
+returns-in-Err-clause-value c = refused_value _ c.in-Err.refusal _ c.args.self.now.shards _ c.in-Err.ensures
 
 pub index_mut-requires : goal.index_mut-requires
 index_mut-requires c =
-    let xs = c.args.self.now in
+    let xs = c.args.self.now.shards in
     let low = c.new-lower_child.result in
     let high = c.new-upper_child.result in
     let pushed : c.extend_from_slice.new.self.items ≡ xs ++ (low ∷ high ∷ []) =
-    c.in_ok-extend_from_slice.ensures.items ∙ ap (λ (ss : List ShardState). ss ++ (low ∷ high ∷ [])) c.self.view_is in
+    c.in_ok-extend_from_slice.ensures.items ∙ ap (λ (ss : List ShardState). ss ++ (low ∷ high ∷ [])) (ap (λ (t : TreeValue). t.shards) c.self.view_is) in
     let within : c.shard.inside.0 < length c.extend_from_slice.new.self.items =
     split_within xs c.extend_from_slice.new.self.items c.args.shard c.shard.inside.0 c.args.at c.in-Ok.ranges low high c.in-Ok.ensures c.shard.view_is pushed in
     search (rules, within)

@@ -1,0 +1,174 @@
+-- The starts of the open shards in rising order: they are those of a partition.
+use Rattle.std.proofs.Common.{◌≡◌, ℕ, zero, suc, ◌+◌, ◌^◌, ◌<◌, ◌≤◌, Bool, true, false, List, [], ◌∷◌, refl, sym, ap, subst, ◌∙◌, arith}
+use Rattle.std.specs.Prelude.{cond, ◌==◌, ◌&&◌, ◌||◌, nat_lt}
+use Rattle.std.specs.List.{AllByRecursion, filter}
+use Rattle.std.proofs.lemmas.Bool.Decides.{nat_tests}
+use Rattle.kds_base.specs.Span.{Span}
+use Rattle.kds_defs.specs.Scaling.{AreStarts, RiseFrom, is_start, with_start}
+use Rattle.kds_defs.specs.ScaleCommands.{starts_among}
+use Rattle.kds_defs.specs.Shards.{ShardState, is_open}
+use Rattle.kds_defs.specs.Tiled.{one, count_if, open_times, IsOrdered}
+use Rattle.kds_tree.specs.Tree.{IsTree, IsWithinKeys}
+
+-- ---- keys
+
+pub same_key : (a b : ℕ) → (a == b) ≡ true → a ≡ b
+same_key a b h = grind (arith, nat_tests)
+
+pub key_itself : (a : ℕ) → (a == a) ≡ true
+key_itself a = grind (arith, nat_tests)
+
+pub is_key : (a b : ℕ) → a ≡ b → (a == b) ≡ true
+is_key a b h = grind (arith, nat_tests)
+
+pub apart_keys : (a b : ℕ) → (a ≡ b → ⊥) → (a == b) ≡ false
+apart_keys a b h = grind (arith, nat_tests)
+
+pub not_true : (b : Bool) → (b ≡ true → ⊥) → b ≡ false
+not_true true h = absurd (h refl)
+not_true false h = refl
+
+or_swap : (a b c : Bool) → (a || (b || c)) ≡ (b || (a || c))
+or_swap true true c = refl
+or_swap true false c = refl
+or_swap false true c = refl
+or_swap false false c = refl
+
+or_left : (a b : Bool) → a ≡ true → (a || b) ≡ true
+or_left true b h = refl
+or_left false b h = absurd cc
+
+or_right : (a b : Bool) → b ≡ true → (a || b) ≡ true
+or_right true b h = refl
+or_right false b h = h
+
+neither_left : (a b : Bool) → (a || b) ≡ false → a ≡ false
+neither_left true b h = h
+neither_left false b h = refl
+
+neither_right : (a b : Bool) → (a || b) ≡ false → b ≡ false
+neither_right true b h = absurd cc
+neither_right false b h = h
+
+-- ---- members of a list with one start more
+
+in_place : (lt : Bool) (b x k : ℕ) (xs : List ℕ) → is_start (with_start b xs) k ≡ ((b == k) || is_start xs k)
+    → is_start (cond lt (b ∷ x ∷ xs) (x ∷ with_start b xs)) k ≡ ((b == k) || is_start (x ∷ xs) k)
+in_place true b x k xs m = refl
+in_place false b x k xs m = ap (λ (r : Bool). (x == k) || r) m ∙ or_swap (x == k) (b == k) (is_start xs k)
+
+pub in_with_start : (b : ℕ) (xs : List ℕ) (k : ℕ) → is_start (with_start b xs) k ≡ ((b == k) || is_start xs k)
+in_with_start b [] k = refl
+in_with_start b (x ∷ xs) k = in_place (nat_lt b x) b x k xs (in_with_start b xs k)
+
+-- ---- rising lists
+
+pub lower : (n m : ℕ) (xs : List ℕ) → n ≤ m → RiseFrom m xs → RiseFrom n xs
+lower n m [] h r = tt
+lower n m (x ∷ xs) h r = let a : m ≤ x = r.0 in let b : n ≤ x = omega arith in (b, r.1)
+
+rise_placed : (lt same : Bool) (b n x : ℕ) (xs : List ℕ) → nat_lt b x ≡ lt → (x == b) ≡ same → same ≡ false → n ≤ b → n ≤ x → RiseFrom (x + 1) xs
+    → (x + 1 ≤ b → RiseFrom (x + 1) (with_start b xs)) → RiseFrom n (cond lt (b ∷ x ∷ xs) (x ∷ with_start b xs))
+rise_placed true same b n x xs l s f h k r ih = let a : b + 1 ≤ x = grind (arith, nat_tests) in (h, (a, r))
+rise_placed false true b n x xs l s f h k r ih = absurd (cc)
+rise_placed false false b n x xs l s f h k r ih = let a : x + 1 ≤ b = grind (arith, nat_tests) in (k, ih a)
+
+pub rise_with : (b n : ℕ) (xs : List ℕ) → n ≤ b → RiseFrom n xs → is_start xs b ≡ false → RiseFrom n (with_start b xs)
+rise_with b n [] h r f = (h, tt)
+rise_with b n (x ∷ xs) h r f =
+    rise_placed (nat_lt b x) (x == b) b n x xs refl refl (neither_left (x == b) (is_start xs b) f) h r.0 r.1
+    (λ a. rise_with b (x + 1) xs a r.1 (neither_right (x == b) (is_start xs b) f))
+
+-- a key below all of them is none of them
+none_below : (n : ℕ) (xs : List ℕ) (k : ℕ) → RiseFrom n xs → k < n → is_start xs k ≡ false
+none_below n [] k r h = refl
+none_below n (x ∷ xs) k r h =
+    let a : n ≤ x = r.0 in
+    let e : (x == k) ≡ false = apart_keys x k (λ (z : x ≡ k). omega arith) in
+    let b : k < x + 1 = omega arith in
+    rw e (none_below (x + 1) xs k r.1 b)
+
+-- ---- the starts of open shards
+
+-- an open shard starts at the key
+abbrev pub begins_at : List ShardState → ℕ → Bool
+begins_at xs k = is_start (starts_among (filter is_open xs)) k
+
+-- one shard more, where it is open
+begins_with : (b : Bool) (x : ShardState) (xs : List ShardState) (k : ℕ) → is_start (starts_among (cond b (x ∷ filter is_open xs) (filter is_open xs))) k ≡ ((b && (x.range.start == k)) || begins_at xs k)
+begins_with true x xs k = in_with_start x.range.start (starts_among (filter is_open xs)) k
+begins_with false x xs k = refl
+
+pub begins_more : (x : ShardState) (xs : List ShardState) (k : ℕ) → begins_at (x ∷ xs) k ≡ ((is_open x && (x.range.start == k)) || begins_at xs k)
+begins_more x xs k = begins_with (is_open x) x xs k
+
+-- ---- they rise, since no two open shards contain one key
+
+pub one_here : (r : Span) → r.start ≤ r.end → one r r.start ≡ 1
+one_here r h = grind (arith, nat_tests)
+
+-- a key at which an open shard starts is contained
+counted_by : (b c : Bool) (x : ShardState) (k n : ℕ) → is_open x ≡ b → (x.range.start == k) ≡ c → x.range.start ≤ x.range.end → (b && c) ≡ true → 1 ≤ count_if b (one x.range k) + n
+counted_by true true x k n isb isc o h = let e : x.range.start ≡ k = same_key x.range.start k isc in let w : one x.range k ≡ 1 = ap (one x.range) (sym e) ∙ one_here x.range o in omega (arith, w)
+counted_by true false x k n isb isc o h = absurd cc
+counted_by false c x k n isb isc o h = absurd cc
+
+either : (a b : Bool) (P : Type 0) → (a || b) ≡ true → (a ≡ true → P) → (b ≡ true → P) → P
+either true b P h f g = f refl
+either false b P h f g = g h
+
+pub begins_counted : (xs : List ShardState) (k : ℕ) → AllByRecursion IsOrdered xs → begins_at xs k ≡ true → 1 ≤ open_times xs k
+begins_counted [] k o h = absurd cc
+begins_counted (x ∷ xs) k o h =
+    either (is_open x && (x.range.start == k)) (begins_at xs k) (1 ≤ open_times (x ∷ xs) k) (sym (begins_more x xs k) ∙ h)
+    (λ here. counted_by (is_open x) (x.range.start == k) x k (open_times xs k) refl refl o.0 here)
+    (λ there. let r : 1 ≤ open_times xs k = begins_counted xs k o.1 there in omega (arith, r))
+
+rise_open : (b : Bool) (x : ShardState) (xs : List ShardState) → (b ≡ true → begins_at xs x.range.start ≡ false) → RiseFrom 0 (starts_among (filter is_open xs)) → RiseFrom 0 (starts_among (cond b (x ∷ filter is_open xs) (filter is_open xs)))
+rise_open true x xs f r = rise_with x.range.start 0 (starts_among (filter is_open xs)) (omega arith) r (f refl)
+rise_open false x xs f r = r
+
+twice : (b : Bool) (x : ShardState) (n : ℕ) → b ≡ true → x.range.start ≤ x.range.end → count_if b (one x.range x.range.start) + n ≤ 1 → 1 ≤ n → ⊥
+twice true x n h o few some = omega (arith, one_here x.range o, few, some)
+twice false x n h o few some = absurd cc
+
+pub open_rise : (xs : List ShardState) → ((k : ℕ) → k < 2 ^ 128 → open_times xs k ≤ 1) → AllByRecursion IsOrdered xs → AllByRecursion IsWithinKeys xs → RiseFrom 0 (starts_among (filter is_open xs))
+open_rise [] once o w = tt
+open_rise (x ∷ xs) once o w =
+    let low : x.range.start < 2 ^ 128 = omega (arith, o.0, w.0) in
+    rise_open (is_open x) x xs
+    (λ open_now. not_true (begins_at xs x.range.start) (λ h. twice (is_open x) x (open_times xs x.range.start) open_now o.0 (once x.range.start low) (begins_counted xs x.range.start o.1 h)))
+    (open_rise xs (λ k below. let n : open_times (x ∷ xs) k ≤ 1 = once k below in omega (arith, n)) o.1 w.1)
+
+pub tree_rises : (xs : List ShardState) → IsTree xs → RiseFrom 0 (starts_among (filter is_open xs))
+tree_rises xs tree = open_rise xs (λ k below. omega (arith, tree.tiled.times k below)) tree.tiled.ordered tree.within
+
+-- ---- the first is 0
+
+zero_by : (b : Bool) (x : ShardState) (xs : List ShardState) (n : ℕ) → is_open x ≡ b → 1 ≤ count_if b (one x.range 0) + n → (1 ≤ n → begins_at xs 0 ≡ true) → ((b && (x.range.start == 0)) || begins_at xs 0) ≡ true
+zero_by false x xs n isb h rest = rest (omega (arith, h))
+zero_by true x xs n isb h rest = by (x.range.start == 0) refl
+  where
+    later : (r : Span) → (r.start == 0) ≡ false → one r 0 ≡ 0
+    later r e = grind (arith, nat_tests)
+
+    by : (c : Bool) → (x.range.start == 0) ≡ c → (c || begins_at xs 0) ≡ true
+    by true e = refl
+    by false e = rest (omega (arith, h, later x.range e))
+
+begins_zero : (xs : List ShardState) → 1 ≤ open_times xs 0 → begins_at xs 0 ≡ true
+begins_zero [] h = absurd (omega arith)
+begins_zero (x ∷ xs) h = begins_more x xs 0 ∙ zero_by (is_open x) x xs (open_times xs 0) refl h (begins_zero xs)
+
+from_zero : (ss : List ℕ) → RiseFrom 0 ss → is_start ss 0 ≡ true → AreStarts ss
+from_zero [] r h = absurd cc
+from_zero (b ∷ starts) r h = by b r refl
+  where
+    by : (n : ℕ) → RiseFrom 0 (b ∷ starts) → b ≡ n → AreStarts (b ∷ starts)
+    by zero r e = (e, subst (λ (m : ℕ). RiseFrom (m + 1) starts) e r.1)
+    by (suc n) r e =
+        let g : true ≡ false = sym h ∙ none_below 1 (b ∷ starts) 0 (omega arith, r.1) (omega arith) in
+        absurd cc
+
+pub tree_starts : (xs : List ShardState) → IsTree xs → AreStarts (starts_among (filter is_open xs))
+tree_starts xs tree = from_zero (starts_among (filter is_open xs)) (tree_rises xs tree) (begins_zero xs (omega (arith, tree.tiled.times 0 (omega arith))))
