@@ -1,12 +1,13 @@
 -- What a later clock, and the trim of the logs, leave a stream to show.
-use Rattle.std.proofs.Common.{◌≡◌, ℕ, zero, suc, ◌+◌, ◌≤◌, Bool, true, false, List, [], ◌∷◌, Option, refl, sym, ap, ◌∙◌, arith}
+use Rattle.std.proofs.Common.{◌≡◌, ℕ, zero, suc, ◌+◌, ◌≤◌, Bool, true, false, List, [], ◌∷◌, length, Option, refl, sym, ap, ◌∙◌, arith}
 use Rattle.std.specs.Prelude.{cond, not, nat_le, nat_lt, ◌&&◌}
 use Rattle.std.proofs.lemmas.Bool.Decides.{nat_tests}
 use Rattle.kds_defs.specs.Journal.{Journal}
 use Rattle.kds_defs.specs.Records.{Logged, is_left, left_among, records}
 use Rattle.kds_defs.specs.Streams.{floor_of}
 use Rattle.kds_log.specs.Log.{LogValue}
-use Rattle.kds_stream.proofs.Cuts.{advanced_floor, later_floor}
+use Rattle.kds_stream.proofs.Cuts.{advanced_floor, later_floor, trims_later}
+use Rattle.kds_stream.proofs.Rates.{rated_later}
 use Rattle.kds_stream.specs.Showing.{AreKept, Shows}
 use Rattle.kds_stream.proofs.LogLemmas.{all-filter, all-settled, arrived_later, length-settled}
 use Rattle.kds_stream.specs.Value.{HasArrived, IsBelow, IsStream, StreamValue, cut_at, later_cut, settled_at}
@@ -33,7 +34,24 @@ shows_advanced v log clock cut is later shown =
       floor_is = advanced_floor log v.clock clock v.no v.hours v.cut later shown.hours_are shown.floor_is ∙ ap floor_of (sym is);
       kept = kept_higher (floor_of v.cut) (floor_of cut) log v.no 0 v.logs higher shown.kept;
       none_beyond = shown.none_beyond;
+      rates = shown.rates;
     }
+
+pub stream_advanced : (v : StreamValue) (clock : ℕ) (cut : Option ℕ) → cut ≡ later_cut v.cut (cut_at clock v.hours) → v.clock ≤ clock → IsStream v → IsStream (record v { clock = clock; cut = cut; clock_before = v.clock; cut_before = v.cut })
+stream_advanced v clock cut later_is later is = record {
+  as_many = is.as_many;
+  few = is.few;
+  lasting = is.lasting;
+  numbers = is.numbers;
+  endings = is.endings;
+  arrivals = arrived_later v.clock_before v.clock v.logs is.order is.arrivals;
+  order = later;
+  trims = omega (arith, ap floor_of later_is, trims_later v.clock clock v.hours v.cut is.lasting later is.trims);
+  trims_before = is.trims;
+  rated = rated_later v.clock_before v.clock (length v.tree) v.windows is.order is.rated;
+  drawn = is.drawn;
+  fits = is.fits;
+}
 
 -- ---- what is left of what is left
 
@@ -77,6 +95,7 @@ shows_settled v i clock cut turn log shown = record {
   floor_is = shown.floor_is;
   kept = kept_settled (floor_of v.cut) log v.no 0 i v.logs shown.kept;
   none_beyond = shown.none_beyond;
+  rates = shown.rates;
 }
 
 pub settled_stream : (v : StreamValue) (i turn : ℕ) → IsStream v → IsStream (settled_place v i v.clock v.cut turn)
@@ -92,6 +111,7 @@ settled_stream v i turn is = record {
   order = omega arith;
   trims = is.trims;
   trims_before = is.trims;
+  rated = rated_later v.clock_before v.clock (length v.tree) v.windows is.order is.rated;
   drawn = is.drawn;
   fits = is.fits;
 }

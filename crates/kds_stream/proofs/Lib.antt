@@ -12,3 +12,7 @@ pub mod Resharded
 pub mod Reshards
 pub mod Retention
 pub mod Routings
+pub mod Rates
+pub mod Limits
+pub mod ScaleSteps
+pub mod Scalings

@@ -101,7 +101,7 @@ module _ (v : StreamValue) (log : Journal) (show : Shows v log) where
   pub iterator_unlisted : (sh : ℕ) (from : Start) → None ≡ option_map shown (listed_at (floor_of v.cut) (slice_get v.tree sh)) → Err refusal.NoShard ≡ answer_of (get_iterator log v.clock v.no sh from)
   iterator_unlisted sh from h = sym (ap answer_of (refused_if _ _ _ (ap not (listed_is sh ∙ unlisted (floor_of v.cut) (slice_get v.tree sh) h))))
 
-  position_is : (sh : ℕ) (from : Start) (l : LogValue) → sh < length v.logs → l ≡ get_or v.logs sh l → position_of log v.clock v.no sh from ≡ position_from v.next (left_among (floor_of v.cut) 0 l.kept) from
+  pub position_is : (sh : ℕ) (from : Start) (l : LogValue) → sh < length v.logs → l ≡ get_or v.logs sh l → position_of log v.clock v.no sh from ≡ position_from v.next (left_among (floor_of v.cut) 0 l.kept) from
   position_is sh (start.At q) l below is = refl
   position_is sh (start.After q) l below is = refl
   position_is sh start.TrimHorizon l below is = refl

@@ -7,13 +7,17 @@ use Rattle.kds_base.specs.Span.{Span, uniform, uniform_from}
 use Rattle.kds_defs.specs.declared.entry.Entry.TheVariants as entry
 use Rattle.kds_defs.specs.declared.limits.TheConstants.{FIRST_HOURS, HOUR, OPEN_SHARDS}
 use Rattle.kds_defs.specs.Journal.{Journal, plain_line}
+use Rattle.kds_defs.specs.Rates.{puts}
 use Rattle.kds_defs.specs.Records.{left_among, next_number, records}
 use Rattle.kds_defs.specs.Lawful.{IsShardCount}
 use Rattle.kds_defs.specs.Shards.{ShardState, first_shards, is_open, made_shards, shards}
 use Rattle.kds_defs.specs.Streams.{floor_at, floor_of, hours, is_live, made_at, name_of, trim_floor, was_made}
 use Rattle.kds_log.specs.Log.{LogValue}
+use Rattle.kds_rate.specs.Windows.{WindowValue}
 use Rattle.kds_stream.proofs.Cuts.{cut_floor, first_floor, trims_at}
 use Rattle.kds_stream.proofs.Puts.{same_number}
+use Rattle.kds_stream.proofs.Rates.{counted_unused, stand_unused}
+use Rattle.kds_stream.specs.Rating.{IsUnused}
 use Rattle.kds_stream.specs.Showing.{AreKept, IsFresh, Shows}
 use Rattle.kds_stream.specs.Value.{EndsUnder, HasArrived, IsBelow, IsStream, cut_at, empty_log}
 
@@ -55,9 +59,9 @@ open_first n start (r ∷ rs) = ap suc (open_first (n + 1) start rs)
 few_made : (count : ℕ) → IsShardCount count → length (filter is_open (made_shards count 1)) ≤ OPEN_SHARDS
 few_made count h = omega (arith, h.1, open_first 0 1 (uniform count), length-uniform (2 ^ 128 / count) 0 count)
 
-pub new_stream : (s : ℕ) (name : List ℕ) (made count : ℕ) (tree : List ShardState) (logs : List LogValue) (cut cut_before : Option ℕ) → IsShardCount count → tree ≡ made_shards count 1 → logs ≡ replicate count empty_log → cut ≡ cut_at made FIRST_HOURS → cut_before ≡ cut_at made FIRST_HOURS
-    → IsStream (record { no = s; name = name; made = made; hours = FIRST_HOURS; tree = tree; logs = logs; next = 1; clock = made; cut = cut; clock_before = made; cut_before = cut_before; turn = 0 })
-new_stream s name made count tree logs cut cut_before counted shards_are logs_are is is_before = record {
+pub new_stream : (s : ℕ) (name : List ℕ) (made count : ℕ) (tree : List ShardState) (logs : List LogValue) (windows : List WindowValue) (cut cut_before : Option ℕ) → IsShardCount count → tree ≡ made_shards count 1 → logs ≡ replicate count empty_log → length windows ≡ count → AllByRecursion IsUnused windows → cut ≡ cut_at made FIRST_HOURS → cut_before ≡ cut_at made FIRST_HOURS
+    → IsStream (record { no = s; name = name; made = made; hours = FIRST_HOURS; tree = tree; logs = logs; windows = windows; enforced = false; next = 1; clock = made; cut = cut; clock_before = made; cut_before = cut_before; turn = 0 })
+new_stream s name made count tree logs windows cut cut_before counted shards_are logs_are many unused is is_before = record {
   as_many = ap length logs_are ∙ length-replicate count empty_log ∙ sym (length-made count 1) ∙ ap length (sym shards_are);
   few = subst (λ (xs : List ShardState). length (filter is_open xs) ≤ OPEN_SHARDS) (sym shards_are) (few_made count counted);
   lasting = (omega arith, omega arith);
@@ -67,6 +71,7 @@ new_stream s name made count tree logs cut cut_before counted shards_are logs_ar
   order = omega arith;
   trims = trims_new made cut is;
   trims_before = trims_new made cut_before is_before;
+  rated = record { as_many = many ∙ sym (length-made count 1) ∙ ap length (sym shards_are); counted = counted_unused made windows unused };
   drawn = omega arith;
   fits = omega arith;
 }
@@ -90,9 +95,9 @@ module _ (log : Journal) (by s : ℕ) (name : List ℕ) (made count : ℕ) (fres
       ∙ sym (cut_floor made FIRST_HOURS)
       ∙ ap floor_of (sym is)
 
-  pub shows_new : (tree : List ShardState) (logs : List LogValue) (cut cut_before : Option ℕ) → tree ≡ made_shards count 1 → logs ≡ replicate count empty_log → cut ≡ cut_at made FIRST_HOURS
-      → Shows (record { no = s; name = name; made = made; hours = FIRST_HOURS; tree = tree; logs = logs; next = 1; clock = made; cut = cut; clock_before = made; cut_before = cut_before; turn = 0 }) (plain_line made by (entry.Made s name count) ∷ log)
-  shows_new tree logs cut cut_before shards_are logs_are is = record {
+  pub shows_new : (tree : List ShardState) (logs : List LogValue) (windows : List WindowValue) (cut cut_before : Option ℕ) → tree ≡ made_shards count 1 → logs ≡ replicate count empty_log → AllByRecursion IsUnused windows → cut ≡ cut_at made FIRST_HOURS
+      → Shows (record { no = s; name = name; made = made; hours = FIRST_HOURS; tree = tree; logs = logs; windows = windows; enforced = false; next = 1; clock = made; cut = cut; clock_before = made; cut_before = cut_before; turn = 0 }) (plain_line made by (entry.Made s name count) ∷ log)
+  shows_new tree logs windows cut cut_before shards_are logs_are unused is = record {
     live = either (s == s) (is_live log s) (same_number s);
     was = either (s == s) (was_made log s) (same_number s);
     named = chosen (s == s) name (name_of log s) (same_number s);
@@ -103,4 +108,5 @@ module _ (log : Journal) (by s : ℕ) (name : List ℕ) (made count : ℕ) (fres
     floor_is = floor_made cut is;
     kept = subst (AreKept (floor_of cut) (plain_line made by (entry.Made s name count) ∷ log) s 0) (sym logs_are) (kept_none (floor_of cut) (plain_line made by (entry.Made s name count) ∷ log) s 0 count fresh.no_records);
     none_beyond = λ sh beyond. fresh.no_records sh;
+    rates = record { enforced_is = fresh.not_enforced; stand = stand_unused (puts log s) 0 windows unused (λ sh any. fresh.no_puts sh); none_beyond = λ sh beyond. fresh.no_puts sh };
   }

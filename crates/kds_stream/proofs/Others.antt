@@ -5,11 +5,14 @@ use Rattle.std.proofs.lemmas.Bool.Decides.{nat_tests}
 use Rattle.kds_defs.specs.declared.entry.Entry.{Entry}
 use Rattle.kds_defs.specs.declared.entry.Entry.TheVariants as entry
 use Rattle.kds_defs.specs.Journal.{Line, Journal}
+use Rattle.kds_defs.specs.PutCommands.{enforced_after, is_enforced}
+use Rattle.kds_defs.specs.Rates.{SizedPut, puts, puts_after}
 use Rattle.kds_defs.specs.Records.{Logged, draws, next_number, records, records_after}
 use Rattle.kds_defs.specs.Shards.{ShardState, shards, shards_after}
 use Rattle.kds_defs.specs.Streams.{floor_after, floor_of, hours, hours_after, is_live, is_live_after, made_at, made_at_after, name_of, name_of_after, was_made, was_made_after}
 use Rattle.kds_log.specs.Log.{LogValue}
 use Rattle.kds_stream.proofs.Cuts.{same_floor_at}
+use Rattle.kds_stream.proofs.Rates.{stand_along}
 use Rattle.kds_stream.specs.Showing.{AreKept, IsFresh, IsKept, Shows, stream_of}
 use Rattle.kds_stream.specs.Value.{StreamValue}
 
@@ -61,7 +64,7 @@ hours_same (entry.Kept a wanted) s before h = not_chosen (a == s) wanted before 
 hours_same _ s before h = refl
 
 draws_none : (what : Entry) (s : ℕ) → stream_of what ≢ Some s → draws what s ≡ 0
-draws_none (entry.Put a sh number hash bytes) s h = not_chosen (a == s) 1 0 (differ a s h)
+draws_none (entry.Put a sh number hash bytes key_bytes) s h = not_chosen (a == s) 1 0 (differ a s h)
 draws_none (entry.Split a sh at number low high) s h = not_chosen (a == s) 1 0 (differ a s h)
 draws_none (entry.Merged a sh other number child) s h = not_chosen (a == s) 1 0 (differ a s h)
 draws_none _ s h = refl
@@ -73,8 +76,16 @@ shards_same line (entry.Merged a sh other number child) s start before h = not_c
 shards_same line _ s start before h = refl
 
 records_same : (line : Line) (what : Entry) (s sh : ℕ) (before : List Logged) → stream_of what ≢ Some s → records_after line what s sh before ≡ before
-records_same line (entry.Put a shard number hash bytes) s sh before h = not_chosen ((a == s) && (shard == sh)) _ before (not_both (a == s) (shard == sh) (differ a s h))
+records_same line (entry.Put a shard number hash bytes key_bytes) s sh before h = not_chosen ((a == s) && (shard == sh)) _ before (not_both (a == s) (shard == sh) (differ a s h))
 records_same line _ s sh before h = refl
+
+puts_same : (line : Line) (what : Entry) (s sh : ℕ) (before : List SizedPut) → stream_of what ≢ Some s → puts_after line what s sh before ≡ before
+puts_same line (entry.Put a shard number hash bytes key_bytes) s sh before h = not_chosen ((a == s) && (shard == sh)) _ before (not_both (a == s) (shard == sh) (differ a s h))
+puts_same line _ s sh before h = refl
+
+enforced_same : (what : Entry) (s : ℕ) (before : Bool) → stream_of what ≢ Some s → enforced_after what s before ≡ before
+enforced_same (entry.Enforced a on) s before h = not_chosen (a == s) on before (differ a s h)
+enforced_same _ s before h = refl
 
 next_same : (log : Journal) (line : Line) (s : ℕ) → stream_of line.what ≢ Some s → next_number (line ∷ log) s ≡ next_number log s
 next_same log line s h = ap (λ n. n + next_number log s) (draws_none line.what s h) ∙ zero_more (next_number log s)
@@ -101,12 +112,18 @@ shows_other v log line shown at other = record {
   floor_is = same_floor_at log line v.clock v.no at (hours_same line.what v.no (hours log v.no) other) ∙ shown.floor_is;
   kept = kept_along (floor_of v.cut) log (line ∷ log) v.no 0 v.logs (λ sh. records_same line line.what v.no sh (records log v.no sh) other) shown.kept;
   none_beyond = λ sh beyond. records_same line line.what v.no sh (records log v.no sh) other ∙ shown.none_beyond sh beyond;
+  rates =
+      record {
+        enforced_is = enforced_same line.what v.no (is_enforced log v.no) other ∙ shown.rates.enforced_is;
+        stand = stand_along (puts log v.no) (puts (line ∷ log) v.no) 0 v.windows (λ sh any. sym (puts_same line line.what v.no sh (puts log v.no sh) other)) shown.rates.stand;
+        none_beyond = λ sh beyond. puts_same line line.what v.no sh (puts log v.no sh) other ∙ shown.rates.none_beyond sh beyond;
+      };
 }
 
 -- ---- fresh streams
 
 pub fresh_empty : (s : ℕ) → IsFresh [] s
-fresh_empty s = record { gone = refl; unmade = refl; undrawn = refl; no_floor = refl; no_shards = refl; no_records = λ sh. refl }
+fresh_empty s = record { gone = refl; unmade = refl; undrawn = refl; no_floor = refl; no_shards = refl; no_records = λ sh. refl; no_puts = λ sh. refl; not_enforced = refl }
 
 no_floor_by : (log : Journal) (line : Line) (s : ℕ) → was_made (line ∷ log) s ≡ false → floor_after log line s ≡ 0
 no_floor_by log line s h = not_chosen (was_made (line ∷ log) s) _ 0 h
@@ -121,4 +138,6 @@ fresh_other log line s fresh other =
       no_floor = omega (arith, no_floor_by log line s unmade, fresh.no_floor);
       no_shards = shards_same line line.what s (next_number (line ∷ log) s) (shards log s) other ∙ fresh.no_shards;
       no_records = λ sh. records_same line line.what s sh (records log s sh) other ∙ fresh.no_records sh;
+      no_puts = λ sh. puts_same line line.what s sh (puts log s sh) other ∙ fresh.no_puts sh;
+      not_enforced = enforced_same line.what s (is_enforced log s) other ∙ fresh.not_enforced;
     }

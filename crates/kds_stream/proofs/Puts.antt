@@ -14,13 +14,19 @@ use Rattle.kds_defs.specs.declared.reply.Reply.TheVariants as reply
 use Rattle.kds_defs.specs.Decision.{Decision}
 use Rattle.kds_defs.specs.Histories.{answer_of, lines_of}
 use Rattle.kds_defs.specs.Journal.{Journal, with_lines}
+use Rattle.kds_defs.specs.Lawful.{item_bytes}
+use Rattle.kds_defs.specs.PutCommands.{is_enforced, is_held_back, put}
+use Rattle.kds_defs.specs.Rates.{SizedPut, is_throttled, puts}
 use Rattle.kds_defs.specs.Records.{Logged, is_left, left_among, next_number, records}
-use Rattle.kds_defs.specs.Shards.{Closing, ShardState, home, home_among, is_open}
-use Rattle.kds_defs.specs.StreamCommands.{last_number, put, put_line, put_place}
-use Rattle.kds_defs.specs.Streams.{floor_of}
+use Rattle.kds_defs.specs.Shards.{Closing, ShardState, home, home_among, is_open, shards}
+use Rattle.kds_defs.specs.StreamCommands.{last_number, put_line, put_place}
+use Rattle.kds_defs.specs.Streams.{floor_of, hours, is_live, made_at, name_of, trim_floor, was_made}
 use Rattle.kds_log.specs.Log.{LogValue}
+use Rattle.kds_rate.specs.Windows.{WindowValue}
 use Rattle.kds_stream.proofs.Cuts.{same_floor_at}
 use Rattle.kds_stream.proofs.LogLemmas.{all-append, all-appended, all_weaker, arrived_later, length-appended}
+use Rattle.kds_stream.proofs.Rates.{put_elsewhere, stand_along}
+use Rattle.kds_stream.specs.Rating.{AreRated, ShowsRates, StandFor, with_put}
 use Rattle.kds_stream.specs.Showing.{AreKept, IsKept, Shows}
 use Rattle.kds_stream.specs.Value.{EndsUnder, HasArrived, IsBelow, IsClosedUnder, IsStream, IsUnder, StreamValue, with_appended}
 
@@ -50,7 +56,7 @@ led_along decided u u' w log a is h = (h.0 ∙ ap (λ x. answer_of (decided x)) 
 -- ---- the record that a put stores
 
 abbrev pub put_record : StreamValue → NewItem → Logged
-put_record v item = record { seq = v.next; arrival = v.clock; bytes = length item.payload; key = item.key; payload = item.payload }
+put_record v item = record { seq = v.next; arrival = v.clock; bytes = length item.payload + length item.key; key = item.key; payload = item.payload }
 
 -- a record that arrived at the floor or later is kept with the others
 left_one : (from : ℕ) (rs : List Logged) (r : Logged) → from ≤ r.arrival → left_among from 0 (rs ++ r ∷ []) ≡ left_among from 0 rs ++ r ∷ []
@@ -83,24 +89,116 @@ kept_put floor log log' s n (suc i) at r (l ∷ ls) late is here others h =
     apart : (at n i : ℕ) → at ≡ n + suc i → at ≡ n → ⊥
     apart at n i is e = omega (arith, is, e)
 
+-- ---- what is shown, the throughput aside
+
+pub record ShowsStored (v : StreamValue) (log : Journal) : Type 0 where
+  pub live : is_live log v.no ≡ true
+  pub was : was_made log v.no ≡ true
+  pub named : name_of log v.no ≡ v.name
+  pub made_is : made_at log v.no ≡ v.made
+  pub hours_are : hours log v.no ≡ v.hours
+  pub shards_are : shards log v.no ≡ v.tree
+  pub next_is : next_number log v.no ≡ v.next
+  pub floor_is : trim_floor log v.clock v.no ≡ floor_of v.cut
+  pub kept : AreKept (floor_of v.cut) log v.no 0 v.logs
+  pub none_beyond : (sh : ℕ) → length v.tree ≤ sh → records log v.no sh ≡ []
+
+pub stored_part : (v : StreamValue) (log : Journal) → Shows v log → ShowsStored v log
+stored_part v log shown = record {
+  live = shown.live;
+  was = shown.was;
+  named = shown.named;
+  made_is = shown.made_is;
+  hours_are = shown.hours_are;
+  shards_are = shown.shards_are;
+  next_is = shown.next_is;
+  floor_is = shown.floor_is;
+  kept = shown.kept;
+  none_beyond = shown.none_beyond;
+}
+
+pub with_rates : (v : StreamValue) (log : Journal) (windows : List WindowValue) → ShowsStored v log → ShowsRates log v.no v.enforced (length v.tree) windows → Shows (record v { windows = windows }) log
+with_rates v log windows shown rates = record {
+  live = shown.live;
+  was = shown.was;
+  named = shown.named;
+  made_is = shown.made_is;
+  hours_are = shown.hours_are;
+  shards_are = shown.shards_are;
+  next_is = shown.next_is;
+  floor_is = shown.floor_is;
+  kept = shown.kept;
+  none_beyond = shown.none_beyond;
+  rates = rates;
+}
+
+-- ---- the throughput
+
+-- a put of an item, as its shard counts it
+abbrev pub put_of : StreamValue → NewItem → SizedPut
+put_of v item = record { clock = v.clock; bytes = item_bytes item }
+
+chosen_put : (a b : Bool) (line : SizedPut) (before : List SizedPut) → a ≡ true → (if a && b then line ∷ before else before) ≡ (if b then line ∷ before else before)
+chosen_put true b line before h = refl
+chosen_put false b line before h = absurd cc
+
+module _ (v : StreamValue) (log : Journal) (by n : ℕ) (item : NewItem) (same : shards log v.no ≡ v.tree) where
+  pub home_so : home log v.no item.hash ≡ home_among (filter is_open v.tree) item.hash
+  home_so = ap (λ xs. home_among (filter is_open xs) item.hash) same
+
+  -- the puts of a shard after its line
+  pub puts_more : (sh : ℕ) → puts (put_line log v.clock by v.no n item ∷ log) v.no sh ≡ with_put (home_among (filter is_open v.tree) item.hash) (put_of v item) (puts log v.no) sh
+  puts_more sh =
+      chosen_put (v.no == v.no) (home log v.no item.hash == sh) (put_of v item) (puts log v.no sh) (same_number v.no)
+      ∙ ap (λ h. if h == sh then put_of v item ∷ puts log v.no sh else puts log v.no sh) home_so
+
+  pub rates_put : (windows : List WindowValue) → home_among (filter is_open v.tree) item.hash < length v.tree
+      → ShowsRates log v.no v.enforced (length v.tree) v.windows → StandFor (with_put (home_among (filter is_open v.tree) item.hash) (put_of v item) (puts log v.no)) 0 windows
+      → ShowsRates (put_line log v.clock by v.no n item ∷ log) v.no v.enforced (length v.tree) windows
+  rates_put windows within rates stand = record {
+    enforced_is = rates.enforced_is;
+    stand = stand_along (with_put (home_among (filter is_open v.tree) item.hash) (put_of v item) (puts log v.no)) (puts (put_line log v.clock by v.no n item ∷ log) v.no) 0 windows (λ sh any. sym (puts_more sh)) stand;
+    none_beyond = λ sh beyond.
+        puts_more sh
+        ∙ sym (put_elsewhere (home_among (filter is_open v.tree) item.hash) sh (put_of v item) (puts log v.no) (is_other _ sh (λ e. absurd (omega (arith, within, beyond, e)))))
+        ∙ rates.none_beyond sh beyond;
+  }
+
+-- the test of the decision, where the limits and the puts of the item's home are known
+pub held_is : (log : Journal) (c s : ℕ) (xs : List ShardState) (item : NewItem) (on : Bool) (sh bytes : ℕ) (ps : List SizedPut) → shards log s ≡ xs → is_enforced log s ≡ on → sh ≡ home_among (filter is_open xs) item.hash → bytes ≡ item_bytes item → ps ≡ puts log s sh
+    → is_held_back log c s item ≡ (on && is_throttled ps c bytes)
+held_is log c s xs item on sh bytes ps same enforces at counted are =
+    let home_is : home log s item.hash ≡ sh = ap (λ ys. home_among (filter is_open ys) item.hash) same ∙ sym at in
+    ap (λ b. b && is_throttled (puts log s (home log s item.hash)) c (item_bytes item)) enforces
+    ∙ ap (λ h. on && is_throttled (puts log s h) c (item_bytes item)) home_is
+    ∙ ap (λ qs. on && is_throttled qs c (item_bytes item)) (sym are)
+    ∙ ap (λ n. on && is_throttled ps c n) (sym counted)
+
 -- ---- the decision
 
 module _ (v : StreamValue) (log : Journal) (by : ℕ) (item : NewItem) (shown : Shows v log) where
-  pub put_spent : v.next ≡ last_number → (Err refusal.Spent ≡ answer_of (put log v.clock by v.no item)) × Shows v (with_lines (lines_of (put log v.clock by v.no item)) log)
-  put_spent spent =
-      after_refused _ refusal.Spent log (λ l. Shows v l) (refused_if _ _ _ (is_number (next_number log v.no) last_number (shown.next_is ∙ spent))) shown
+  pub put_throttled : (sh : ℕ) → sh ≡ home_among (filter is_open v.tree) item.hash → is_held_back log v.clock v.no item ≡ true
+      → (Err (refusal.Throttled sh) ≡ answer_of (put log v.clock by v.no item)) × Shows v (with_lines (lines_of (put log v.clock by v.no item)) log)
+  put_throttled sh at held =
+      let both = after_refused _ (refusal.Throttled (home log v.no item.hash)) log (λ l. Shows v l) (refused_if _ _ _ held) shown in
+      (ap (λ n. Err (refusal.Throttled n)) (at ∙ sym (home_so v log by 0 item shown.shards_are)) ∙ both.0, both.1)
 
+  pub put_spent : is_held_back log v.clock v.no item ≡ false → v.next ≡ last_number → (Err refusal.Spent ≡ answer_of (put log v.clock by v.no item)) × Shows v (with_lines (lines_of (put log v.clock by v.no item)) log)
+  put_spent free spent =
+      after_refused _ refusal.Spent log (λ l. Shows v l) (passed_if _ _ _ free ∙ refused_if _ _ _ (is_number (next_number log v.no) last_number (shown.next_is ∙ spent))) shown
+
+module _ (v : StreamValue) (log : Journal) (by : ℕ) (item : NewItem) (shown : ShowsStored v log) where
   home_is : home log v.no item.hash ≡ home_among (filter is_open v.tree) item.hash
   home_is = ap (λ xs. home_among (filter is_open xs) item.hash) shown.shards_are
 
-  record_is : record { seq = next_number log v.no; arrival = v.clock; bytes = length item.payload; key = item.key; payload = item.payload } ≡ put_record v item
-  record_is = ap (λ n. let r : Logged = record { seq = n; arrival = v.clock; bytes = length item.payload; key = item.key; payload = item.payload } in r) shown.next_is
+  record_is : record { seq = next_number log v.no; arrival = v.clock; bytes = length item.payload + length item.key; key = item.key; payload = item.payload } ≡ put_record v item
+  record_is = ap (λ n. let r : Logged = record { seq = n; arrival = v.clock; bytes = length item.payload + length item.key; key = item.key; payload = item.payload } in r) shown.next_is
 
   -- the records of a shard after the line
   records_by : (a b : Bool) (sh : ℕ) → (v.no == v.no) ≡ a → (home log v.no item.hash == sh) ≡ b
-      → records (put_line log v.clock by v.no (next_number log v.no) item ∷ log) v.no sh ≡ (if a && b then records log v.no sh ++ record { seq = next_number log v.no; arrival = v.clock; bytes = length item.payload; key = item.key; payload = item.payload } ∷ [] else records log v.no sh)
-  records_by a b sh isa isb = ap (λ c. if c && (home log v.no item.hash == sh) then records log v.no sh ++ record { seq = next_number log v.no; arrival = v.clock; bytes = length item.payload; key = item.key; payload = item.payload } ∷ [] else records log v.no sh) isa
-      ∙ ap (λ c. if a && c then records log v.no sh ++ record { seq = next_number log v.no; arrival = v.clock; bytes = length item.payload; key = item.key; payload = item.payload } ∷ [] else records log v.no sh) isb
+      → records (put_line log v.clock by v.no (next_number log v.no) item ∷ log) v.no sh ≡ (if a && b then records log v.no sh ++ record { seq = next_number log v.no; arrival = v.clock; bytes = length item.payload + length item.key; key = item.key; payload = item.payload } ∷ [] else records log v.no sh)
+  records_by a b sh isa isb = ap (λ c. if c && (home log v.no item.hash == sh) then records log v.no sh ++ record { seq = next_number log v.no; arrival = v.clock; bytes = length item.payload + length item.key; key = item.key; payload = item.payload } ∷ [] else records log v.no sh) isa
+      ∙ ap (λ c. if a && c then records log v.no sh ++ record { seq = next_number log v.no; arrival = v.clock; bytes = length item.payload + length item.key; key = item.key; payload = item.payload } ∷ [] else records log v.no sh) isb
 
   here : (sh : ℕ) → home log v.no item.hash ≡ sh → records (put_line log v.clock by v.no (next_number log v.no) item ∷ log) v.no sh ≡ records log v.no sh ++ put_record v item ∷ []
   here sh is = records_by true true sh (same_number v.no) (is_number (home log v.no item.hash) sh is) ∙ ap (λ r. records log v.no sh ++ r ∷ []) record_is
@@ -109,7 +207,7 @@ module _ (v : StreamValue) (log : Journal) (by : ℕ) (item : NewItem) (shown : 
   elsewhere sh differ = records_by true false sh (same_number v.no) (is_other (home log v.no item.hash) sh differ)
 
   pub shows_put : (sh : ℕ) → sh ≡ home_among (filter is_open v.tree) item.hash → sh < length v.tree → floor_of v.cut ≤ v.clock
-      → Shows (record v { logs = with_appended sh (put_record v item) v.logs; next = v.next + 1; clock_before = v.clock; cut_before = v.cut }) (put_line log v.clock by v.no (next_number log v.no) item ∷ log)
+      → ShowsStored (record v { logs = with_appended sh (put_record v item) v.logs; next = v.next + 1; clock_before = v.clock; cut_before = v.cut }) (put_line log v.clock by v.no (next_number log v.no) item ∷ log)
   shows_put sh at within trims =
       let is : home log v.no item.hash ≡ sh = home_is ∙ sym at in
       record {
@@ -139,16 +237,26 @@ module _ (v : StreamValue) (log : Journal) (by : ℕ) (item : NewItem) (shown : 
       ap (λ n. let p : Place = record { shard = n; seq = v.next } in p) (at ∙ sym home_is)
       ∙ ap (λ n. let p : Place = record { shard = home log v.no item.hash; seq = n } in p) (sym shown.next_is)
 
-  pub put_done : (sh next : ℕ) (logs : List LogValue) → next ≡ v.next + 1 → v.next ≢ last_number → sh ≡ home_among (filter is_open v.tree) item.hash → sh < length v.tree → floor_of v.cut ≤ v.clock → logs ≡ with_appended sh (put_record v item) v.logs
+  put_shows : (sh next : ℕ) (logs : List LogValue) (windows : List WindowValue) → next ≡ v.next + 1 → sh ≡ home_among (filter is_open v.tree) item.hash → sh < length v.tree → floor_of v.cut ≤ v.clock → logs ≡ with_appended sh (put_record v item) v.logs
+      → ShowsRates log v.no v.enforced (length v.tree) v.windows → StandFor (with_put sh (put_of v item) (puts log v.no)) 0 windows
+      → Shows (record v { logs = logs; windows = windows; next = next; clock_before = v.clock; cut_before = v.cut }) (put_line log v.clock by v.no (next_number log v.no) item ∷ log)
+  put_shows sh next logs windows drawn at within trims are rates stand =
+      let after : Journal = put_line log v.clock by v.no (next_number log v.no) item ∷ log in
+      let stored = shows_put sh at within trims in
+      let inside : home_among (filter is_open v.tree) item.hash < length v.tree = subst (λ n. n < length v.tree) at within in
+      let stand' = subst (λ n. StandFor (with_put n (put_of v item) (puts log v.no)) 0 windows) at stand in
+      let full = with_rates _ after windows stored (rates_put v log by (next_number log v.no) item shown.shards_are windows inside rates stand') in
+      subst (λ (n : ℕ). Shows (record v { logs = logs; windows = windows; next = n; clock_before = v.clock; cut_before = v.cut }) after) (sym drawn)
+      (subst (λ (ls : List LogValue). Shows (record v { logs = ls; windows = windows; next = v.next + 1; clock_before = v.clock; cut_before = v.cut }) after) (sym are) full)
+
+  pub put_done : (sh next : ℕ) (logs : List LogValue) (windows : List WindowValue) → is_held_back log v.clock v.no item ≡ false → next ≡ v.next + 1 → v.next ≢ last_number → sh ≡ home_among (filter is_open v.tree) item.hash → sh < length v.tree → floor_of v.cut ≤ v.clock → logs ≡ with_appended sh (put_record v item) v.logs
+      → ShowsRates log v.no v.enforced (length v.tree) v.windows → StandFor (with_put sh (put_of v item) (puts log v.no)) 0 windows
       → (Ok (reply.Put (record { shard = sh; seq = v.next })) ≡ answer_of (put log v.clock by v.no item))
-      × Shows (record v { logs = logs; next = next; clock_before = v.clock; cut_before = v.cut }) (with_lines (lines_of (put log v.clock by v.no item)) log)
-  put_done sh next logs drawn more at within trims are =
-      let w : StreamValue = record v { logs = logs; next = next; clock_before = v.clock; cut_before = v.cut } in
-      let shows : Shows w (put_line log v.clock by v.no (next_number log v.no) item ∷ log) =
-      subst (λ (n : ℕ). Shows (record v { logs = logs; next = n; clock_before = v.clock; cut_before = v.cut }) (put_line log v.clock by v.no (next_number log v.no) item ∷ log)) (sym drawn)
-      (subst (λ (ls : List LogValue). Shows (record v { logs = ls; next = v.next + 1; clock_before = v.clock; cut_before = v.cut }) (put_line log v.clock by v.no (next_number log v.no) item ∷ log)) (sym are) (shows_put sh at within trims)) in
+      × Shows (record v { logs = logs; windows = windows; next = next; clock_before = v.clock; cut_before = v.cut }) (with_lines (lines_of (put log v.clock by v.no item)) log)
+  put_done sh next logs windows free drawn more at within trims are rates stand =
+      let w : StreamValue = record v { logs = logs; windows = windows; next = next; clock_before = v.clock; cut_before = v.cut } in
       let both = after_accepted (put log v.clock by v.no item) (put_line log v.clock by v.no (next_number log v.no) item ∷ []) (reply.Put (put_place log v.no (next_number log v.no) item)) log (λ l. Shows w l)
-      (passed_if _ _ _ (is_other (next_number log v.no) last_number (λ e. more (sym shown.next_is ∙ e)))) shows in
+      (passed_if _ _ _ free ∙ passed_if _ _ _ (is_other (next_number log v.no) last_number (λ e. more (sym shown.next_is ∙ e)))) (put_shows sh next logs windows drawn at within trims are rates stand) in
       (ap (λ (p : Place). Ok (reply.Put p)) (place_is sh at) ∙ both.0, both.1)
 
 -- ---- a stream still
@@ -167,9 +275,9 @@ under_more (Some n) next higher more h = omega arith
 pub one_free : (n m : ℕ) → m ≡ n + 1 → n ≢ last_number → n < 2 ^ 64 → m < 2 ^ 64
 one_free n m is free fits = omega (arith, is, free, fits)
 
-pub stream_put : (v : StreamValue) (sh next : ℕ) (r : Logged) (logs : List LogValue) → next ≡ v.next + 1 → v.next ≢ last_number → r.seq ≡ v.next → r.arrival ≡ v.clock → logs ≡ with_appended sh r v.logs → IsStream v
-    → IsStream (record v { logs = logs; next = next; clock_before = v.clock; cut_before = v.cut })
-stream_put v sh next r logs drawn free number arrival are is =
+pub stream_put : (v : StreamValue) (sh next : ℕ) (r : Logged) (logs : List LogValue) (windows : List WindowValue) → next ≡ v.next + 1 → v.next ≢ last_number → r.seq ≡ v.next → r.arrival ≡ v.clock → logs ≡ with_appended sh r v.logs → AreRated v.clock (length v.tree) windows → IsStream v
+    → IsStream (record v { logs = logs; windows = windows; next = next; clock_before = v.clock; cut_before = v.cut })
+stream_put v sh next r logs windows drawn free number arrival are rated is =
     let one : next ≤ v.next + 1 = omega (arith, drawn) in
     let more : v.next + 1 ≤ next = omega (arith, drawn) in
     record {
@@ -186,6 +294,7 @@ stream_put v sh next r logs drawn free number arrival are is =
       order = omega arith;
       trims = is.trims;
       trims_before = is.trims;
+      rated = rated;
       drawn = omega (arith, drawn);
       fits = one_free v.next next drawn free is.fits;
     }

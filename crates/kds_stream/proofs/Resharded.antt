@@ -10,16 +10,21 @@ use Rattle.kds_defs.specs.declared.reply.Reply.TheVariants as reply
 use Rattle.kds_defs.specs.Decision.{Accepted}
 use Rattle.kds_defs.specs.Histories.{answer_of, lines_of}
 use Rattle.kds_defs.specs.Journal.{Journal, Line, with_lines}
+use Rattle.kds_defs.specs.PutCommands.{is_enforced}
+use Rattle.kds_defs.specs.Rates.{puts}
 use Rattle.kds_defs.specs.Records.{left_among, next_number, records}
 use Rattle.kds_defs.specs.Shards.{Closing, ShardState, is_open, merged_shards, new_shard, range_of, shards, split_shards, with_closed}
 use Rattle.kds_defs.specs.StreamCommands.{last_number, merge, split_where}
 use Rattle.kds_defs.specs.Streams.{floor_of, hours, is_live, made_at, name_of, was_made}
 use Rattle.kds_log.specs.Log.{LogValue}
+use Rattle.kds_rate.specs.Windows.{WindowValue}
 use Rattle.kds_stream.proofs.Cuts.{same_floor_at}
 use Rattle.kds_stream.proofs.LogLemmas.{all-append, all_weaker, arrived_later, below_higher}
 use Rattle.kds_stream.proofs.Opens.{few_merged, few_split}
 use Rattle.kds_stream.proofs.Others.{kept_along}
 use Rattle.kds_stream.proofs.Puts.{ends_later, one_free, same_number}
+use Rattle.kds_stream.proofs.Rates.{rated_more, stand_along, stand_more}
+use Rattle.kds_stream.specs.Rating.{IsUnused}
 use Rattle.kds_stream.specs.Showing.{AreKept, Shows, merge_line, split_line}
 use Rattle.kds_stream.specs.Value.{EndsUnder, HasArrived, IsBelow, IsStream, StreamValue, empty_log}
 use Rattle.kds_tree.specs.Tree.{merge_refusal, split_refusal}
@@ -41,10 +46,10 @@ ends_closed next sh closing [] below h = tt
 ends_closed next zero closing (x ∷ xs) below h = (below, h.1)
 ends_closed next (suc sh) closing (x ∷ xs) below h = (h.0, ends_closed next sh closing xs below h.1)
 
-ends_split : (next sh at start : ℕ) (closing : Closing) (xs : List ShardState) → closing.number < next → AllByRecursion (EndsUnder next) xs → AllByRecursion (EndsUnder next) (split_shards sh at closing start xs)
+pub ends_split : (next sh at start : ℕ) (closing : Closing) (xs : List ShardState) → closing.number < next → AllByRecursion (EndsUnder next) xs → AllByRecursion (EndsUnder next) (split_shards sh at closing start xs)
 ends_split next sh at start closing xs below h = all-append (EndsUnder next) (with_closed sh closing xs) _ (ends_closed next sh closing xs below h) (tt, (tt, tt))
 
-ends_merged : (next sh other start : ℕ) (closing : Closing) (xs : List ShardState) → closing.number < next → AllByRecursion (EndsUnder next) xs → AllByRecursion (EndsUnder next) (merged_shards sh other closing start xs)
+pub ends_merged : (next sh other start : ℕ) (closing : Closing) (xs : List ShardState) → closing.number < next → AllByRecursion (EndsUnder next) xs → AllByRecursion (EndsUnder next) (merged_shards sh other closing start xs)
 ends_merged next sh other start closing xs below h =
     all-append (EndsUnder next) (with_closed other closing (with_closed sh closing xs)) _ (ends_closed next other closing (with_closed sh closing xs) below (ends_closed next sh closing xs below h)) (tt, tt)
 
@@ -66,9 +71,9 @@ all_empty P new p h = all_weaker (λ l. l ≡ empty_log) P (λ l is. subst P (sy
 
 -- ---- the stream after it
 
-pub stream_grown : (v : StreamValue) (tree : List ShardState) (new : List LogValue) (next : ℕ) → next ≡ v.next + 1 → v.next ≢ last_number → AllByRecursion (λ l. l ≡ empty_log) new → length tree ≡ length v.tree + length new → length (filter is_open tree) ≤ OPEN_SHARDS → AllByRecursion (EndsUnder next) tree → IsStream v
-    → IsStream (record v { tree = tree; logs = v.logs ++ new; next = next; clock_before = v.clock; cut_before = v.cut })
-stream_grown v tree new next drawn free empty grown few ends is = record {
+pub stream_grown : (v : StreamValue) (tree : List ShardState) (new : List LogValue) (ws : List WindowValue) (next : ℕ) → next ≡ v.next + 1 → v.next ≢ last_number → AllByRecursion (λ l. l ≡ empty_log) new → AllByRecursion IsUnused ws → length ws ≡ length new → length tree ≡ length v.tree + length new → length (filter is_open tree) ≤ OPEN_SHARDS → AllByRecursion (EndsUnder next) tree → IsStream v
+    → IsStream (record v { tree = tree; logs = v.logs ++ new; windows = v.windows ++ ws; next = next; clock_before = v.clock; cut_before = v.cut })
+stream_grown v tree new ws next drawn free empty unused beside grown few ends is = record {
   as_many = omega (arith, length-append v.logs new, is.as_many, grown);
   few = few;
   lasting = is.lasting;
@@ -78,15 +83,16 @@ stream_grown v tree new next drawn free empty grown few ends is = record {
   order = omega arith;
   trims = is.trims;
   trims_before = is.trims;
+  rated = rated_more v.clock_before v.clock (length v.tree) (length tree) v.windows ws is.order (omega (arith, grown, beside)) unused is.rated;
   drawn = omega (arith, drawn);
   fits = one_free v.next next drawn free is.fits;
 }
 
 -- ... of a journal with one line more, which adds no record
-shows_grown : (v : StreamValue) (log : Journal) (line : Line) (tree : List ShardState) (new : List LogValue) (next : ℕ) → line.clock ≡ v.clock → is_live (line ∷ log) v.no ≡ is_live log v.no → was_made (line ∷ log) v.no ≡ was_made log v.no → name_of (line ∷ log) v.no ≡ name_of log v.no → made_at (line ∷ log) v.no ≡ made_at log v.no → hours (line ∷ log) v.no ≡ hours log v.no
-    → ((sh : ℕ) → records (line ∷ log) v.no sh ≡ records log v.no sh) → shards (line ∷ log) v.no ≡ tree → next_number (line ∷ log) v.no ≡ next → AllByRecursion (λ l. l ≡ empty_log) new → length tree ≡ length v.tree + length new → length v.logs ≡ length v.tree → Shows v log
-    → Shows (record v { tree = tree; logs = v.logs ++ new; next = next; clock_before = v.clock; cut_before = v.cut }) (line ∷ log)
-shows_grown v log line tree new next at live was named made lasts same shards_are next_is empty grown as_many show = record {
+shows_grown : (v : StreamValue) (log : Journal) (line : Line) (tree : List ShardState) (new : List LogValue) (ws : List WindowValue) (next : ℕ) → line.clock ≡ v.clock → is_live (line ∷ log) v.no ≡ is_live log v.no → was_made (line ∷ log) v.no ≡ was_made log v.no → name_of (line ∷ log) v.no ≡ name_of log v.no → made_at (line ∷ log) v.no ≡ made_at log v.no → hours (line ∷ log) v.no ≡ hours log v.no → is_enforced (line ∷ log) v.no ≡ is_enforced log v.no
+    → ((sh : ℕ) → records (line ∷ log) v.no sh ≡ records log v.no sh) → ((sh : ℕ) → puts (line ∷ log) v.no sh ≡ puts log v.no sh) → shards (line ∷ log) v.no ≡ tree → next_number (line ∷ log) v.no ≡ next → AllByRecursion (λ l. l ≡ empty_log) new → AllByRecursion IsUnused ws → length tree ≡ length v.tree + length new → length v.logs ≡ length v.tree → length v.windows ≡ length v.tree → Shows v log
+    → Shows (record v { tree = tree; logs = v.logs ++ new; windows = v.windows ++ ws; next = next; clock_before = v.clock; cut_before = v.cut }) (line ∷ log)
+shows_grown v log line tree new ws next at live was named made lasts enforces same same_puts shards_are next_is empty unused grown as_many as_wide show = record {
   live = live ∙ show.live;
   was = was ∙ show.was;
   named = named ∙ show.named;
@@ -97,6 +103,14 @@ shows_grown v log line tree new next at live was named made lasts same shards_ar
   floor_is = same_floor_at log line v.clock v.no at lasts ∙ show.floor_is;
   kept = kept_along (floor_of v.cut) log (line ∷ log) v.no 0 (v.logs ++ new) same (kept_grown (floor_of v.cut) log v.no 0 v.logs new empty (λ sh beyond. show.none_beyond sh (omega (arith, beyond, as_many))) show.kept);
   none_beyond = λ sh beyond. same sh ∙ show.none_beyond sh (omega (arith, beyond, grown));
+  rates =
+      record {
+        enforced_is = enforces ∙ show.rates.enforced_is;
+        stand =
+            stand_along (puts log v.no) (puts (line ∷ log) v.no) 0 (v.windows ++ ws) (λ sh any. sym (same_puts sh))
+            (stand_more (puts log v.no) 0 v.windows ws unused (λ sh beyond. show.rates.none_beyond sh (omega (arith, beyond, as_wide))) show.rates.stand);
+        none_beyond = λ sh beyond. same_puts sh ∙ show.rates.none_beyond sh (omega (arith, beyond, grown));
+      };
 }
 
 chosen : {A : Type 0} (b : Bool) (x y : A) → b ≡ true → (if b then x else y) ≡ x
@@ -107,10 +121,10 @@ one_more : (b : Bool) (n m : ℕ) → b ≡ true → n ≡ m → (if b then 1 el
 one_more true n m h e = omega (arith, e)
 one_more false n m h e = absurd cc
 
-module _ (v : StreamValue) (log : Journal) (by : ℕ) (show : Shows v log) (is : IsStream v) where
-  pub shows_split : (sh at next : ℕ) (tree : List ShardState) (logs : List LogValue) → next ≡ v.next + 1 → tree ≡ split_shards sh at (record { number = v.next; clock = v.clock }) (v.next + 1) v.tree → logs ≡ v.logs ++ (empty_log ∷ empty_log ∷ [])
-      → Shows (record v { tree = tree; logs = logs; next = next; clock_before = v.clock; cut_before = v.cut }) (split_line log v.clock by v.no sh at ∷ log)
-  shows_split sh at next tree logs drawn tree_is logs_are =
+module _ (v : StreamValue) (log : Journal) (by : ℕ) (show : Shows v log) (as_many : length v.logs ≡ length v.tree) (as_wide : length v.windows ≡ length v.tree) where
+  pub shows_split : (sh at next : ℕ) (tree : List ShardState) (logs : List LogValue) (windows ws : List WindowValue) → next ≡ v.next + 1 → tree ≡ split_shards sh at (record { number = v.next; clock = v.clock }) (v.next + 1) v.tree → logs ≡ v.logs ++ (empty_log ∷ empty_log ∷ []) → windows ≡ v.windows ++ ws → AllByRecursion IsUnused ws
+      → Shows (record v { tree = tree; logs = logs; windows = windows; next = next; clock_before = v.clock; cut_before = v.cut }) (split_line log v.clock by v.no sh at ∷ log)
+  shows_split sh at next tree logs windows ws drawn tree_is logs_are windows_are unused =
       let more : next_number (split_line log v.clock by v.no sh at ∷ log) v.no ≡ v.next + 1 = one_more (v.no == v.no) (next_number log v.no) v.next (same_number v.no) show.next_is in
       let after : shards (split_line log v.clock by v.no sh at ∷ log) v.no ≡ tree =
       chosen (v.no == v.no) _ (shards log v.no) (same_number v.no)
@@ -118,13 +132,14 @@ module _ (v : StreamValue) (log : Journal) (by : ℕ) (show : Shows v log) (is :
       ∙ ap (λ n. split_shards sh at (record { number = v.next; clock = v.clock }) n (shards log v.no)) more
       ∙ ap (split_shards sh at (record { number = v.next; clock = v.clock }) (v.next + 1)) show.shards_are
       ∙ sym tree_is in
-      subst (λ (ls : List LogValue). Shows (record v { tree = tree; logs = ls; next = next; clock_before = v.clock; cut_before = v.cut }) (split_line log v.clock by v.no sh at ∷ log)) (sym logs_are)
-      (shows_grown v log (split_line log v.clock by v.no sh at) tree (empty_log ∷ empty_log ∷ []) next refl refl refl refl refl refl (λ n. refl) after (more ∙ sym drawn) (refl, (refl, tt))
-      (ap length tree_is ∙ length-split sh at (v.next + 1) (record { number = v.next; clock = v.clock }) v.tree) is.as_many show)
+      subst (λ (us : List WindowValue). Shows (record v { tree = tree; logs = logs; windows = us; next = next; clock_before = v.clock; cut_before = v.cut }) (split_line log v.clock by v.no sh at ∷ log)) (sym windows_are)
+      (subst (λ (ls : List LogValue). Shows (record v { tree = tree; logs = ls; windows = v.windows ++ ws; next = next; clock_before = v.clock; cut_before = v.cut }) (split_line log v.clock by v.no sh at ∷ log)) (sym logs_are)
+      (shows_grown v log (split_line log v.clock by v.no sh at) tree (empty_log ∷ empty_log ∷ []) ws next refl refl refl refl refl refl refl (λ n. refl) (λ n. refl) after (more ∙ sym drawn) (refl, (refl, tt)) unused
+      (ap length tree_is ∙ length-split sh at (v.next + 1) (record { number = v.next; clock = v.clock }) v.tree) as_many as_wide show))
 
-  pub shows_merged : (sh other next : ℕ) (tree : List ShardState) (logs : List LogValue) → next ≡ v.next + 1 → tree ≡ merged_shards sh other (record { number = v.next; clock = v.clock }) (v.next + 1) v.tree → logs ≡ v.logs ++ (empty_log ∷ [])
-      → Shows (record v { tree = tree; logs = logs; next = next; clock_before = v.clock; cut_before = v.cut }) (merge_line log v.clock by v.no sh other ∷ log)
-  shows_merged sh other next tree logs drawn tree_is logs_are =
+  pub shows_merged : (sh other next : ℕ) (tree : List ShardState) (logs : List LogValue) (windows ws : List WindowValue) → next ≡ v.next + 1 → tree ≡ merged_shards sh other (record { number = v.next; clock = v.clock }) (v.next + 1) v.tree → logs ≡ v.logs ++ (empty_log ∷ []) → windows ≡ v.windows ++ ws → AllByRecursion IsUnused ws
+      → Shows (record v { tree = tree; logs = logs; windows = windows; next = next; clock_before = v.clock; cut_before = v.cut }) (merge_line log v.clock by v.no sh other ∷ log)
+  shows_merged sh other next tree logs windows ws drawn tree_is logs_are windows_are unused =
       let more : next_number (merge_line log v.clock by v.no sh other ∷ log) v.no ≡ v.next + 1 = one_more (v.no == v.no) (next_number log v.no) v.next (same_number v.no) show.next_is in
       let after : shards (merge_line log v.clock by v.no sh other ∷ log) v.no ≡ tree =
       chosen (v.no == v.no) _ (shards log v.no) (same_number v.no)
@@ -132,27 +147,30 @@ module _ (v : StreamValue) (log : Journal) (by : ℕ) (show : Shows v log) (is :
       ∙ ap (λ n. merged_shards sh other (record { number = v.next; clock = v.clock }) n (shards log v.no)) more
       ∙ ap (merged_shards sh other (record { number = v.next; clock = v.clock }) (v.next + 1)) show.shards_are
       ∙ sym tree_is in
-      subst (λ (ls : List LogValue). Shows (record v { tree = tree; logs = ls; next = next; clock_before = v.clock; cut_before = v.cut }) (merge_line log v.clock by v.no sh other ∷ log)) (sym logs_are)
-      (shows_grown v log (merge_line log v.clock by v.no sh other) tree (empty_log ∷ []) next refl refl refl refl refl refl (λ n. refl) after (more ∙ sym drawn) (refl, tt)
-      (ap length tree_is ∙ length-merged sh other (v.next + 1) (record { number = v.next; clock = v.clock }) v.tree) is.as_many show)
+      subst (λ (us : List WindowValue). Shows (record v { tree = tree; logs = logs; windows = us; next = next; clock_before = v.clock; cut_before = v.cut }) (merge_line log v.clock by v.no sh other ∷ log)) (sym windows_are)
+      (subst (λ (ls : List LogValue). Shows (record v { tree = tree; logs = ls; windows = v.windows ++ ws; next = next; clock_before = v.clock; cut_before = v.cut }) (merge_line log v.clock by v.no sh other ∷ log)) (sym logs_are)
+      (shows_grown v log (merge_line log v.clock by v.no sh other) tree (empty_log ∷ []) ws next refl refl refl refl refl refl refl (λ n. refl) (λ n. refl) after (more ∙ sym drawn) (refl, tt) unused
+      (ap length tree_is ∙ length-merged sh other (v.next + 1) (record { number = v.next; clock = v.clock }) v.tree) as_many as_wide show))
 
-pub stream_split : (v : StreamValue) (sh at next : ℕ) (tree : List ShardState) (logs : List LogValue) → next ≡ v.next + 1 → v.next ≢ last_number → length (filter is_open v.tree) < OPEN_SHARDS → split_refusal v.tree sh at ≡ None → tree ≡ split_shards sh at (record { number = v.next; clock = v.clock }) (v.next + 1) v.tree → logs ≡ v.logs ++ (empty_log ∷ empty_log ∷ []) → IsStream v
-    → IsStream (record v { tree = tree; logs = logs; next = next; clock_before = v.clock; cut_before = v.cut })
-stream_split v sh at next tree logs drawn free few passes tree_is logs_are is =
+pub stream_split : (v : StreamValue) (sh at next : ℕ) (tree : List ShardState) (logs : List LogValue) (windows ws : List WindowValue) → next ≡ v.next + 1 → v.next ≢ last_number → length (filter is_open v.tree) < OPEN_SHARDS → split_refusal v.tree sh at ≡ None → tree ≡ split_shards sh at (record { number = v.next; clock = v.clock }) (v.next + 1) v.tree → logs ≡ v.logs ++ (empty_log ∷ empty_log ∷ []) → windows ≡ v.windows ++ ws → AllByRecursion IsUnused ws → length ws ≡ length (empty_log ∷ empty_log ∷ []) → IsStream v
+    → IsStream (record v { tree = tree; logs = logs; windows = windows; next = next; clock_before = v.clock; cut_before = v.cut })
+stream_split v sh at next tree logs windows ws drawn free few passes tree_is logs_are windows_are unused beside is =
     let how : Closing = record { number = v.next; clock = v.clock } in
-    subst (λ (ls : List LogValue). IsStream (record v { tree = tree; logs = ls; next = next; clock_before = v.clock; cut_before = v.cut })) (sym logs_are)
-    (stream_grown v tree (empty_log ∷ empty_log ∷ []) next drawn free (refl, (refl, tt)) (ap length tree_is ∙ length-split sh at (v.next + 1) how v.tree)
+    subst (λ (us : List WindowValue). IsStream (record v { tree = tree; logs = logs; windows = us; next = next; clock_before = v.clock; cut_before = v.cut })) (sym windows_are)
+    (subst (λ (ls : List LogValue). IsStream (record v { tree = tree; logs = ls; windows = v.windows ++ ws; next = next; clock_before = v.clock; cut_before = v.cut })) (sym logs_are)
+    (stream_grown v tree (empty_log ∷ empty_log ∷ []) ws next drawn free (refl, (refl, tt)) unused beside (ap length tree_is ∙ length-split sh at (v.next + 1) how v.tree)
     (subst (λ (xs : List ShardState). length (filter is_open xs) ≤ OPEN_SHARDS) (sym tree_is) (few_split v.tree sh at (v.next + 1) how few passes))
-    (subst (AllByRecursion (EndsUnder next)) (sym tree_is) (ends_split next sh at (v.next + 1) how v.tree (omega (arith, drawn)) (ends_later v.next next v.tree (omega (arith, drawn)) is.endings))) is)
+    (subst (AllByRecursion (EndsUnder next)) (sym tree_is) (ends_split next sh at (v.next + 1) how v.tree (omega (arith, drawn)) (ends_later v.next next v.tree (omega (arith, drawn)) is.endings))) is))
 
-pub stream_merged : (v : StreamValue) (sh other next : ℕ) (tree : List ShardState) (logs : List LogValue) → next ≡ v.next + 1 → v.next ≢ last_number → merge_refusal v.tree sh other ≡ None → tree ≡ merged_shards sh other (record { number = v.next; clock = v.clock }) (v.next + 1) v.tree → logs ≡ v.logs ++ (empty_log ∷ []) → IsStream v
-    → IsStream (record v { tree = tree; logs = logs; next = next; clock_before = v.clock; cut_before = v.cut })
-stream_merged v sh other next tree logs drawn free passes tree_is logs_are is =
+pub stream_merged : (v : StreamValue) (sh other next : ℕ) (tree : List ShardState) (logs : List LogValue) (windows ws : List WindowValue) → next ≡ v.next + 1 → v.next ≢ last_number → merge_refusal v.tree sh other ≡ None → tree ≡ merged_shards sh other (record { number = v.next; clock = v.clock }) (v.next + 1) v.tree → logs ≡ v.logs ++ (empty_log ∷ []) → windows ≡ v.windows ++ ws → AllByRecursion IsUnused ws → length ws ≡ length (empty_log ∷ []) → IsStream v
+    → IsStream (record v { tree = tree; logs = logs; windows = windows; next = next; clock_before = v.clock; cut_before = v.cut })
+stream_merged v sh other next tree logs windows ws drawn free passes tree_is logs_are windows_are unused beside is =
     let how : Closing = record { number = v.next; clock = v.clock } in
-    subst (λ (ls : List LogValue). IsStream (record v { tree = tree; logs = ls; next = next; clock_before = v.clock; cut_before = v.cut })) (sym logs_are)
-    (stream_grown v tree (empty_log ∷ []) next drawn free (refl, tt) (ap length tree_is ∙ length-merged sh other (v.next + 1) how v.tree)
+    subst (λ (us : List WindowValue). IsStream (record v { tree = tree; logs = logs; windows = us; next = next; clock_before = v.clock; cut_before = v.cut })) (sym windows_are)
+    (subst (λ (ls : List LogValue). IsStream (record v { tree = tree; logs = ls; windows = v.windows ++ ws; next = next; clock_before = v.clock; cut_before = v.cut })) (sym logs_are)
+    (stream_grown v tree (empty_log ∷ []) ws next drawn free (refl, tt) unused beside (ap length tree_is ∙ length-merged sh other (v.next + 1) how v.tree)
     (subst (λ (xs : List ShardState). length (filter is_open xs) ≤ OPEN_SHARDS) (sym tree_is) (few_merged v.tree sh other (v.next + 1) how is.few passes))
-    (subst (AllByRecursion (EndsUnder next)) (sym tree_is) (ends_merged next sh other (v.next + 1) how v.tree (omega (arith, drawn)) (ends_later v.next next v.tree (omega (arith, drawn)) is.endings))) is)
+    (subst (AllByRecursion (EndsUnder next)) (sym tree_is) (ends_merged next sh other (v.next + 1) how v.tree (omega (arith, drawn)) (ends_later v.next next v.tree (omega (arith, drawn)) is.endings))) is))
 
 -- ---- what the calls owe
 

@@ -1,5 +1,5 @@
 -- A change of the retention: its decision, what the stream shows after it, and that it is a stream still.
-use Rattle.std.proofs.Common.{◌≡◌, ℕ, ◌*◌, max, ◌≤◌, Bool, true, false, [], ◌∷◌, Option, refl, sym, ap, ◌∙◌, arith}
+use Rattle.std.proofs.Common.{◌≡◌, ℕ, ◌*◌, max, ◌≤◌, Bool, true, false, [], ◌∷◌, length, Option, refl, sym, ap, ◌∙◌, arith}
 use Rattle.std.specs.Prelude.{◌==◌, nat_lt, if◌then◌else◌, Ok, Err}
 use Rattle.kds_defs.proofs.Decisions.{after_accepted, after_refused, passed_if, refused_if}
 use Rattle.kds_defs.specs.declared.entry.Entry.TheVariants as entry
@@ -16,6 +16,7 @@ use Rattle.kds_stream.proofs.Cuts.{changed_floor, cut_floor, later_floor, trims_
 use Rattle.kds_stream.proofs.LogLemmas.{arrived_later}
 use Rattle.kds_stream.proofs.Others.{kept_along}
 use Rattle.kds_stream.proofs.Puts.{same_number}
+use Rattle.kds_stream.proofs.Rates.{rated_later}
 use Rattle.kds_stream.specs.Showing.{Shows}
 use Rattle.kds_stream.specs.Value.{IsStream, StreamValue, cut_at, later_cut}
 
@@ -62,6 +63,7 @@ module _ (v : StreamValue) (log : Journal) (by wanted : ℕ) (raise : Bool) (sho
         floor_is = floor_kept ∙ ap floor_of (sym is);
         kept = kept_along (floor_of cut) log (kept_line v by wanted ∷ log) v.no 0 v.logs (λ sh. refl) (kept_higher (floor_of v.cut) (floor_of cut) log v.no 0 v.logs higher shown.kept);
         none_beyond = shown.none_beyond;
+        rates = record { enforced_is = shown.rates.enforced_is; stand = shown.rates.stand; none_beyond = shown.rates.none_beyond };
       }
 
   pub keep_done : (cut : Option ℕ) → cut ≡ later_cut v.cut (cut_at v.clock wanted) → false ≡ (if raise then nat_lt wanted v.hours else nat_lt v.hours wanted)
@@ -85,6 +87,7 @@ stream_kept v wanted cut later lasting is =
       order = omega arith;
       trims = trims;
       trims_before = trims;
+      rated = rated_later v.clock_before v.clock (length v.tree) v.windows is.order is.rated;
       drawn = is.drawn;
       fits = is.fits;
     }

@@ -1,5 +1,7 @@
 pub mod Fields
 pub mod Reading
+pub mod Rating
 pub mod Value
 pub mod Showing
 pub mod Routes
+pub mod Steps

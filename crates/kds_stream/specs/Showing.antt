@@ -10,10 +10,13 @@ use Rattle.kds_defs.specs.declared.reply.Reply.TheVariants as reply
 use Rattle.kds_defs.specs.Decision.{Accepted, Decision, Refused}
 use Rattle.kds_defs.specs.Histories.{answer_of, lines_of}
 use Rattle.kds_defs.specs.Journal.{Journal, Line, plain_line, with_lines}
+use Rattle.kds_defs.specs.PutCommands.{is_enforced}
+use Rattle.kds_defs.specs.Rates.{puts}
 use Rattle.kds_defs.specs.Records.{Logged, left_among, next_number, records}
 use Rattle.kds_defs.specs.Shards.{is_open, shards}
 use Rattle.kds_defs.specs.Streams.{floor_of, floor_of_lines, hours, is_live, made_at, name_of, trim_floor, was_made}
 use Rattle.kds_log.specs.Log.{LogValue}
+use Rattle.kds_stream.specs.Rating.{ShowsRates}
 use Rattle.kds_stream.specs.Value.{StreamValue}
 
 -- of these records all but some that arrived below the floor are kept
@@ -39,6 +42,7 @@ pub record Shows (v : StreamValue) (log : Journal) : Type 0 where
   pub floor_is : trim_floor log v.clock v.no ≡ floor_of v.cut
   pub kept : AreKept (floor_of v.cut) log v.no 0 v.logs
   pub none_beyond : (sh : ℕ) → length v.tree ≤ sh → records log v.no sh ≡ []
+  pub rates : ShowsRates log v.no v.enforced (length v.tree) v.windows
 
 -- no line of the journal speaks of this stream
 pub record IsFresh (log : Journal) (s : ℕ) : Type 0 where
@@ -48,15 +52,18 @@ pub record IsFresh (log : Journal) (s : ℕ) : Type 0 where
   pub no_floor : floor_of_lines log s ≡ 0
   pub no_shards : shards log s ≡ []
   pub no_records : (sh : ℕ) → records log s sh ≡ []
+  pub no_puts : (sh : ℕ) → puts log s sh ≡ []
+  pub not_enforced : is_enforced log s ≡ false
 
 -- the stream that an entry speaks of, if it isn't of a lease
 abbrev pub stream_of : Entry → Option ℕ
 stream_of (entry.Made s name count) = Some s
 stream_of (entry.Gone s) = Some s
-stream_of (entry.Put s sh number hash bytes) = Some s
+stream_of (entry.Put s sh number hash bytes key_bytes) = Some s
 stream_of (entry.Split s sh at number low high) = Some s
 stream_of (entry.Merged s sh other number child) = Some s
 stream_of (entry.Kept s hours) = Some s
+stream_of (entry.Enforced s on) = Some s
 stream_of _ = None
 
 -- what a call that made one stream of another answered is the decision at it, of every journal that it showed; and it

@@ -7,10 +7,12 @@ use Rattle.kds_defs.specs.Records.{Logged, left_among}
 use Rattle.kds_defs.specs.Shards.{Closing, ShardState, is_closed_below, is_open}
 use Rattle.kds_defs.specs.Streams.{floor_of}
 use Rattle.kds_log.specs.Log.{LogValue}
+use Rattle.kds_rate.specs.Windows.{WindowValue}
+use Rattle.kds_stream.specs.Rating.{AreRated}
 
--- its number, its name, when it was made, its retention in hours, its shards, the log of each, its next number, its
--- clock and its cut; what clock and cut were before the last advance, if nothing has changed since; and the place of
--- the log that is settled next
+-- its number, its name, when it was made, its retention in hours, its shards, the log of each, the window of each,
+-- whether the limits on throughput are on, its next number, its clock and its cut; what clock and cut were before the
+-- last advance, if nothing has changed since; and the place of the log that is settled next
 pub record StreamValue : Type 0 where
   pub no : ℕ
   pub name : List ℕ
@@ -18,6 +20,8 @@ pub record StreamValue : Type 0 where
   pub hours : ℕ
   pub tree : List ShardState
   pub logs : List LogValue
+  pub windows : List WindowValue
+  pub enforced : Bool
   pub next : ℕ
   pub clock : ℕ
   pub cut : Option ℕ
@@ -57,6 +61,7 @@ pub record IsStream (v : StreamValue) : Type 0 where
   pub order : v.clock_before ≤ v.clock
   pub trims : floor_of v.cut ≤ v.clock
   pub trims_before : floor_of v.cut_before ≤ v.clock_before
+  pub rated : AreRated v.clock_before (length v.tree) v.windows
   pub drawn : 1 ≤ v.next
   pub fits : v.next < 2 ^ 64
 

@@ -5,7 +5,9 @@ mod laws;
 mod logs;
 mod reading;
 mod routes;
+mod steps;
 mod stream;
+mod windows;
 
 pub use laws::{fresh, other_lines};
 pub use stream::Stream;

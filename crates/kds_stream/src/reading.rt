@@ -2,6 +2,7 @@
 ghost use Rattle.std.specs.Prelude.{◌≡◌, ◌&&◌, is_some, ◌-◌, ◌^◌, ◌<◌, ◌≤◌, map, if◌then◌else◌, IfOk, Some, None, true};
 ghost use Rattle.std.specs.List.{AllByRecursion};
 ghost use Rattle.kds_defs.specs.Listings.{is_good_after, is_good_at, is_good_start, last_no};
+ghost use Rattle.kds_defs.specs.Origins.{iterator_start};
 ghost use Rattle.kds_defs.specs.Records.{first_at, left_among, numbers_of, place_after, stored};
 ghost use Rattle.kds_defs.specs.Shards.{ShardState, shown};
 ghost use Rattle.kds_defs.specs.Streams.{floor_of};
@@ -10,7 +11,7 @@ ghost use Rattle.kds_stream.specs.Reading.{batch_among, behind_by, position_from
 ghost use Rattle.kds_stream.specs.Value.{IsBelow, IsUnder};
 
 use kds_base::{Items, Memory, Moment, Seq, ShardNo};
-use kds_defs::{Shard, Start, Stored};
+use kds_defs::{Origin, Shard, Start, Stored};
 use kds_log::ShardLog;
 use std::alloc::Global;
 
@@ -44,6 +45,18 @@ fn first_since(log: &ShardLog, cut: Option<Moment>, moment: Moment, next: Seq) -
     match log.at_time(cut, moment) {
         Some(seq) => seq.0,
         None => next.0,
+    }
+}
+
+/// The position where reading begins from an origin. `next` is the stream's next number, `log` the shard's, whose
+/// records up to the cut are trimmed.
+pub fn origin_position(from: Origin, next: Seq, log: &ShardLog, cut: Option<Moment>) -> u64
+    ensures { result ≡ position_from next (left_among (floor_of cut) 0 log.now.kept) (iterator_start from) }
+{
+    match from {
+        Origin::TrimHorizon => 0,
+        Origin::Latest => next.0,
+        Origin::Time(moment) => first_since(log, cut, moment, next),
     }
 }
 

@@ -1,14 +1,19 @@
 //! Records on their way to the logs of their shards.
-ghost use Rattle.std.specs.Prelude.{◌≡◌, ◌+◌, ◌^◌, ◌<◌, ◌≤◌, ℕ, length, map, IfOk, OnErr, OnOk};
+ghost use Rattle.std.specs.Prelude.{◌≡◌, ◌+◌, ◌^◌, ◌<◌, ◌≤◌, ◌∷◌, ◌++◌, ◌&&◌, [], true, false, ℕ, List, length, map, IfNone, IfOk, IfSome, OnErr, OnOk};
 ghost use Rattle.std.specs.List.{AllByRecursion, count_by};
+ghost use Rattle.kds_defs.specs.Lawful.{item_bytes};
+ghost use Rattle.kds_defs.specs.Rates.{SizedPut, is_throttled};
 ghost use Rattle.kds_defs.specs.Streams.{floor_of};
 ghost use Rattle.kds_log.specs.Log.{log_of};
-ghost use Rattle.kds_stream.specs.Routes.{AreInTurn, CanTake, CanTakeAll, IsWithin, is_place_of, place_of, room_at, routed_item, routed_items, settled_each, with_each};
+ghost use Rattle.kds_stream.specs.Rating.{IsCounted, StandFor, with_put};
+ghost use Rattle.kds_stream.specs.Routes.{AreInTurn, ArePlaced, AreRouted, CanTake, CanTakeAll, IsRouted, is_held, is_place_of, place_of, room_at, settled_each, stored_item, taken, with_each};
 
 use crate::logs::settle_at;
+use crate::windows::{admits_at, count_at};
 use kds_base::{Items, Memory, Moment, Seq, ShardNo};
-use kds_defs::{NewItem, Place, Stored};
+use kds_defs::{NewItem, Outcome, Place, Stored};
 use kds_log::ShardLog;
+use kds_rate::Window;
 use kds_tree::ShardTree;
 use std::alloc::Global;
 use std::collections::VecDeque;
@@ -20,48 +25,151 @@ pub struct Routed {
     pub item: Stored,
 }
 
-/// The record of an item with this number, stored at the clock. Key and payload are moved.
-fn route(tree: &ShardTree, item: NewItem, seq: Seq, clock: Moment) -> Routed
-    ensures value { result ≡ routed_item tree.now clock seq item }
-    ensures within { IsWithin (length tree.now) result }
+/// The payload and key bytes of an item.
+pub fn item_bytes(item: &NewItem) -> u64
+    ensures { result ≡ item_bytes item.now }
 {
-    Routed {
-        shard: tree.home(item.hash),
-        item: Stored {
+    item.payload.as_slice().len() as u64 + item.key.as_slice().len() as u64
+}
+
+/// What is made of items that are put together: the records of those that are taken, and where these stand; what
+/// becomes of each item; and the next number.
+#[derive(Drop)]
+pub struct Routes {
+    pub routed: VecDeque<Routed>,
+    pub places: Items<Place>,
+    pub outcomes: Items<Outcome>,
+    pub next: u64,
+}
+
+impl Routes {
+    /// Those of no items.
+    fn new(alloc: Global, next: u64) -> Routes
+        ensures routed { result.routed.items ≡ [] }
+        ensures places { result.places ≡ [] }
+        ensures outcomes { result.outcomes ≡ [] }
+        ensures next { result.next ≡ next }
+    {
+        Routes {
+            routed: VecDeque::new(alloc),
+            places: Items::new(alloc),
+            outcomes: Items::new(alloc),
+            next,
+        }
+    }
+
+    /// Adds an item that the limits hold back from its shard.
+    fn hold_back(&mut self, shard: ShardNo) -> Result<(), Memory>
+        ensures routed { self.new.routed.items ≡ self.old.routed.items }
+        ensures places { self.new.places ≡ self.old.places }
+        ensures outcomes { OnOk result (self.new.outcomes ≡ self.old.outcomes ++ Outcome.Throttled shard ∷ []) }
+        ensures next { self.new.next ≡ self.old.next }
+    {
+        self.outcomes.push(Outcome::Throttled(shard))
+    }
+
+    /// Adds the record of an item that its shard takes, stored at the clock with the next number. Key and payload are
+    /// moved.
+    fn store(&mut self, shard: ShardNo, item: NewItem, clock: Moment) -> Result<(), Memory>
+        requires { self.old.next + 1 < 2 ^ 64 }
+        ensures routed { OnOk result (self.new.routed.items ≡ self.old.routed.items ++ stored_item shard clock self.old.next item ∷ []) }
+        ensures places { OnOk result (self.new.places ≡ self.old.places ++ record { shard = shard; seq = self.old.next } ∷ []) }
+        ensures outcomes { OnOk result (self.new.outcomes ≡ self.old.outcomes ++ Outcome.Stored (record { shard = shard; seq = self.old.next }) ∷ []) }
+        ensures next { OnOk result (self.new.next ≡ self.old.next + 1) }
+    {
+        let seq = Seq(self.next);
+        self.places.push(Place { shard, seq })?;
+        self.outcomes.push(Outcome::Stored(Place { shard, seq }))?;
+        let item = Stored {
             seq,
             arrival: clock,
             key: item.key,
             payload: item.payload,
-        },
+        };
+        self.routed.push_back(Routed { shard, item })?;
+        self.next += 1;
+        Ok(())
     }
 }
 
-/// The records of items with numbers from `first` on, stored at the clock, and the place of each.
+/// Whether the limits are on, and the shard takes no record of so many payload and key bytes now. One that is taken
+/// is counted.
+fn holds_back(
+    windows: &mut [Window],
+    enforced: bool,
+    shard: ShardNo,
+    clock: Moment,
+    bytes: u64,
+) -> bool
+    requires within { shard < length windows.old }
+    requires counted { AllByRecursion (IsCounted clock) windows.old }
+    ensures held { (f : ℕ → List SizedPut) → StandFor f 0 windows.old → result ≡ (enforced && is_throttled (f shard) clock bytes) }
+    ensures same { result ≡ true → windows.new ≡ windows.old }
+    ensures stand { result ≡ false → (f : ℕ → List SizedPut) → StandFor f 0 windows.old → StandFor (with_put shard (record { clock = clock; bytes = bytes }) f) 0 windows.new }
+    ensures counted { AllByRecursion (IsCounted clock) windows.new }
+{
+    if enforced && !admits_at(windows, shard.0 as usize, clock, bytes) {
+        return true;
+    }
+    count_at(windows, shard.0 as usize, clock, bytes);
+    false
+}
+
+/// Adds an item to the routes: its record, which its home takes, or that it is held back. `false` where it would be
+/// taken and the numbers are used up.
+fn route_one(
+    routes: &mut Routes,
+    tree: &ShardTree,
+    windows: &mut [Window],
+    enforced: bool,
+    item: NewItem,
+    clock: Moment,
+) -> Result<bool, Memory>
+    requires many { length windows.old ≡ length tree.now.shards }
+    requires counted { AllByRecursion (IsCounted clock) windows.old }
+    ensures routed { IfOk result (λ more. more ≡ true → (f : ℕ → List SizedPut) → StandFor f 0 windows.old → IsRouted tree.now.shards clock enforced f item routes.old routes.new windows.new) }
+    ensures spent { IfOk result (λ more. more ≡ false → (f : ℕ → List SizedPut) → StandFor f 0 windows.old → (is_held tree.now.shards clock enforced f item ≡ false) × (routes.old.next + 1 ≡ 2 ^ 64)) }
+    ensures placed { IfOk result (λ more. more ≡ true → (first : ℕ) → ArePlaced tree.now.shards clock first routes.old → ArePlaced tree.now.shards clock first routes.new) }
+    ensures counted { AllByRecursion (IsCounted clock) windows.new }
+{
+    let shard = tree.home(item.hash);
+    let bytes = item_bytes(&item);
+    if holds_back(windows, enforced, shard, clock, bytes) {
+        routes.hold_back(shard)?;
+        return Ok(true);
+    }
+    if routes.next == u64::MAX {
+        return Ok(false);
+    }
+    routes.store(shard, item, clock)?;
+    Ok(true)
+}
+
+/// What is made of items, of which the first that is taken gets the number `first`: each is judged and counted after
+/// those before. `None` exactly where the numbers don't suffice.
 pub fn route_all(
     alloc: Global,
     tree: &ShardTree,
+    windows: &mut [Window],
+    enforced: bool,
     mut items: VecDeque<NewItem>,
     first: u64,
     clock: Moment,
-) -> Result<(VecDeque<Routed>, Items<Place>), Memory>
-    requires { first + length items.items < 2 ^ 64 }
-    ensures routed { IfOk result (λ r. r.0.items ≡ routed_items tree.now clock first items.items) }
-    ensures within { IfOk result (λ r. AllByRecursion (IsWithin (length tree.now)) r.0.items) }
-    ensures places { IfOk result (λ r. r.1 ≡ map place_of r.0.items) }
+) -> Result<Option<Routes>, Memory>
+    requires many { length windows.old ≡ length tree.now.shards }
+    requires counted { AllByRecursion (IsCounted clock) windows.old }
+    ensures routed { IfOk result (λ o. IfSome o (λ r. (f : ℕ → List SizedPut) → StandFor f 0 windows.old → AreRouted tree.now.shards clock enforced f first items.items r windows.new)) }
+    ensures placed { IfOk result (λ o. IfSome o (λ r. ArePlaced tree.now.shards clock first r)) }
+    ensures spent { IfOk result (λ o. IfNone o ((f : ℕ → List SizedPut) → StandFor f 0 windows.old → 2 ^ 64 ≤ first + length (taken tree.now.shards clock enforced f items.items))) }
+    ensures counted { AllByRecursion (IsCounted clock) windows.new }
 {
-    let mut routed = VecDeque::with_capacity(alloc, items.len())?;
-    let mut places = Items::new(alloc);
-    let mut number = first;
+    let mut routes = Routes::new(alloc, first);
     while let Some(item) = items.pop_front() {
-        let next = route(tree, item, Seq(number), clock);
-        places.push(Place {
-            shard: next.shard,
-            seq: Seq(number),
-        })?;
-        routed.push_back(next)?;
-        number += 1;
+        if !route_one(&mut routes, tree, windows, enforced, item, clock)? {
+            return Ok(None);
+        }
     }
-    Ok((routed, places))
+    Ok(Some(routes))
 }
 
 /// Gives up what the log of each place has reserved. The logs are as before.

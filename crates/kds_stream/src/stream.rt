@@ -10,22 +10,26 @@ ghost use Rattle.kds_stream.specs.Showing.{IsFresh, Shows};
 
 mod about;
 mod clock;
+mod limits;
 mod merges;
 mod puts;
 mod reads;
 mod retention;
+mod scales;
 mod splits;
 
 use crate::logs::new_logs;
 use crate::stream::clock::cut_at;
+use crate::windows::new_windows;
 use kds_base::{Memory, Moment, Name, Seq, StreamNo};
 use kds_defs::limits::FIRST_HOURS;
 use kds_log::ShardLog;
+use kds_rate::Window;
 use kds_tree::ShardTree;
 use std::alloc::Global;
 use std::marker::Model;
 
-/// One stream: its shards, the log of each, and the numbers and moments that it goes by. Contracts see its
+/// One stream: its shards, the log and the window of each, and the numbers and moments that it goes by. Contracts see its
 /// values, and say which journals it shows.
 #[derive(Drop)]
 pub struct Stream {
@@ -35,6 +39,10 @@ pub struct Stream {
     hours: u32,
     tree: ShardTree,
     logs: Vec<ShardLog>,
+    /// What each shard takes within a second.
+    windows: Vec<Window>,
+    /// Whether the limits on throughput are on.
+    enforced: bool,
     next: Seq,
     clock: Moment,
     cut: Option<Moment>,
@@ -73,6 +81,7 @@ impl Stream {
     {
         let tree = ShardTree::new(alloc, shards)?;
         let logs = new_logs(alloc, shards)?;
+        let windows = new_windows(alloc, shards)?;
         Ok(Stream {
             no,
             name,
@@ -80,6 +89,8 @@ impl Stream {
             hours: FIRST_HOURS,
             tree,
             logs,
+            windows,
+            enforced: false,
             next: Seq(1),
             clock: made,
             cut: cut_at(made, FIRST_HOURS),
@@ -105,7 +116,7 @@ impl Stream {
 
     /// Its shards.
     pub fn tree(&self) -> &ShardTree
-        ensures { result.now ≡ self.now.tree }
+        ensures { result.now.shards ≡ self.now.tree }
     {
         &self.tree
     }

@@ -10,6 +10,7 @@ use crate::stream::Stream;
 use kds_base::{Memory, Seq, ShardNo};
 use kds_defs::{Answer, Refusal, Reply};
 use kds_log::ShardLog;
+use kds_rate::Window;
 
 impl Stream {
     /// Why a merge of the shard with the other is refused, if it is.
@@ -48,10 +49,12 @@ impl Stream {
         let seq = self.next;
         let alloc = *self.logs.allocator();
         self.logs.reserve(1)?;
+        self.windows.reserve(1)?;
         // The tree doesn't refuse the merge: it was asked.
         let _child = self.tree.merge(shard, other, seq, self.clock)?;
         self.next = Seq(seq.0 + 1);
         self.logs.push_reserved(ShardLog::new(alloc, self.next));
+        self.windows.push_reserved(Window::new());
         self.clock_before = self.clock;
         self.cut_before = self.cut;
         Ok(Ok(Reply::Done))

@@ -4,8 +4,10 @@ ghost use Rattle.std.specs.List.{AllByRecursion};
 ghost use Rattle.std.specs.Option.{option_map};
 ghost use Rattle.kds_defs.specs.Histories.{answer_of};
 ghost use Rattle.kds_defs.specs.Journal.{Journal};
+ghost use Rattle.kds_defs.specs.Keys.{ref};
 ghost use Rattle.kds_defs.specs.Lawful.{IsLimit};
 ghost use Rattle.kds_defs.specs.Listings.{get_iterator, get_records, list_shards, refs_of};
+ghost use Rattle.kds_defs.specs.Origins.{origin_position};
 ghost use Rattle.kds_defs.specs.Records.{batch, stored};
 ghost use Rattle.kds_defs.specs.Shards.{listed_among, shown};
 ghost use Rattle.kds_defs.specs.Streams.{floor_of};
@@ -13,10 +15,10 @@ ghost use Rattle.kds_stream.specs.Reading.{read_ends};
 ghost use Rattle.kds_stream.specs.Showing.{Shows};
 ghost use Rattle.kds_stream.specs.Value.{IsUnder, is_listed_at, listed_at};
 
-use crate::reading::{batch_at, behind, is_end, last_no, position};
+use crate::reading::{batch_at, behind, is_end, last_no, origin_position, position};
 use crate::stream::Stream;
 use kds_base::{Items, Memory, ShardNo, ShardRef};
-use kds_defs::{Answer, Iter, Page, Refusal, Reply, Shard, Start, Stored};
+use kds_defs::{Answer, Iter, Origin, Page, Refusal, Reply, Shard, Start, Stored};
 use kds_token::iter_expired;
 use std::alloc::Global;
 
@@ -133,6 +135,17 @@ impl Stream {
             shards,
             next: more.then_some(page),
         }))
+    }
+
+    /// The position where reading of a listed shard begins from an origin: 0 at the trim horizon, the stream's next
+    /// number at LATEST, and at a moment the number of the first untrimmed record that arrived at or after it, or
+    /// the next number where there is none (Kinesis API Reference, GetShardIterator, ShardIteratorType).
+    pub fn position(&self, shard: ShardNo, from: Origin) -> u64
+        requires { is_listed_at (floor_of self.now.cut) (slice_get self.now.tree shard) ≡ true }
+        ensures { (log : Journal) → Shows self.now log → result ≡ origin_position log self.now.clock (ref self.now.no shard) from }
+    {
+        let log = &self.logs[shard.0 as usize];
+        origin_position(from, self.next, log, self.cut)
     }
 
     /// A batch of a listed shard at a position, and whether the shard ends after it: it is closed, and no

@@ -14,6 +14,7 @@ use kds_base::{Memory, Seq, ShardNo};
 use kds_defs::limits::OPEN_SHARDS;
 use kds_defs::{Answer, Refusal, Reply};
 use kds_log::ShardLog;
+use kds_rate::Window;
 
 impl Stream {
     /// Whether no further shard may be open: over all streams, as `room` tells, or in this one.
@@ -63,11 +64,14 @@ impl Stream {
         let seq = self.next;
         let alloc = *self.logs.allocator();
         self.logs.reserve(2)?;
+        self.windows.reserve(2)?;
         // The tree doesn't refuse the split: it was asked.
         let _children = self.tree.split(shard, at, seq, self.clock)?;
         self.next = Seq(seq.0 + 1);
         self.logs.push_reserved(ShardLog::new(alloc, self.next));
         self.logs.push_reserved(ShardLog::new(alloc, self.next));
+        self.windows.push_reserved(Window::new());
+        self.windows.push_reserved(Window::new());
         self.clock_before = self.clock;
         self.cut_before = self.cut;
         Ok(Ok(Reply::Done))

@@ -1,16 +1,18 @@
-use Rattle.std.proofs.Common.{◌≡◌, ◌+◌, ◌++◌, length, map}
+use Rattle.std.proofs.Common.{◌≡◌, ℕ, List, length}
 use Rattle.std.specs.List.{AllByRecursion}
-use Rattle.kds_stream.specs.Routes.{IsWithin, place_of, routed_items}
+use Rattle.kds_defs.specs.Rates.{SizedPut}
+use Rattle.kds_stream.specs.Rating.{IsCounted, StandFor}
+use Rattle.kds_stream.specs.Routes.{ArePlaced, GoesOn}
 use Rattle.kds_stream.proofs.routes.route_all.Given as goal
 
--- the records so far, and those of the items that are left, are those of all
+-- the routes so far, with the items that are left, go on to those of all
 abbrev pub invariant-loop-item : goal.invariant-loop-item
 invariant-loop-item l =
     record {
-      goes_on : l.routed.items ++ routed_items l.tree l.clock l.number l.items.items ≡ routed_items l.tree l.clock l.first l.initial.items.items;
-      within : AllByRecursion (IsWithin (length l.tree)) l.routed.items;
-      places : l.places ≡ map place_of l.routed.items;
-      number : l.number + length l.items.items ≡ l.first + length l.initial.items.items;
+      goes_on : (f : ℕ → List SizedPut) → StandFor f 0 l.initial.windows → GoesOn l.tree.shards l.clock l.enforced f l.first l.initial.items.items l.items.items l.routes l.windows;
+      placed : ArePlaced l.tree.shards l.clock l.first l.routes;
+      counted : AllByRecursion (IsCounted l.clock) l.windows;
+      many : length l.windows ≡ length l.tree.shards;
     }
 
 abbrev pub decreases-loop-item : goal.decreases-loop-item

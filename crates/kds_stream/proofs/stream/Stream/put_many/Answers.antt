@@ -1,77 +1,102 @@
-use Rattle.std.proofs.Common.{ℕ, ◌^◌, ◌<◌, ◌≤◌, List, length, map, refl, sym, subst, ap, ◌∙◌, arith}
+use Rattle.std.proofs.Common.{◌≡◌, ℕ, ◌^◌, ◌≤◌, ◌+◌, ◌++◌, List, length, map, take, drop, refl, sym, subst, ap, ◌∙◌, arith}
+use Rattle.std.specs.Prelude.{IfNone, IfSome}
 use Rattle.std.specs.List.{AllByRecursion}
 use Rattle.kds_defs.specs.Histories.{lines_of}
 use Rattle.kds_defs.specs.Journal.{with_lines}
-use Rattle.kds_defs.specs.StreamCommands.{put_many}
+use Rattle.kds_defs.specs.PutCommands.{put_many}
+use Rattle.kds_defs.specs.Rates.{SizedPut, puts}
 use Rattle.kds_defs.specs.Streams.{floor_of}
 use Rattle.kds_log.specs.Log.{LogValue, LogWithRoom, log_of}
+use Rattle.kds_rate.specs.Windows.{WindowValue}
 use Rattle.kds_stream.proofs.LogLemmas.{written_back}
 use Rattle.kds_stream.proofs.Puts.{led_along}
-use Rattle.kds_stream.proofs.Routings.{can_take, in_turn, puts_done, puts_spent, shows_each, stream_each, stream_puts, with_logs}
+use Rattle.kds_stream.proofs.Routings.{can_take, in_turn, puts_done, puts_spent, shows_each, stream_each, stream_puts, stream_rated, with_logs}
 use Rattle.kds_stream.specs.declared.routes.Routed.{Routed}
-use Rattle.kds_stream.specs.Routes.{CanTake, routed_items, settled_each, with_each}
+use Rattle.kds_stream.specs.declared.routes.Routes.{Routes}
+use Rattle.kds_stream.specs.Rating.{AreRated, StandFor}
+use Rattle.kds_stream.specs.Routes.{ArePlaced, AreRouted, CanTake, routed_items, settled_each, taken, with_each}
 use Rattle.kds_stream.specs.Showing.{Shows}
 use Rattle.kds_stream.specs.Value.{IsStream, StreamValue}
 use Rattle.kds_stream.specs.contracts.stream.Stream.{the_view}
 use Rattle.kds_stream.proofs.stream.Stream.put_many.Goals as goal
 
-at_least : (n : ℕ) → (n < 2 ^ 64 → ⊥) → 2 ^ 64 ≤ n
-at_least n h = omega (arith, h)
-
 pub returns-in_default-clause-answered : goal.returns-in_default-clause-answered
 returns-in_default-clause-answered c log by shown =
-    let past = at_least _ c.in_default.ensures in
-    let own = ap (λ (v : StreamValue). v.next) c.self.view_is in
+    let v : StreamValue = the_view c.self.inside in
+    let shown' : Shows v log = subst (λ (u : StreamValue). Shows u log) (sym c.self.view_is) shown in
     let same = c.from_vec-items.ensures.items ∙ c.into_vec.ensures in
-    puts_spent c.args.self.now log by c.args.items shown (omega (arith, past, own, c.seq.view_is, c.len.ensures, ap length same))
+    let lent = c.deref_mut.ensures.value ∙ c.in_ok-windows.ensures.items ∙ c.deref.ensures.value in
+    let past = subst (λ o. IfNone o ((f : ℕ → List SizedPut) → StandFor f 0 c.deref_mut.result.now → 2 ^ 64 ≤ c.seq.inside.0 + length (taken v.tree v.clock v.enforced f c.from_vec-items.result.items))) c.in_default.is c.in_ok-made.ensures.spent in
+    let over = past (puts log v.no) (subst (StandFor (puts log v.no) 0) (sym lent) shown'.rates.stand) in
+    let over' : 2 ^ 64 ≤ v.next + length (taken v.tree v.clock v.enforced (puts log v.no) c.args.items) =
+    subst (λ n. 2 ^ 64 ≤ n + length (taken v.tree v.clock v.enforced (puts log v.no) c.args.items)) c.seq.view_is
+    (subst (λ items. 2 ^ 64 ≤ c.seq.inside.0 + length (taken v.tree v.clock v.enforced (puts log v.no) items)) same over) in
+    puts_spent c.args.self.now log by c.args.items shown (subst (λ (u : StreamValue). 2 ^ 64 ≤ u.next + length (taken u.tree u.clock u.enforced (puts log u.no) c.args.items)) c.self.view_is over')
 
 pub put_all-requires-clause-each : goal.put_all-requires-clause-each
 put_all-requires-clause-each c =
     let v : StreamValue = the_view c.self.inside in
-    let same = c.from_vec-items.ensures.items ∙ c.into_vec.ensures in
-    let are = c.in_ok-routed.ensures.routed ∙ ap (λ n. routed_items v.tree v.clock n c.from_vec-items.result.items) c.seq.view_is ∙ ap (routed_items v.tree v.clock v.next) same in
-    subst (λ (ls : List LogWithRoom). AllByRecursion (CanTake (map log_of ls)) c.in_ok-routed.routed.items) (sym c.deref_mut.ensures.value) (can_take v c.args.items c.in_ok-routed.routed.items c.self.invariant are c.in_ok-routed.ensures.within)
+    let placed = subst (λ o. IfSome o (λ (r : Routes). ArePlaced v.tree v.clock c.seq.inside.0 r)) c.in-Some.is c.in_ok-made.ensures.placed in
+    let are = placed.are ∙ ap (λ n. routed_items v.tree v.clock n placed.items) c.seq.view_is in
+    subst (λ (ls : List LogWithRoom). AllByRecursion (CanTake (map log_of ls)) c.in-Some.field-0.routed.items) (sym c.deref_mut-2.ensures.value) (can_take v placed.items c.in-Some.field-0.routed.items c.self.invariant are placed.within)
 
 pub put_all-requires-clause-in_turn : goal.put_all-requires-clause-in_turn
 put_all-requires-clause-in_turn c =
     let v : StreamValue = the_view c.self.inside in
-    let same = c.from_vec-items.ensures.items ∙ c.into_vec.ensures in
-    let are = c.in_ok-routed.ensures.routed ∙ ap (λ n. routed_items v.tree v.clock n c.from_vec-items.result.items) c.seq.view_is ∙ ap (routed_items v.tree v.clock v.next) same in
-    in_turn v c.args.items c.in_ok-routed.routed.items are
+    let placed = subst (λ o. IfSome o (λ (r : Routes). ArePlaced v.tree v.clock c.seq.inside.0 r)) c.in-Some.is c.in_ok-made.ensures.placed in
+    let are = placed.are ∙ ap (λ n. routed_items v.tree v.clock n placed.items) c.seq.view_is in
+    in_turn v placed.items c.in-Some.field-0.routed.items are
 
 pub invariant_of-self-2 : goal.invariant_of-self-2
 invariant_of-self-2 c =
     let v : StreamValue = the_view c.self.inside in
     let f = floor_of v.cut in
     let ps = c.as_slice.result.now in
-    let next = c.in-Some.next in
-    let same = c.from_vec-items.ensures.items ∙ c.into_vec.ensures in
-    let are = c.in_ok-routed.ensures.routed ∙ ap (λ n. routed_items v.tree v.clock n c.from_vec-items.result.items) c.seq.view_is ∙ ap (routed_items v.tree v.clock v.next) same in
+    let next : ℕ = c.in-Some.field-0.next in
+    let rs = c.in-Some.field-0.routed.items in
+    let ws : List WindowValue = c.route_all.new.windows in
+    let kept : List LogValue = map log_of (take c.self.inside.logs.len (c.put_all.new.logs ++ drop (length c.put_all.new.logs) c.self.inside.logs.items)) in
+    let placed = subst (λ o. IfSome o (λ (r : Routes). ArePlaced v.tree v.clock c.seq.inside.0 r)) c.in-Some.is c.in_ok-made.ensures.placed in
+    let are = placed.are ∙ ap (λ n. routed_items v.tree v.clock n placed.items) c.seq.view_is in
+    let drawn : next ≡ v.next + length placed.items = placed.next_is ∙ ap (λ n. n + length placed.items) c.seq.view_is in
+    let lent = c.deref_mut.ensures.value ∙ c.in_ok-windows.ensures.items ∙ c.deref.ensures.value in
+    let many : length ws ≡ c.in_ok-windows.windows.len = omega arith in
+    let rated : AreRated v.clock (length v.tree) ws = record { as_many = omega (arith, many, c.self.invariant.rated.as_many, ap (length {A = WindowValue}) lent); counted = c.in_ok-made.ensures.counted } in
     let back =
     ap (map log_of) (written_back c.self.inside.logs.len c.put_all.new.logs c.self.inside.logs.items (omega arith))
     ∙ c.in_ok-put_all.ensures.ok
-    ∙ ap (λ (ls : List LogWithRoom). settled_each f ps (with_each c.in_ok-routed.routed.items (map log_of ls))) c.deref_mut.ensures.value
-    ∙ ap (λ (rs : List Routed). settled_each f ps (with_each rs v.logs)) are in
-    subst (λ (ls : List LogValue). IsStream (with_logs v ls next)) (sym back)
-    (stream_each v next ps _ (stream_puts c.args.items v next (omega (arith, c.in-Some.ensures.1, c.seq.view_is, c.len.ensures, ap length same)) (omega (arith, c.in-Some.ensures.0, c.in-Some.ensures.1)) c.self.invariant))
+    ∙ ap (λ (ls : List LogWithRoom). settled_each f ps (with_each rs (map log_of ls))) c.deref_mut-2.ensures.value
+    ∙ ap (λ (qs : List Routed). settled_each f ps (with_each qs v.logs)) are in
+    let stored = stream_rated _ ws rated (stream_puts placed.items v next drawn placed.fits c.self.invariant) in
+    subst (λ (us : List WindowValue). IsStream (with_logs v kept us next)) (sym (written_back c.in_ok-windows.windows.len ws c.in_ok-windows.windows.items many))
+    (subst (λ (ls : List LogValue). IsStream (with_logs v ls ws next)) (sym back) (stream_each v ws next ps _ stored))
 
 pub returns-clause-answered : goal.returns-clause-answered
 returns-clause-answered c log by shown =
     let v : StreamValue = the_view c.self.inside in
     let f = floor_of v.cut in
     let ps = c.as_slice.result.now in
-    let next = c.in-Some.next in
-    let rs = c.in_ok-routed.routed.items in
+    let r : Routes = c.in-Some.field-0 in
+    let ws : List WindowValue = c.route_all.new.windows in
+    let kept : List LogValue = map log_of (take c.self.inside.logs.len (c.put_all.new.logs ++ drop (length c.put_all.new.logs) c.self.inside.logs.items)) in
+    let shown' : Shows v log = subst (λ (u : StreamValue). Shows u log) (sym c.self.view_is) shown in
+    let placed = subst (λ o. IfSome o (λ (q : Routes). ArePlaced v.tree v.clock c.seq.inside.0 q)) c.in-Some.is c.in_ok-made.ensures.placed in
     let same = c.from_vec-items.ensures.items ∙ c.into_vec.ensures in
-    let are = c.in_ok-routed.ensures.routed ∙ ap (λ n. routed_items v.tree v.clock n c.from_vec-items.result.items) c.seq.view_is ∙ ap (routed_items v.tree v.clock v.next) same in
+    let lent = c.deref_mut.ensures.value ∙ c.in_ok-windows.ensures.items ∙ c.deref.ensures.value in
+    let many : length ws ≡ c.in_ok-windows.windows.len = omega arith in
+    let routed = subst (λ o. IfSome o (λ (q : Routes). (g : ℕ → List SizedPut) → StandFor g 0 c.deref_mut.result.now → AreRouted v.tree v.clock v.enforced g c.seq.inside.0 c.from_vec-items.result.items q ws)) c.in-Some.is c.in_ok-made.ensures.routed in
+    let made : AreRouted v.tree v.clock v.enforced (puts log v.no) v.next c.args.items r ws =
+    subst (λ n. AreRouted v.tree v.clock v.enforced (puts log v.no) n c.args.items r ws) c.seq.view_is
+    (subst (λ items. AreRouted v.tree v.clock v.enforced (puts log v.no) c.seq.inside.0 items r ws) same
+    (routed (puts log v.no) (subst (StandFor (puts log v.no) 0) (sym lent) shown'.rates.stand))) in
     let back =
     ap (map log_of) (written_back c.self.inside.logs.len c.put_all.new.logs c.self.inside.logs.items (omega arith))
     ∙ c.in_ok-put_all.ensures.ok
-    ∙ ap (λ (ls : List LogWithRoom). settled_each f ps (with_each rs (map log_of ls))) c.deref_mut.ensures.value in
-    let shown' : Shows v log = subst (λ (u : StreamValue). Shows u log) (sym c.self.view_is) shown in
+    ∙ ap (λ (ls : List LogWithRoom). settled_each f ps (with_each r.routed.items (map log_of ls))) c.deref_mut-2.ensures.value in
     let after = with_lines (lines_of (put_many log v.clock by v.no c.args.items)) log in
-    let done =
-    puts_done v log by c.args.items shown' next rs c.in_ok-routed.places _ (omega (arith, c.in-Some.ensures.1, c.seq.view_is, c.len.ensures, ap length same)) (omega (arith, c.in-Some.ensures.0, c.in-Some.ensures.1))
-    c.self.invariant.trims are c.in_ok-routed.ensures.within c.in_ok-routed.ensures.places refl in
-    led_along (λ (u : StreamValue). put_many log u.clock by u.no c.args.items) v c.args.self.now _ log _ c.self.view_is
-    (done.0, subst (λ (ls : List LogValue). Shows (with_logs v ls next) after) (sym back) (shows_each v next after ps _ done.1))
+    let done = puts_done v log by c.args.items shown' r _ ws placed.fits c.self.invariant.trims made placed.within refl in
+    led_along (λ (u : StreamValue). put_many log u.clock by u.no c.args.items) v c.args.self.now _ log _ c.self.view_is (
+      done.0,
+      subst (λ (us : List WindowValue). Shows (with_logs v kept us r.next) after) (sym (written_back c.in_ok-windows.windows.len ws c.in_ok-windows.windows.items many))
+          (subst (λ (ls : List LogValue). Shows (with_logs v ls ws r.next) after) (sym back) (shows_each v ws r.next after ps _ done.1)),
+    )

@@ -1,0 +1,42 @@
+-- The limits on throughput are turned on or off: what the stream shows after it.
+use Rattle.std.proofs.Common.{◌≡◌, ℕ, Bool, true, false, ◌∷◌, refl}
+use Rattle.std.specs.Prelude.{◌==◌, if◌then◌else◌, Ok}
+use Rattle.kds_defs.specs.declared.entry.Entry.TheVariants as entry
+use Rattle.kds_defs.specs.declared.reply.Reply.TheVariants as reply
+use Rattle.kds_defs.specs.Histories.{answer_of, lines_of}
+use Rattle.kds_defs.specs.Journal.{Journal, Line, plain_line, with_lines}
+use Rattle.kds_defs.specs.PutCommands.{enforce, is_enforced}
+use Rattle.kds_defs.specs.Streams.{floor_of}
+use Rattle.std.proofs.Common.{arith, ◌∙◌}
+use Rattle.kds_stream.proofs.Cuts.{same_floor_at}
+use Rattle.kds_stream.proofs.Others.{kept_along}
+use Rattle.kds_stream.proofs.Puts.{same_number}
+use Rattle.kds_stream.specs.Showing.{Shows}
+use Rattle.kds_stream.specs.Value.{StreamValue}
+
+chosen : (b : Bool) (x y : Bool) → b ≡ true → (if b then x else y) ≡ x
+chosen true x y h = refl
+chosen false x y h = absurd cc
+
+-- the line of a change
+abbrev pub limits_line : StreamValue → ℕ → Bool → Line
+limits_line v by on = plain_line v.clock by (entry.Enforced v.no on)
+
+pub enforce_done : (v : StreamValue) (log : Journal) (by : ℕ) (on : Bool) → Shows v log
+    → (Ok reply.Done ≡ answer_of (enforce log v.clock by v.no on)) × Shows (record v { enforced = on; clock_before = v.clock; cut_before = v.cut }) (with_lines (lines_of (enforce log v.clock by v.no on)) log)
+enforce_done v log by on shown = (
+  refl,
+  record {
+    live = shown.live;
+    was = shown.was;
+    named = shown.named;
+    made_is = shown.made_is;
+    hours_are = shown.hours_are;
+    shards_are = shown.shards_are;
+    next_is = omega (arith, shown.next_is);
+    floor_is = same_floor_at log (limits_line v by on) v.clock v.no refl refl ∙ shown.floor_is;
+    kept = kept_along (floor_of v.cut) log (limits_line v by on ∷ log) v.no 0 v.logs (λ sh. refl) shown.kept;
+    none_beyond = shown.none_beyond;
+    rates = record { enforced_is = chosen (v.no == v.no) on (is_enforced log v.no) (same_number v.no); stand = shown.rates.stand; none_beyond = shown.rates.none_beyond };
+  },
+)

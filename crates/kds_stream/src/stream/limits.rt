@@ -1,0 +1,38 @@
+//! The limits on the throughput of a stream's shards.
+ghost use Rattle.std.specs.Prelude.{◌≡◌, ◌<◌, ◌&&◌, ℕ, List, Ok, length};
+ghost use Rattle.kds_defs.specs.PutCommands.{enforce};
+ghost use Rattle.kds_defs.specs.Rates.{SizedPut, is_throttled};
+ghost use Rattle.kds_stream.specs.Rating.{StandFor};
+ghost use Rattle.kds_stream.specs.Showing.{Decides};
+ghost use Rattle.kds_stream.specs.Value.{IsChangedAt};
+
+use crate::stream::Stream;
+use crate::windows::admits_at;
+use kds_base::ShardNo;
+use kds_defs::{Answer, Reply};
+
+impl Stream {
+    /// LocalEnforceLimits: turns the limits on the throughput of its shards on or off. It is never refused. The
+    /// operation is this project's own; the limits are those of the Kinesis Data Streams Developer Guide, Quotas and
+    /// Limits.
+    pub fn enforce(&mut self, on: bool) -> Answer
+        ensures answered { Decides self.old self.new result (λ log by. enforce log self.old.clock by self.old.no on) }
+        ensures fields { (self.new.no ≡ self.old.no) × (self.new.name ≡ self.old.name) × (self.new.clock ≡ self.old.clock) }
+        ensures done { result ≡ Ok Reply.Done }
+        ensures changed { IsChangedAt self.old self.new }
+        ensures enforced { self.new.enforced ≡ on }
+    {
+        self.enforced = on;
+        self.clock_before = self.clock;
+        self.cut_before = self.cut;
+        Ok(Reply::Done)
+    }
+
+    /// Whether the limits are on, and a shard takes no record of so many payload and key bytes now.
+    pub(super) fn holds_back(&self, shard: ShardNo, bytes: u64) -> bool
+        requires { shard < length self.now.tree }
+        ensures { (f : ℕ → List SizedPut) → StandFor f 0 self.now.windows → result ≡ (self.now.enforced && is_throttled (f shard) self.now.clock bytes) }
+    {
+        self.enforced && !admits_at(&self.windows, shard.0 as usize, self.clock, bytes)
+    }
+}

@@ -1,0 +1,84 @@
+//! Scalings of a stream to uniform ranges.
+ghost use Rattle.std.specs.Prelude.{◌≡◌, false, IfOk, Ok, OnErr, OnOk};
+ghost use Rattle.kds_defs.specs.Lawful.{IsShardCount};
+ghost use Rattle.kds_defs.specs.ScaleCommands.{made_by};
+ghost use Rattle.kds_stream.specs.Showing.{Decides};
+ghost use Rattle.kds_stream.specs.Steps.{IsPlan, is_over, scale_where};
+ghost use Rattle.kds_stream.specs.Value.{IsChangedAt};
+
+use crate::steps::{add_shards, is_spent, made_by, reserve_shards, take_steps};
+use crate::stream::Stream;
+use kds_base::{Items, Memory, Seq};
+use kds_defs::{Answer, Refusal, Reply, ScaleStep};
+use kds_scale::plan;
+
+impl Stream {
+    /// UpdateShardCount: merges and then splits its open shards to `target` uniform ranges, by as few steps as there
+    /// are. `room` tells how many shards more than its own may be open. All memory is taken before the first step.
+    /// `Full` exactly where `target` is above its open shards and `room` together, `Spent` where the steps would draw a
+    /// number, or number a shard, above the greatest of a `u64` (Kinesis API Reference, UpdateShardCount).
+    pub fn scale(&mut self, target: u32, room: u32) -> Result<Answer, Memory>
+        requires { IsShardCount target }
+        ensures answered { IfOk result (λ a. Decides self.old self.new a (λ log by. scale_where (is_over self.old target room) log self.old.clock by self.old.name self.old.no target)) }
+        ensures fields { (self.new.no ≡ self.old.no) × (self.new.name ≡ self.old.name) × (self.new.clock ≡ self.old.clock) }
+        ensures refused { IfOk result (λ a. OnErr a (self.new ≡ self.old)) }
+        ensures changed { IfOk result (λ a. OnOk a (IsChangedAt self.old self.new)) }
+        ensures kept { OnErr result (self.new ≡ self.old) }
+    {
+        if u64::from(target) > u64::from(self.open_count()) + u64::from(room) {
+            return Ok(Err(Refusal::Full));
+        }
+        let starts = self.tree.starts()?;
+        let alloc = *self.logs.allocator();
+        let steps = plan(alloc, starts.as_slice(), target)?;
+        let steps = steps.as_slice();
+        let made = made_by(steps);
+        let first = self.next;
+        if is_spent(
+            first.0,
+            steps.len() as u64,
+            self.tree.len(),
+            u64::from(made),
+        ) {
+            return Ok(Err(Refusal::Spent));
+        }
+        let reply = self.carry_out(steps, made, target)?;
+        Ok(Ok(reply))
+    }
+
+    /// Takes the steps of a scaling to `target` ranges, which make so many shards. All memory is taken before the first.
+    fn carry_out(&mut self, steps: &[ScaleStep], made: u32, target: u32) -> Result<Reply, Memory>
+        requires target { IsShardCount target }
+        requires plan { IsPlan self.old target steps.now }
+        requires made { made ≡ made_by steps.now }
+        ensures answered { IfOk result (λ reply. Decides self.old self.new (Ok reply) (λ log by. scale_where false log self.old.clock by self.old.name self.old.no target)) }
+        ensures fields { (self.new.no ≡ self.old.no) × (self.new.name ≡ self.old.name) × (self.new.clock ≡ self.old.clock) }
+        ensures changed { OnOk result (IsChangedAt self.old self.new) }
+        ensures kept { OnErr result (self.new ≡ self.old) }
+    {
+        let alloc = *self.logs.allocator();
+        let name = self.name.copy(alloc)?;
+        let before = self.open_count();
+        let mut entries = Vec::with_capacity(alloc, steps.len())?;
+        reserve_shards(&mut self.tree, &mut self.logs, &mut self.windows, made)?;
+        let first = self.next;
+        take_steps(
+            &mut self.tree,
+            self.no,
+            steps,
+            first.0,
+            self.clock,
+            &mut entries,
+        );
+        add_shards(alloc, &mut self.logs, &mut self.windows, made, first);
+        self.next = Seq(first.0 + steps.len() as u64);
+        self.clock_before = self.clock;
+        self.cut_before = self.cut;
+        Ok(Reply::Scaled {
+            name,
+            before,
+            target,
+            entries: Items::from_vec(entries),
+        })
+    }
+}
