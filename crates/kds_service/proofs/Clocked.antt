@@ -72,6 +72,7 @@ back_shows clock v log shown = record {
   floor_is = shown.floor_is;
   kept = shown.kept;
   none_beyond = shown.none_beyond;
+  rates = shown.rates;
 }
 
 pub back_shown : (clock : ℕ) (vs : List StreamValue) (log : Journal) → AreShown log vs → AreShown log (map retreated (map (advanced clock) vs))

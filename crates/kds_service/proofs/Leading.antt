@@ -1,6 +1,6 @@
 -- A command to one stream, by the decision at that stream.
-use Rattle.std.proofs.Common.{◌≡◌, ℕ, Bool, List, [], slice_get, slice_set, Some, None, sym, ap, subst, ◌∙◌}
-use Rattle.std.specs.Prelude.{nat_le, IfOk, Result, Ok, Err}
+use Rattle.std.proofs.Common.{◌≡◌, ℕ, ◌+◌, Bool, List, [], slice_get, slice_set, Some, None, sym, ap, subst, ◌∙◌}
+use Rattle.std.specs.Prelude.{nat_le, nat_lt, IfOk, Result, Ok, Err}
 use Rattle.kds_defs.specs.declared.command.Command.{Command}
 use Rattle.kds_defs.specs.declared.reply.Refusal.{Refusal}
 use Rattle.kds_defs.specs.declared.reply.Refusal.TheVariants as refusal
@@ -13,9 +13,12 @@ use Rattle.kds_defs.specs.Shards.{open_count}
 use Rattle.kds_defs.specs.StreamCommands.{split, split_where}
 use Rattle.kds_defs.proofs.Decisions.{after_refused, with_none, with_some}
 use Rattle.kds_stream.specs.Showing.{Decides, Shows, is_full}
+use Rattle.kds_defs.specs.ScaleCommands.{open_elsewhere, scale_stream}
+use Rattle.kds_stream.specs.Steps.{is_over, scale_where}
 use Rattle.kds_stream.specs.Value.{StreamValue}
 use Rattle.kds_service.proofs.Lists.{at_get, shown_get}
 use Rattle.kds_service.proofs.Readings.{named_at, none_named}
+use Rattle.kds_service.specs.Acting.{DecidesIn}
 use Rattle.kds_service.specs.Lines.{AreOf}
 use Rattle.kds_service.specs.Places.{place_of}
 use Rattle.kds_service.specs.Shown.{AreAt, Leads, LeadsTo, ServiceValue, ShowsAll, service}
@@ -54,11 +57,6 @@ stream_at_place w log name i x next found here all = with_some _ _ _ x.no (named
 abbrev pub Changes : Type 0
 Changes = (c b n i : ℕ) (vs : List StreamValue) (x v : StreamValue) (log : Journal) (lines : List Line) → ShowsAll (service c b n vs) log → slice_get vs i ≡ Some x → v.no ≡ x.no → v.clock ≡ c → AreOf x.no c lines → Shows v (with_lines lines log) → ShowsAll (service c b n (slice_set vs i v)) (with_lines lines log)
 
--- what the stream at a place owes, of every journal that the whole service shows
-abbrev pub DecidesIn : ℕ → List StreamValue → StreamValue → StreamValue → (Journal → ℕ → ℕ → ℕ → Decision) → Result Reply Refusal → Type 0
-DecidesIn c vs x v d gives = (b n : ℕ) (log : Journal) (by : ℕ) → ShowsAll (service c b n vs) log → Shows x log
-    → (gives ≡ answer_of (d log x.clock by x.no)) × Shows v (with_lines (lines_of (d log x.clock by x.no)) log)
-
 pub decided_in : {E : Type 0} (c : ℕ) (vs : List StreamValue) (x v : StreamValue) (d : Journal → ℕ → ℕ → ℕ → Decision) (r : Result (Result Reply Refusal) E) → IfOk r (λ a. Decides x v a (λ log by. d log x.clock by x.no)) → IfOk r (DecidesIn c vs x v d)
 decided_in c vs x v d (Err e) led = tt
 decided_in c vs x v d (Ok gives) led = λ b n log by all shown. led log by shown
@@ -70,6 +68,15 @@ pub split_in : {E : Type 0} (c : ℕ) (vs : List StreamValue) (x v : StreamValue
 split_in c vs x v sh at room (Err e) full led = tt
 split_in c vs x v sh at room (Ok gives) full led = λ b n log by all shown.
     subst (λ f. (gives ≡ answer_of (split_where f log x.clock by x.no sh at)) × Shows v (with_lines (lines_of (split_where f log x.clock by x.no sh at)) log)) (full b n log all) (led log by shown)
+
+-- the same of a scaling, where it is known whether the shards would be too many
+pub scale_in : {E : Type 0} (c : ℕ) (vs : List StreamValue) (x v : StreamValue) (name : List ℕ) (target room : ℕ) (r : Result (Result Reply Refusal) E)
+    → ((b n : ℕ) (log : Journal) → ShowsAll (service c b n vs) log → is_over x target room ≡ nat_lt OPEN_SHARDS (open_elsewhere log x.no + target)) → name ≡ x.name
+    → IfOk r (λ a. Decides x v a (λ log by. scale_where (is_over x target room) log x.clock by x.name x.no target)) → IfOk r (DecidesIn c vs x v (λ log clock by s. scale_stream log clock by name s target))
+scale_in c vs x v name target room (Err e) full same led = tt
+scale_in c vs x v name target room (Ok gives) full same led = λ b n log by all shown.
+    subst (λ (called : List ℕ). (gives ≡ answer_of (scale_stream log x.clock by called x.no target)) × Shows v (with_lines (lines_of (scale_stream log x.clock by called x.no target)) log)) (sym same)
+    (subst (λ f. (gives ≡ answer_of (scale_where f log x.clock by x.name x.no target)) × Shows v (with_lines (lines_of (scale_where f log x.clock by x.name x.no target)) log)) (full b n log all) (led log by shown))
 
 -- the stream of the name is at a place; now it is v, and it answers as the decision at its number does
 pub write_leads : {E : Type 0} (c i : ℕ) (vs ws : List StreamValue) (x v : StreamValue) (what : Command) (name : List ℕ) (d : Journal → ℕ → ℕ → ℕ → Decision) (r : Result (Result Reply Refusal) E)

@@ -1,6 +1,6 @@
 -- What the lines of one stream leave of the others, and which lines the commands write.
 use Rattle.std.proofs.Common.{◌≡◌, ◌≢◌, ℕ, zero, suc, ◌+◌, ◌<◌, ◌≤◌, Bool, true, false, ◌==◌, List, [], ◌∷◌, ◌++◌, remove, slice_get, slice_set, Option, Some, None, refl, sym, ap, subst, ◌∙◌, arith}
-use Rattle.std.specs.Prelude.{◌&&◌, not}
+use Rattle.std.specs.Prelude.{◌&&◌, not, if◌then◌else◌}
 use Rattle.std.proofs.lemmas.Option.{none-some}
 use Rattle.kds_defs.specs.declared.command.NewItem.{NewItem}
 use Rattle.kds_defs.specs.declared.command.Start.{Start}
@@ -9,12 +9,17 @@ use Rattle.kds_defs.specs.declared.entry.Entry.TheVariants as entry
 use Rattle.kds_defs.specs.declared.reply.Iter.{Iter}
 use Rattle.kds_defs.specs.declared.reply.Page.{Page}
 use Rattle.kds_defs.specs.declared.reply.Refusal.{Refusal}
+use Rattle.kds_defs.specs.declared.scale.ScaleStep.{ScaleStep}
+use Rattle.kds_defs.specs.declared.scale.ScaleStep.TheVariants.{Cut, Join}
 use Rattle.kds_defs.specs.Decision.{Decision, refuse◌if◌else◌, with◌or◌then◌}
 use Rattle.kds_defs.specs.Histories.{lines_of}
 use Rattle.kds_defs.specs.Journal.{Line, Journal, plain_line, with_lines}
 use Rattle.kds_defs.specs.Listings.{get_iterator, get_records, more}
-use Rattle.kds_defs.specs.StreamCommands.{keep, merge, put, put_many, split}
-use Rattle.kds_defs.specs.StreamCommands as command
+use Rattle.kds_defs.specs.PutCommands.{enforce, is_held_back, put, put_many}
+use Rattle.kds_defs.specs.PutCommands as command
+use Rattle.kds_defs.specs.Records.{next_number}
+use Rattle.kds_defs.specs.ScaleCommands.{scale_stream, step_entry, step_lines, steps_to}
+use Rattle.kds_defs.specs.StreamCommands.{keep, merge, put_line, split}
 use Rattle.kds_defs.specs.Streams.{is_live, is_live_after, made_count, made_count_after}
 use Rattle.kds_stream.specs.Showing.{IsFresh, Shows, stream_of}
 use Rattle.kds_stream.specs.Value.{StreamValue}
@@ -170,14 +175,20 @@ refused_lines r true d s c h = tt
 refused_lines r false d s c h = h
 
 pub put_lines : (log : Journal) (c by s : ℕ) (item : NewItem) → AreOf s c (lines_of (put log c by s item))
-put_lines log c by s item = refused_lines _ _ _ _ _ (refl, refl, refl, tt)
+put_lines log c by s item = refused_lines _ _ _ _ _ (refused_lines _ _ _ _ _ (refl, refl, refl, tt))
 
-lines_of_puts : (log : Journal) (c by s number : ℕ) (items : List NewItem) → AreOf s c (command.put_lines log c by s number items)
-lines_of_puts log c by s number [] = tt
-lines_of_puts log c by s number (item ∷ items) = (refl, refl, refl, lines_of_puts log c by s (number + 1) items)
+held_or : (b : Bool) (line : Line) (xs ys : List Line) (s c : ℕ) → AreOf s c xs → AreOf s c (line ∷ ys) → AreOf s c (if b then xs else line ∷ ys)
+held_or true line xs ys s c held stored = held
+held_or false line xs ys s c held stored = stored
+
+lines_of_puts : (log : Journal) (c by s : ℕ) (items : List NewItem) → AreOf s c (command.put_lines log c by s items)
+lines_of_puts log c by s [] = tt
+lines_of_puts log c by s (item ∷ items) =
+    let line : Line = put_line log c by s (next_number log s) item in
+    held_or (is_held_back log c s item) line _ _ s c (lines_of_puts log c by s items) (refl, refl, refl, lines_of_puts (line ∷ log) c by s items)
 
 pub put_many_lines : (log : Journal) (c by s : ℕ) (items : List NewItem) → AreOf s c (lines_of (put_many log c by s items))
-put_many_lines log c by s items = refused_lines _ _ _ _ _ (lines_of_puts log c by s _ items)
+put_many_lines log c by s items = refused_lines _ _ _ _ _ (lines_of_puts log c by s items)
 
 pub split_lines : (log : Journal) (c by s sh at : ℕ) → AreOf s c (lines_of (split log c by s sh at))
 split_lines log c by s sh at =
@@ -189,6 +200,20 @@ merge_lines log c by s sh other =
 
 pub keep_lines : (log : Journal) (c by s wanted : ℕ) (raise : Bool) → AreOf s c (lines_of (keep log c by s wanted raise))
 keep_lines log c by s wanted raise = refused_lines _ _ _ _ _ (refl, refl, refl, tt)
+
+pub enforce_lines : (log : Journal) (c by s : ℕ) (on : Bool) → AreOf s c (lines_of (enforce log c by s on))
+enforce_lines log c by s on = (refl, refl, refl, tt)
+
+step_first : (log : Journal) (c by s : ℕ) (step : ScaleStep) (rest : List Line) → AreOf s c rest → AreOf s c (plain_line c by (step_entry log s step) ∷ rest)
+step_first log c by s (Join b) rest h = (refl, refl, refl, h)
+step_first log c by s (Cut b) rest h = (refl, refl, refl, h)
+
+lines_of_steps : (log : Journal) (c by s : ℕ) (steps : List ScaleStep) → AreOf s c (step_lines log c by s steps)
+lines_of_steps log c by s [] = tt
+lines_of_steps log c by s (step ∷ steps) = step_first log c by s step _ (lines_of_steps (plain_line c by (step_entry log s step) ∷ log) c by s steps)
+
+pub scale_lines : (log : Journal) (c by : ℕ) (name : List ℕ) (s target : ℕ) → AreOf s c (lines_of (scale_stream log c by name s target))
+scale_lines log c by name s target = refused_lines _ _ _ _ _ (refused_lines _ _ _ _ _ (lines_of_steps log c by s (steps_to log s target)))
 
 -- ... and those that only read write none
 refused_none : (r : Refusal) (b : Bool) (d : Decision) → lines_of d ≡ [] → lines_of (refuse r if b else d) ≡ []

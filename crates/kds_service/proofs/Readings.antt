@@ -1,20 +1,21 @@
 -- What the streams of a service say of the journal that they show.
 use Rattle.std.proofs.Common.{◌≡◌, ◌≢◌, ℕ, zero, suc, ◌+◌, ◌<◌, ◌≤◌, Bool, true, false, ◌==◌, cond, List, [], ◌∷◌, length, slice_get, Option, Some, None, refl, sym, ap, subst, ◌∙◌, arith}
-use Rattle.std.specs.Prelude.{◌||◌, is_some, nat_le, not}
-use Rattle.std.specs.Cmp.Lexicographic.{nat_list_eq_equiv}
+use Rattle.std.specs.Prelude.{◌||◌, if◌then◌else◌, is_some, nat_le, nat_lt, not}
+use Rattle.std.specs.Cmp.Lexicographic.{bytes_decides, nat_list_eq_equiv}
 use Rattle.std.specs.List.{find, filter, position_from}
 use Rattle.std.proofs.lemmas.Bool.{eqb-false, eqb-true}
 use Rattle.std.proofs.lemmas.Bool.Decides.{nat_tests}
 use Rattle.std.proofs.lemmas.List.{length-map}
 use Rattle.std.proofs.lemmas.Option.{none-some}
-use Rattle.kds_defs.specs.declared.limits.TheConstants.{OPEN_SHARDS}
+use Rattle.kds_defs.specs.declared.limits.TheConstants.{MOST_SHARDS, OPEN_SHARDS}
 use Rattle.kds_defs.specs.Journal.{Journal}
 use Rattle.kds_defs.specs.Shards.{is_open, open_count, open_in}
 use Rattle.kds_defs.specs.Streams.{is_live, live_streams, name_of, numbers_from, same_name, stream_named}
 use Rattle.kds_stream.specs.Showing.{IsFresh, Shows, is_full}
 use Rattle.kds_stream.specs.Value.{StreamValue}
 use Rattle.kds_service.proofs.Lists.{AreUpTo, either_way, neither, not_below, same_some, unequal}
-use Rattle.kds_service.specs.Places.{open_total, place_of}
+use Rattle.kds_defs.specs.ScaleCommands.{open_elsewhere}
+use Rattle.kds_service.specs.Places.{open_beside, open_total, place_of}
 use Rattle.kds_service.specs.Shown.{AreShown, IsRising, ServiceValue, ShowsAll, is_among, names_of, numbers_of}
 
 -- ---- the live streams
@@ -206,3 +207,34 @@ not_among n s [] none = refl
 not_among n s (m ∷ ns) none =
     let rest = none_passes (λ k. k == s) n m ns none in
     neither (m == s) (is_among ns s) rest.0 (not_among (n + 1) s ns rest.1)
+
+-- ---- how many shards the other streams have open
+
+beside : (log : Journal) (s : ℕ) (vs : List StreamValue) → AreShown log vs → open_in log (filter (λ t. not (t == s)) (numbers_of vs)) ≡ open_beside vs s
+beside log s [] shown = refl
+beside log s (v ∷ vs) shown = by (v.no == s) (beside log s vs shown.1)
+  where
+    by : (b : Bool) → open_in log (filter (λ t. not (t == s)) (numbers_of vs)) ≡ open_beside vs s
+        → open_in log (cond (not b) (v.no ∷ filter (λ t. not (t == s)) (numbers_of vs)) (filter (λ t. not (t == s)) (numbers_of vs))) ≡ (if b then 0 else length (filter is_open v.tree)) + open_beside vs s
+    by true rest = omega (arith, rest)
+    by false rest = omega (arith, ap (λ xs. length (filter is_open xs)) shown.0.shards_are, rest)
+
+pub beside_is : (w : ServiceValue) (log : Journal) (s : ℕ) → ShowsAll w log → open_elsewhere log s ≡ open_beside w.streams s
+beside_is w log s all = ap (λ ns. open_in log (filter (λ t. not (t == s)) ns)) (live_are w log all) ∙ beside log s w.streams all.shown
+
+-- where they leave room for so many, a stream that is told of room for as many more than its own isn't over it
+pub fits_beside : (own target others elsewhere : ℕ) → target ≤ MOST_SHARDS → elsewhere ≡ others → nat_le (others + target) OPEN_SHARDS ≡ true → nat_lt (own + MOST_SHARDS) target ≡ nat_lt OPEN_SHARDS (elsewhere + target)
+fits_beside own target others elsewhere small same fits = grind (arith, nat_tests)
+
+pub fits_not : (target others elsewhere : ℕ) → elsewhere ≡ others → nat_le (others + target) OPEN_SHARDS ≡ false → nat_lt OPEN_SHARDS (elsewhere + target) ≡ true
+fits_not target others elsewhere same fits = grind (arith, nat_tests)
+
+-- ---- the stream of a name has just this name
+
+named_like : (name : List ℕ) (n i : ℕ) (vs : List StreamValue) (x : StreamValue) → position_from (same_name name) n (names_of vs) ≡ Some (n + i) → slice_get vs i ≡ Some x → same_name name x.name ≡ true
+named_like name n i [] x is here = absurd (none-some x here)
+named_like name n zero (v ∷ vs) x is here = ap (λ (u : StreamValue). same_name name u.name) (sym (same_some v x here)) ∙ first_passes (same_name name) n v.name (names_of vs) is
+named_like name n (suc i) (v ∷ vs) x is here = named_like name (n + 1) i vs x (later_fails (same_name name) n i v.name (names_of vs) is).1 here
+
+pub has_name : (name : List ℕ) (i : ℕ) (vs : List StreamValue) (x : StreamValue) → place_of vs name ≡ Some i → slice_get vs i ≡ Some x → name ≡ x.name
+has_name name i vs x is here = (bytes_decides name x.name).0 (named_like name 0 i vs x (is ∙ ap Some (from_zero i)) here)

@@ -1,3 +1,4 @@
+pub mod Acting
 pub mod Clocks
 pub mod Keyed
 pub mod Lines

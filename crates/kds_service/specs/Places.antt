@@ -1,5 +1,5 @@
 -- Where a stream stands among those of the service, and how much they are together.
-use Rattle.std.specs.Prelude.{ℕ, ◌≡◌, ◌+◌, ◌==◌, Bool, ◌||◌, nat_le, nat_lt, List, [], ◌∷◌, length, Option}
+use Rattle.std.specs.Prelude.{ℕ, ◌≡◌, ◌+◌, ◌==◌, Bool, ◌||◌, nat_le, nat_lt, if◌then◌else◌, List, [], ◌∷◌, length, Option}
 use Rattle.std.specs.List.{filter, position_from}
 use Rattle.std.specs.Map.{keys_of, values_of}
 use Rattle.kds_defs.specs.declared.limits.TheConstants.{LIVE_STREAMS, OPEN_SHARDS}
@@ -20,6 +20,14 @@ place_at vs s = position_from (λ n. n == s) 0 (numbers_of vs)
 abbrev pub open_total : List StreamValue → ℕ
 open_total [] = 0
 open_total (v ∷ vs) = length (filter is_open v.tree) + open_total vs
+
+-- how many are open in all but the stream of a number
+abbrev pub open_unless : StreamValue → ℕ → ℕ
+open_unless v s = if v.no == s then 0 else length (filter is_open v.tree)
+
+abbrev pub open_beside : List StreamValue → ℕ → ℕ
+open_beside [] s = 0
+open_beside (v ∷ vs) s = open_unless v s + open_beside vs s
 
 -- no stream of so many shards may be added
 abbrev pub is_full : List StreamValue → ℕ → Bool

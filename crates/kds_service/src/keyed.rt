@@ -4,6 +4,7 @@ ghost use Rattle.std.specs.List.{AllByRecursion};
 ghost use Rattle.std.specs.Option.{option_map};
 ghost use Rattle.indexmap.specs.IndexMap.{values};
 ghost use Rattle.kds_defs.specs.Journal.{Journal};
+ghost use Rattle.kds_defs.specs.Origins.{origin_position};
 ghost use Rattle.kds_defs.specs.Records.{batch, stored};
 ghost use Rattle.kds_defs.specs.Shards.{shown};
 ghost use Rattle.kds_stream.specs.Reading.{read_ends};
@@ -12,7 +13,7 @@ ghost use Rattle.kds_service.specs.Shown.{ShowsAll, service};
 
 use crate::places::{Streams, find_number};
 use kds_base::{Items, Memory, ShardRef, StreamNo};
-use kds_defs::{Shard, Stored};
+use kds_defs::{Origin, Shard, Stored};
 use kds_stream::Stream;
 use std::alloc::Global;
 
@@ -52,6 +53,17 @@ pub fn listed(alloc: Global, streams: &Streams) -> Result<Items<ShardRef>, Memor
         streams[i].add_listed(&mut keys)?;
     }
     Ok(keys)
+}
+
+/// The position where reading of a listed shard begins from an origin.
+pub fn position(streams: &Streams, key: &ShardRef, from: Origin) -> u64
+    requires { is_listed_in (values streams.now) key.now ≡ true }
+    ensures { (c b n : ℕ) (log : Journal) → ShowsAll (service c b n (values streams.now)) log → result ≡ origin_position log c key.now from }
+{
+    match find(streams, key.stream) {
+        Some(stream) => stream.position(key.shard, from),
+        None => 0,
+    }
 }
 
 /// A batch of a listed shard at a position, and whether the shard ends after it.

@@ -5,6 +5,7 @@ mod changes;
 mod clocks;
 mod keyed;
 mod life;
+mod named;
 mod naming;
 mod others;
 mod places;

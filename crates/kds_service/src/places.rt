@@ -2,7 +2,7 @@
 ghost use Rattle.std.specs.Prelude.{◌≡◌, ◌+◌, ◌<◌, IfSome, length, nat_le};
 ghost use Rattle.kds_defs.specs.declared.limits.TheConstants.{OPEN_SHARDS};
 ghost use Rattle.indexmap.specs.IndexMap.{keys, values};
-ghost use Rattle.kds_service.specs.Places.{is_full, open_total, place_at, place_of};
+ghost use Rattle.kds_service.specs.Places.{is_full, open_beside, open_total, open_unless, place_at, place_of};
 ghost use Rattle.kds_service.specs.Shown.{names_of};
 
 use indexmap::IndexMap;
@@ -45,6 +45,35 @@ pub fn has_room(streams: &Streams, more: u64) -> bool
     let mut left = OPEN_SHARDS - more;
     for i in 0..streams.len() {
         let open = streams[i].open_count() as u64;
+        if open > left {
+            return false;
+        }
+        left -= open;
+    }
+    true
+}
+
+/// How many shards a stream has open, and 0 of the stream of this number.
+fn open_unless(stream: &Stream, no: StreamNo) -> u64
+    ensures { result ≡ open_unless stream.now no }
+{
+    if stream.no() == no {
+        0
+    } else {
+        stream.open_count() as u64
+    }
+}
+
+/// Whether so many shards may be open beside those of all streams but the one of this number.
+pub fn has_room_beside(streams: &Streams, no: StreamNo, count: u64) -> bool
+    ensures { result ≡ nat_le (open_beside (values streams.now) no + count) OPEN_SHARDS }
+{
+    if count > OPEN_SHARDS {
+        return false;
+    }
+    let mut left = OPEN_SHARDS - count;
+    for i in 0..streams.len() {
+        let open = open_unless(&streams[i], no);
         if open > left {
             return false;
         }

@@ -1,12 +1,13 @@
 //! The commands that only read, over streams that all stand at the clock.
-ghost use Rattle.std.specs.Prelude.{◌≡◌, IfOk};
+ghost use Rattle.std.specs.Prelude.{◌≡◌, IfOk, IsOk};
 ghost use Rattle.indexmap.specs.IndexMap.{values};
 ghost use Rattle.kds_defs.specs.declared.command.Command.TheVariants as command;
 ghost use Rattle.kds_defs.specs.Lawful.{IsLimit};
 ghost use Rattle.kds_service.specs.Places.{ArePlaced};
 ghost use Rattle.kds_service.specs.Shown.{LeadsTo};
 
-use crate::places::{Streams, find_name, find_number};
+use crate::named::of_stream;
+use crate::places::{Streams, find_number};
 use kds_base::{Memory, Moment, Name, ShardNo};
 use kds_defs::{Answer, Iter, Page, Refusal, Start};
 use kds_token::{iter_expired, page_expired};
@@ -19,14 +20,17 @@ pub fn iterator(
     name: &Name,
     shard: ShardNo,
     from: Start,
-) -> Answer
+) -> Result<Answer, Memory>
     requires { ArePlaced clock streams.now.entries }
-    ensures { LeadsTo clock (values streams.now) (values streams.now) (command.GetIterator name.now shard from) result }
+    ensures leads { IfOk result (LeadsTo clock (values streams.now) (values streams.now) (command.GetIterator name.now shard from)) }
+    ensures sure { IsOk result }
 {
-    match find_name(streams, name) {
-        None => Err(Refusal::NoStream),
-        Some(i) => streams[i].iterator(shard, from),
-    }
+    of_stream(
+        streams,
+        clock,
+        name,
+        |stream| Ok(stream.iterator(shard, from)),
+    )
 }
 
 /// GetRecords: an iterator that is too old is refused before its stream is looked for
@@ -64,10 +68,9 @@ pub fn describe(
     requires limit { IsLimit limit }
     ensures { IfOk result (LeadsTo clock (values streams.now) (values streams.now) (command.Describe name.now after limit)) }
 {
-    match find_name(streams, name) {
-        None => Ok(Err(Refusal::NoStream)),
-        Some(i) => streams[i].describe(alloc, after, limit),
-    }
+    of_stream(streams, clock, name, |stream| {
+        stream.describe(alloc, after, limit)
+    })
 }
 
 /// DescribeStreamSummary (Kinesis API Reference, DescribeStreamSummary).
@@ -80,10 +83,7 @@ pub fn summary(
     requires { ArePlaced clock streams.now.entries }
     ensures { IfOk result (LeadsTo clock (values streams.now) (values streams.now) (command.Summary name.now)) }
 {
-    match find_name(streams, name) {
-        None => Ok(Err(Refusal::NoStream)),
-        Some(i) => streams[i].summary(alloc),
-    }
+    of_stream(streams, clock, name, |stream| stream.summary(alloc))
 }
 
 /// ListShards of a stream by its name (Kinesis API Reference, ListShards).
@@ -98,10 +98,7 @@ pub fn shards(
     requires limit { IsLimit limit }
     ensures { IfOk result (LeadsTo clock (values streams.now) (values streams.now) (command.Shards name.now after limit)) }
 {
-    match find_name(streams, name) {
-        None => Ok(Err(Refusal::NoStream)),
-        Some(i) => streams[i].shards(after, limit),
-    }
+    of_stream(streams, clock, name, |stream| stream.shards(after, limit))
 }
 
 /// ListShards by a token: one that is too old is refused before its stream is looked for

@@ -6,7 +6,7 @@ ghost use Rattle.kds_defs.specs.Lawful.{IsLawfulCommand};
 ghost use Rattle.kds_service.specs.Places.{ArePlaced};
 ghost use Rattle.kds_service.specs.Shown.{Leads, service};
 
-use crate::changes::{keep, merge, put, put_many, split};
+use crate::changes::{enforce, keep, merge, put, put_many, scale, split};
 use crate::life::{create, delete};
 use crate::naming::streams as list_streams;
 use crate::places::Streams;
@@ -40,13 +40,13 @@ pub fn serve(
         Command::Summary { name } => summary(alloc, streams, clock, &name),
         Command::Put { name, item } => put(streams, clock, &name, item),
         Command::PutMany { name, items } => put_many(streams, clock, &name, items),
-        Command::GetIterator { name, shard, from } => {
-            Ok(iterator(streams, clock, &name, shard, from))
-        }
+        Command::GetIterator { name, shard, from } => iterator(streams, clock, &name, shard, from),
         Command::Records { iter, limit } => records(alloc, streams, clock, &iter, limit),
         Command::Split { name, shard, at } => split(streams, clock, &name, shard, at),
         Command::Merge { name, shard, other } => merge(streams, clock, &name, shard, other),
-        Command::Keep { name, hours, raise } => Ok(keep(streams, clock, &name, hours, raise)),
+        Command::Keep { name, hours, raise } => keep(streams, clock, &name, hours, raise),
+        Command::Scale { name, target } => scale(streams, clock, &name, target),
+        Command::Enforce { name, on } => Ok(enforce(streams, clock, &name, on)),
         Command::Shards { name, after, limit } => shards(streams, clock, &name, after, limit),
         Command::More { page, limit } => more(streams, clock, &page, limit),
         _ => unreachable!(),

@@ -7,6 +7,7 @@ ghost use Rattle.kds_defs.specs.Keys.{is_listed_key};
 ghost use Rattle.kds_defs.specs.Kinds.{is_service};
 ghost use Rattle.kds_defs.specs.Lawful.{IsLawfulCommand};
 ghost use Rattle.kds_defs.specs.Listings.{listed_in};
+ghost use Rattle.kds_defs.specs.Origins.{origin_position};
 ghost use Rattle.kds_defs.specs.Records.{batch, stored};
 ghost use Rattle.kds_defs.specs.Shards.{shown};
 ghost use Rattle.kds_defs.specs.Streams.{live_streams};
@@ -22,7 +23,7 @@ use crate::places::Streams;
 use crate::serve::serve;
 use indexmap::IndexMap;
 use kds_base::{Items, Memory, Moment, ShardRef};
-use kds_defs::{Answer, Command, Shard, Stored};
+use kds_defs::{Answer, Command, Origin, Shard, Stored};
 use std::alloc::Global;
 use std::marker::Model;
 
@@ -136,6 +137,16 @@ impl Service {
         ensures { (log : Journal) → ShowsAll self.now log → IfOk result (λ keys. keys ≡ listed_in log self.now.clock (live_streams log)) }
     {
         keyed::listed(*self.streams.allocator(), &self.streams)
+    }
+
+    /// The position where reading of a listed shard begins from an origin: 0 at the trim horizon, its stream's next
+    /// number at LATEST, and at a moment the number of the first untrimmed record that arrived at or after it, or
+    /// the next number where there is none (Kinesis API Reference, GetShardIterator, ShardIteratorType).
+    pub fn position(&self, key: ShardRef, from: Origin) -> u64
+        requires { is_listed_in self.now.streams key ≡ true }
+        ensures { (log : Journal) → ShowsAll self.now log → result ≡ origin_position log self.now.clock key from }
+    {
+        keyed::position(&self.streams, &key, from)
     }
 
     /// A batch of a listed shard at a position, and whether the shard ends after it: it is closed, and no

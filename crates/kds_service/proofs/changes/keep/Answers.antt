@@ -1,28 +1,20 @@
-use Rattle.std.proofs.Common.{refl, ◌∙◌}
-use Rattle.std.specs.Prelude.{Ok}
+use Rattle.std.proofs.Common.{rules, refl}
+use Rattle.std.specs.Prelude.{IfOk}
+use Rattle.indexmap.specs.IndexMap.{values}
 use Rattle.kds_defs.specs.declared.command.Command.TheVariants as command
 use Rattle.kds_defs.specs.StreamCommands.{keep}
-use Rattle.indexmap.specs.IndexMap.{values}
-use Rattle.kds_service.proofs.Entries.{placed_set, values_set}
-use Rattle.kds_service.proofs.Leading.{nameless_leads, write_leads}
-use Rattle.kds_service.proofs.Lists.{at_get}
+use Rattle.kds_stream.specs.Showing.{Decides}
+use Rattle.kds_service.proofs.Leading.{decided_in}
 use Rattle.kds_service.proofs.Lives.{keep_lines}
 use Rattle.kds_service.proofs.changes.keep.Goals as goal
 
-pub returns-in-None-clause-leads : goal.returns-in-None-clause-leads
-returns-in-None-clause-leads c =
+pub returns-clause-leads : goal.returns-clause-leads
+returns-clause-leads c =
     let a = c.args in
-    nameless_leads a.clock (values a.streams.now) (command.Keep a.name.now a.hours a.raise) a.name.now (λ log by s. keep log a.clock by s a.hours a.raise) c.in-None.ensures.value (λ log by. refl)
-
-pub returns-in-Some-clause-leads : goal.returns-in-Some-clause-leads
-returns-in-Some-clause-leads c =
-    let a = c.args in
-    write_leads {E = Unit {0}} a.clock c.in-Some.i (values a.streams.now) _ c.index_mut.result.now c.keep.new.self (command.Keep a.name.now a.hours a.raise) a.name.now (λ log clock by s. keep log clock by s a.hours a.raise)
-    (Ok c.keep.result) c.others.ensures.changed c.requires.placed.at c.index_mut.ensures.value c.in-Some.ensures.value (values_set a.streams.now.entries c.in-Some.i c.keep.new.self)
-    (λ log by. refl) (λ log by s. keep_lines log a.clock by s a.hours a.raise) c.keep.ensures.fields.0 c.keep.ensures.fields.2 (λ b n log by all shown. c.keep.ensures.answered log by shown)
-
-pub returns-in-Some-clause-placed : goal.returns-in-Some-clause-placed
-returns-in-Some-clause-placed c =
-    let a = c.args in
-    let here = c.index_mut.ensures.value in
-    placed_set a.clock c.in-Some.i a.streams.now.entries c.index_mut.result.now c.keep.new.self c.requires.placed here c.keep.ensures.fields.1 (c.keep.ensures.fields.2 ∙ at_get a.clock c.in-Some.i (values a.streams.now) c.index_mut.result.now c.requires.placed.at here)
+    c.in_stream.ensures.leads (command.Keep a.name.now a.hours a.raise) (λ log clock by s. keep log clock by s a.hours a.raise) (λ log by. refl)
+    (record {
+      lines = λ log by s. keep_lines log a.clock by s a.hours a.raise;
+      decides = λ i x v r here acts.
+          let answered : IfOk r (λ gives. Decides x v gives (λ log by. keep log x.clock by x.no a.hours a.raise)) = search rules in
+          decided_in a.clock (values a.streams.now) x v (λ log clock by s. keep log clock by s a.hours a.raise) r answered;
+    })

@@ -1,30 +1,20 @@
-use Rattle.std.proofs.Common.{refl, ◌∙◌}
+use Rattle.std.proofs.Common.{rules, refl}
+use Rattle.std.specs.Prelude.{IfOk}
+use Rattle.indexmap.specs.IndexMap.{values}
 use Rattle.kds_defs.specs.declared.command.Command.TheVariants as command
 use Rattle.kds_defs.specs.StreamCommands.{merge}
-use Rattle.indexmap.specs.IndexMap.{values}
-use Rattle.kds_service.proofs.Entries.{kept_set, placed_set, values_set}
-use Rattle.kds_service.proofs.Leading.{decided_in, nameless_leads, write_leads}
-use Rattle.kds_service.proofs.Lists.{at_get}
+use Rattle.kds_stream.specs.Showing.{Decides}
+use Rattle.kds_service.proofs.Leading.{decided_in}
 use Rattle.kds_service.proofs.Lives.{merge_lines}
 use Rattle.kds_service.proofs.changes.merge.Goals as goal
 
-pub returns-in-None-clause-leads : goal.returns-in-None-clause-leads
-returns-in-None-clause-leads c =
+pub returns-clause-leads : goal.returns-clause-leads
+returns-clause-leads c =
     let a = c.args in
-    nameless_leads a.clock (values a.streams.now) (command.Merge a.name.now a.shard a.other) a.name.now (λ log by s. merge log a.clock by s a.shard a.other) c.in-None.ensures.value (λ log by. refl)
-
-pub returns-in-Some-clause-leads : goal.returns-in-Some-clause-leads
-returns-in-Some-clause-leads c =
-    let a = c.args in
-    write_leads a.clock c.in-Some.i (values a.streams.now) _ c.index_mut.result.now c.merge.new.self (command.Merge a.name.now a.shard a.other) a.name.now (λ log clock by s. merge log clock by s a.shard a.other)
-    c.merge.result c.others.ensures.changed c.requires.at c.index_mut.ensures.value c.in-Some.ensures.value (values_set a.streams.now.entries c.in-Some.i c.merge.new.self)
-    (λ log by. refl) (λ log by s. merge_lines log a.clock by s a.shard a.other) c.merge.ensures.fields.0 c.merge.ensures.fields.2 (decided_in a.clock (values a.streams.now) c.index_mut.result.now c.merge.new.self (λ log clock by s. merge log clock by s a.shard a.other) c.merge.result c.merge.ensures.answered)
-
-pub returns-in-Some-clause-placed : goal.returns-in-Some-clause-placed
-returns-in-Some-clause-placed c =
-    let a = c.args in
-    let here = c.index_mut.ensures.value in
-    placed_set a.clock c.in-Some.i a.streams.now.entries c.index_mut.result.now c.merge.new.self c.requires here c.merge.ensures.fields.1 (c.merge.ensures.fields.2 ∙ at_get a.clock c.in-Some.i (values a.streams.now) c.index_mut.result.now c.requires.at here)
-
-pub returns-in-Some-clause-kept : goal.returns-in-Some-clause-kept
-returns-in-Some-clause-kept c = kept_set c.merge.result c.in-Some.i c.args.streams.now.entries c.index_mut.result.now c.merge.new.self c.index_mut.ensures.value c.merge.ensures.kept
+    c.in_stream.ensures.leads (command.Merge a.name.now a.shard a.other) (λ log clock by s. merge log clock by s a.shard a.other) (λ log by. refl)
+    (record {
+      lines = λ log by s. merge_lines log a.clock by s a.shard a.other;
+      decides = λ i x v r here acts.
+          let answered : IfOk r (λ gives. Decides x v gives (λ log by. merge log x.clock by x.no a.shard a.other)) = search rules in
+          decided_in a.clock (values a.streams.now) x v (λ log clock by s. merge log clock by s a.shard a.other) r answered;
+    })

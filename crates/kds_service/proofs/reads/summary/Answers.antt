@@ -1,18 +1,17 @@
-use Rattle.std.proofs.Common.{refl}
+use Rattle.std.proofs.Common.{◌≡◌, rules, refl}
+use Rattle.std.specs.Prelude.{IfOk}
 use Rattle.kds_defs.specs.declared.command.Command.TheVariants as command
+use Rattle.kds_defs.specs.Histories.{answer_of}
 use Rattle.kds_defs.specs.Listings.{summary}
-use Rattle.indexmap.specs.IndexMap.{values}
-use Rattle.kds_service.proofs.Leading.{named_read, nameless_leads}
 use Rattle.kds_service.proofs.reads.summary.Goals as goal
 
-pub returns-in-None : goal.returns-in-None
-returns-in-None c =
+pub returns : goal.returns
+returns c =
     let a = c.args in
-    nameless_leads a.clock (values a.streams.now) (command.Summary a.name.now) a.name.now (λ log by s. summary log s) c.in-None.ensures.value (λ log by. refl)
-
-pub returns-in-Some : goal.returns-in-Some
-returns-in-Some c =
-    let a = c.args in
-    named_read a.clock c.in-Some.i (values a.streams.now) c.index.result.now (command.Summary a.name.now) a.name.now (λ log clock s. summary log s)
-    c.summary.result c.requires.at c.index.ensures c.in-Some.ensures.value
-    (λ log by. refl) (λ log s. refl) c.summary.ensures
+    c.of_stream.ensures.leads (command.Summary a.name.now) (λ log clock s. summary log s) (λ log by. refl)
+    (record {
+      none = λ log clock s. refl;
+      tells = λ x r reads log shown.
+          let told : IfOk r (λ gives. gives ≡ answer_of (summary log x.no)) = search rules in
+          told;
+    })

@@ -45,7 +45,7 @@ pub returns-in-GetIterator-clause-leads : goal.returns-in-GetIterator-clause-lea
 returns-in-GetIterator-clause-leads c before =
     let a = c.args in
     let w = c.in-GetIterator in
-    serve_leads {E = Unit {0}} (Ok c.iterator.result) a.clock before a.made.now (values a.streams.now) (values a.streams.now) a.what (command.GetIterator w.name w.shard w.from) c.iterator.ensures w.is
+    serve_leads c.iterator.result a.clock before a.made.now (values a.streams.now) (values a.streams.now) a.what (command.GetIterator w.name w.shard w.from) c.iterator.ensures.leads w.is
 
 pub returns-in-Records-clause-leads : goal.returns-in-Records-clause-leads
 returns-in-Records-clause-leads c before =
@@ -69,7 +69,19 @@ pub returns-in-Keep-clause-leads : goal.returns-in-Keep-clause-leads
 returns-in-Keep-clause-leads c before =
     let a = c.args in
     let w = c.in-Keep in
-    serve_leads {E = Unit {0}} (Ok c.keep.result) a.clock before a.made.now (values a.streams.now) (values c.keep.new.streams) a.what (command.Keep w.name w.hours w.raise) c.keep.ensures.leads w.is
+    serve_leads c.keep.result a.clock before a.made.now (values a.streams.now) (values c.keep.new.streams) a.what (command.Keep w.name w.hours w.raise) c.keep.ensures.leads w.is
+
+pub returns-in-Scale-clause-leads : goal.returns-in-Scale-clause-leads
+returns-in-Scale-clause-leads c before =
+    let a = c.args in
+    let w = c.in-Scale in
+    serve_leads c.scale.result a.clock before a.made.now (values a.streams.now) (values c.scale.new.streams) a.what (command.Scale w.name w.target) c.scale.ensures.leads w.is
+
+pub returns-in-Enforce-clause-leads : goal.returns-in-Enforce-clause-leads
+returns-in-Enforce-clause-leads c before =
+    let a = c.args in
+    let w = c.in-Enforce in
+    serve_leads {E = Unit {0}} (Ok c.enforce.result) a.clock before a.made.now (values a.streams.now) (values c.enforce.new.streams) a.what (command.Enforce w.name w.on) c.enforce.ensures.leads w.is
 
 pub returns-in-Shards-clause-leads : goal.returns-in-Shards-clause-leads
 returns-in-Shards-clause-leads c before =
