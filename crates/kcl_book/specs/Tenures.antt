@@ -1,8 +1,9 @@
 -- The tenures of leases, the first of them number 1 (Kinesis Client Library, lease ownership).
-use Rattle.std.specs.Prelude.{ℕ, zero, suc, ◌-◌, Bool, false, List, [], ◌∷◌, ◌++◌, length, slice_get, slice_set, Option, None}
+use Rattle.std.specs.Prelude.{ℕ, zero, suc, ◌≡◌, ◌-◌, Bool, false, List, [], ◌∷◌, ◌++◌, length, slice_get, slice_set, Option, None, IfSome}
 use Rattle.kds_base.specs.declared.lease_key.Checkpoint.{Checkpoint}
 use Rattle.kds_base.specs.declared.lease_key.ShardRef.{ShardRef}
 use Rattle.kds_defs.specs.Leases.{place_of}
+use Rattle.kds_defs.specs.Listings.{are_none}
 use Rattle.kcl_book.specs.declared.tenure.PendingRead.{PendingRead}
 use Rattle.kcl_book.specs.declared.tenure.Tenure.{Tenure}
 
@@ -52,3 +53,8 @@ given_of (r ∷ rs) t = record t { delivered = r.reach; pending = rs; at_end = r
 
 abbrev pub with_given : TenureValue → TenureValue
 with_given t = given_of t.pending t
+
+-- the oldest read of the tenure of this number, of those that weren't given, was given, and reached this position
+abbrev pub HasGiven : ℕ → ℕ → BookValue → BookValue → Type 0
+HasGiven number delivered old new =
+    IfSome (tenure_at old.tenures number) (λ t. (are_none t.pending ≡ false) × (delivered ≡ (with_given t).delivered) × (new ≡ with_tenure number (with_given t) old))

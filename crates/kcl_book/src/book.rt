@@ -6,7 +6,7 @@ ghost use Rattle.kds_defs.specs.declared.limits.TheConstants.{PENDING_READS};
 ghost use Rattle.kds_defs.specs.declared.reply.Refusal.TheVariants as refusal;
 ghost use Rattle.kds_defs.specs.Listings.{are_none};
 ghost use Rattle.kds_defs.specs.StreamCommands.{last_number};
-ghost use Rattle.kcl_book.specs.Tenures.{begun, shown, tenure_at, with_given, with_read, with_tenure};
+ghost use Rattle.kcl_book.specs.Tenures.{HasGiven, begun, shown, tenure_at, with_read, with_tenure};
 
 use crate::kept::Kept;
 use crate::tenure::Tenure;
@@ -139,7 +139,7 @@ impl Book {
     pub fn give(&mut self, no: TenureNo) -> Result<u64, Refusal>
         requires { IsSome (tenure_at self.old.tenures no) }
         ensures nothing { IfErr result (λ r. (r ≡ refusal.NothingPending) × (self.new ≡ self.old) × IfSome (tenure_at self.old.tenures no) (λ t. are_none t.pending ≡ true)) }
-        ensures given { IfOk result (λ delivered. IfSome (tenure_at self.old.tenures no) (λ t. (are_none t.pending ≡ false) × (delivered ≡ (with_given t).delivered) × (self.new ≡ with_tenure no (with_given t) self.old))) }
+        ensures given { IfOk result (λ delivered. HasGiven no delivered self.old self.new) }
     {
         let place = (no.0 - 1) as usize;
         if self.tenures[place].is_given() {

@@ -55,7 +55,7 @@ tenures_of s rows ts log st = record { count_is = st.count_is; few = st.few; ten
 
 -- ---- lines that leave the rows, or the tenures, as they were
 
-pub same_rows : (log : Journal) (line : Line) (rows : List Row) → ((ks : List ShardRef) → row_keys_after line.what ks ≡ ks) → ((k : ShardRef) (o : Option Row) → row_after log line.what k o ≡ o) → HasRows log rows → HasRows (line ∷ log) rows
+pub same_rows : (log : Journal) (line : Line) (rows : List Row) → ((ks : List ShardRef) → row_keys_after line.what ks ≡ ks) → ((k : ShardRef) (o : Option Row) → row_after log line line.what k o ≡ o) → HasRows log rows → HasRows (line ∷ log) rows
 same_rows log line rows keys same rs = record {
   keys_are = keys (row_keys log) ∙ rs.keys_are;
   row_is = λ k. same k (row log k) ∙ rs.row_is k;
@@ -86,7 +86,7 @@ bound_if f key k rows true same bounded new = by (row_of rows k) (ap (row_of row
     by (Some r) e = new r e
 
 pub changed_rows : (log : Journal) (line : Line) (rows : List Row) (f : Row → Row) (key : ShardRef) → ((r : Row) → (f r).key ≡ r.key) → ((ks : List ShardRef) → row_keys_after line.what ks ≡ ks)
-    → ((k : ShardRef) (o : Option Row) → row_after log line.what k o ≡ (if same_key key k then option_map f o else o))
+    → ((k : ShardRef) (o : Option Row) → row_after log line line.what k o ≡ (if same_key key k then option_map f o else o))
     → ((r : Row) → row_of rows key ≡ Some r → (f r).checkpoint ≢ At last_number)
     → HasRows log rows → HasRows (line ∷ log) (changed f key rows)
 changed_rows log line rows f key keeps keys after new rs = record {
@@ -97,7 +97,7 @@ changed_rows log line rows f key keeps keys after new rs = record {
 }
 
 pub made_rows : (log : Journal) (line : Line) (rows : List Row) (new : Row) → row_of rows new.key ≡ None → row_keys_after line.what (row_keys log) ≡ map (λ (r : Row). r.key) (with_row new rows)
-    → ((k : ShardRef) (o : Option Row) → row_after log line.what k o ≡ (if same_key new.key k then Some new else o))
+    → ((k : ShardRef) (o : Option Row) → row_after log line line.what k o ≡ (if same_key new.key k then Some new else o))
     → new.checkpoint ≢ At last_number
     → HasRows log rows → HasRows (line ∷ log) (with_row new rows)
 made_rows log line rows new none keys after bound rs = record {
@@ -112,7 +112,7 @@ made_rows log line rows new none keys after bound rs = record {
     by k false = rs.bounded k
 
 pub removed_rows : (log : Journal) (line : Line) (rows : List Row) (key : ShardRef) → row_keys_after line.what (row_keys log) ≡ map (λ (r : Row). r.key) (without_row key rows)
-    → ((k : ShardRef) (o : Option Row) → row_after log line.what k o ≡ (if same_key key k then None else o))
+    → ((k : ShardRef) (o : Option Row) → row_after log line line.what k o ≡ (if same_key key k then None else o))
     → HasRows log rows → HasRows (line ∷ log) (without_row key rows)
 removed_rows log line rows key keys after rs = record {
   keys_are = keys;

@@ -4,8 +4,11 @@ use Rattle.std.specs.Prelude.{◌==◌, ◌||◌, not, is_some, if◌then◌else
 use Rattle.std.specs.Option.{option_map}
 use Rattle.std.proofs.lemmas.Bool.Decides.{nat_tests}
 use Rattle.kds_base.specs.declared.lease_key.Checkpoint.{Checkpoint}
+use Rattle.kds_base.specs.declared.lease_key.Checkpoint.TheVariants.{At}
 use Rattle.kds_base.specs.declared.lease_key.ShardRef.{ShardRef}
 use Rattle.kds_defs.specs.declared.command.Command.TheVariants as command
+use Rattle.kds_defs.specs.declared.command.Origin.{Origin}
+use Rattle.kds_defs.specs.declared.command.Origin.TheVariants as origin
 use Rattle.kds_defs.specs.declared.entry.Entry.TheVariants as entry
 use Rattle.kds_defs.specs.declared.reply.Refusal.{Refusal}
 use Rattle.kds_defs.specs.declared.reply.Refusal.TheVariants as refusal
@@ -16,18 +19,20 @@ use Rattle.kds_defs.specs.declared.reply.Shard.{Shard}
 use Rattle.kds_defs.specs.Decision.{Decision, Refused, Accepted, refuse◌if◌else◌, with◌or◌then◌}
 use Rattle.kds_defs.specs.Histories.{answer_of, decide, lines_of}
 use Rattle.kds_defs.specs.Journal.{Journal, Line, plain_line, with_lines}
-use Rattle.kds_defs.specs.Keys.{is_listed_key, same_key}
-use Rattle.kds_defs.specs.Leases.{checkpoint_in, is_end, new_row, new_tenure, row, taken_count, taken_row, with_key, without_key}
-use Rattle.kds_defs.specs.Shards.{ShardState, is_closed_below, is_listed_state, shard_at, shown}
+use Rattle.kds_defs.specs.Keys.{is_listed_key, ref, same_key}
+use Rattle.kds_defs.specs.LeaseCommands.{counting_origin, parent_reaches_end, row_reaches_end}
+use Rattle.kds_defs.specs.Leases.{checkpoint_in, is_end, made_row, new_row, new_tenure, row, taken_count, taken_row, with_key, without_key}
+use Rattle.kds_defs.specs.Origins.{floor_from, start_from}
+use Rattle.kds_defs.specs.Shards.{ShardState, adjacent_of, is_closed_below, is_listed_state, parent_of, shard_at, shown, start_of}
 use Rattle.kds_defs.specs.StreamCommands.{last_number}
 use Rattle.kds_defs.specs.Streams.{is_live, trim_floor}
 use Rattle.kds_defs.proofs.Decisions.{after_accepted, after_refused, passed_if, refused_if, with_none, with_some}
 use Rattle.kcl_book.specs.Tenures.{TenureValue, begun}
-use Rattle.kcl_table.specs.Rows.{changed, first_row, row_of, with_row, without_row}
+use Rattle.kcl_table.specs.Rows.{changed, row_of, with_row, without_row}
 use Rattle.kcl_table.specs.Writes.{counted, cut_answer, take_answer}
 use Rattle.kcl_leases.proofs.LeaseSteps.{LeaseLines, changed_rows, made_rows, removed_rows, rows_of, same_tenures, stands_of, tenure_begins, tenures_of}
 use Rattle.kcl_leases.proofs.RowChanges.{keys_with, keys_without, same_ref}
-use Rattle.kcl_leases.specs.Conditions.{start_answer}
+use Rattle.kcl_leases.specs.Conditions.{counting_from, parent_reaches, start_answer}
 use Rattle.kcl_leases.specs.Standing.{Facing, Leads, Stands, leases, live_shard}
 
 err_same : {A : Type 0} (r q : Refusal) → ◌≡◌ {A = Result A Refusal} (Err r) (Err q) → r ≡ q
@@ -52,60 +57,93 @@ unlisted log c key h = unlisted_state log c key.stream (shard_at log key.stream 
 
 pub record IsShard (log : Journal) (key : ShardRef) (y : Shard) : Type 0 where
   pub state : ShardState
+  pub live : is_live log key.stream ≡ true
   pub at : shard_at log key.stream key.shard ≡ Some state
   pub is_shown : y ≡ shown state
 
-shard_by : (log : Journal) (key : ShardRef) (o : Option ShardState) (b : Bool) (y : Shard) → shard_at log key.stream key.shard ≡ o → Some y ≡ option_map shown (if b then o else None) → IsShard log key y
-shard_by log key None true y at h = absurd cc
-shard_by log key None false y at h = absurd cc
-shard_by log key (Some x) true y at h = record { state = x; at = at; is_shown = same y (shown x) h }
+shard_by : (log : Journal) (key : ShardRef) (o : Option ShardState) (b : Bool) (y : Shard) → is_live log key.stream ≡ b → shard_at log key.stream key.shard ≡ o → Some y ≡ option_map shown (if b then o else None) → IsShard log key y
+shard_by log key None true y live at h = absurd cc
+shard_by log key None false y live at h = absurd cc
+shard_by log key (Some x) true y live at h = record { state = x; live = live; at = at; is_shown = same y (shown x) h }
   where
     same : (a b : Shard) → Some a ≡ Some b → a ≡ b
     same a b h = cc
-shard_by log key (Some x) false y at h = absurd cc
+shard_by log key (Some x) false y live at h = absurd cc
 
 pub is_shard : (log : Journal) (key : ShardRef) (y : Shard) → Some y ≡ option_map shown (live_shard log key) → IsShard log key y
-is_shard log key y h = shard_by log key (shard_at log key.stream key.shard) (is_live log key.stream) y refl h
+is_shard log key y h = shard_by log key (shard_at log key.stream key.shard) (is_live log key.stream) y refl refl h
+
+-- its first number
+pub starts_at : (log : Journal) (key : ShardRef) (y : Shard) → IsShard log key y → y.start ≡ start_of (shard_at log key.stream key.shard)
+starts_at log key y of = ap (λ (z : Shard). z.start) of.is_shown ∙ sym (ap start_of of.at)
+
+-- whether a parent's row reaches the parent's end
+reaches_is : (log : Journal) (rs : List Row) (s : ℕ) (o : Option ℕ) → is_live log s ≡ true → ((k : ShardRef) → row log k ≡ row_of rs k) → parent_reaches_end log s o ≡ parent_reaches log rs s o
+reaches_is log rs s None live rows = refl
+reaches_is log rs s (Some parent) live rows =
+    ap (λ r. row_reaches_end r (shard_at log s parent)) (rows (ref s parent))
+    ∙ sym (ap (λ b. row_reaches_end (row_of rs (ref s parent)) (if b then shard_at log s parent else None)) live)
+
+-- the origin that counts
+counting_is : (log : Journal) (rs : List Row) (key : ShardRef) (y : Shard) (from : Origin) → IsShard log key y → ((k : ShardRef) → row log k ≡ row_of rs k) → counting_origin log key from ≡ counting_from log rs key.stream y from
+counting_is log rs key y from of rows =
+    ap (λ x. if parent_reaches_end log key.stream (parent_of x) || parent_reaches_end log key.stream (adjacent_of x) then origin.TrimHorizon else from) of.at
+    ∙ ap (λ (z : Shard). if parent_reaches_end log key.stream z.parent || parent_reaches_end log key.stream z.adjacent then origin.TrimHorizon else from) (sym of.is_shown)
+    ∙ ap (λ b. if b || parent_reaches_end log key.stream y.adjacent then origin.TrimHorizon else from) (reaches_is log rs key.stream y.parent of.live rows)
+    ∙ ap (λ b. if parent_reaches log rs key.stream y.parent || b then origin.TrimHorizon else from) (reaches_is log rs key.stream y.adjacent of.live rows)
+
+-- the row that is made
+made_is : (log : Journal) (c : ℕ) (key : ShardRef) (y : Shard) (from : Origin) (floor : ℕ) (start : Checkpoint) → IsShard log key y → floor ≡ floor_from log c key from → start ≡ start_from from floor
+    → made_row log c key from ≡ new_row key floor start y.parent y.adjacent
+made_is log c key y from floor start of floor_is start_is =
+    ap (λ f. new_row key f (start_from from f) (parent_of (shard_at log key.stream key.shard)) (adjacent_of (shard_at log key.stream key.shard))) (sym floor_is)
+    ∙ ap (λ place. new_row key floor place (parent_of (shard_at log key.stream key.shard)) (adjacent_of (shard_at log key.stream key.shard))) (sym start_is)
+    ∙ ap (λ x. new_row key floor start (parent_of x) (adjacent_of x)) of.at
+    ∙ ap (λ (z : Shard). new_row key floor start z.parent z.adjacent) (sym of.is_shown)
+
+made_here : (log : Journal) (c : ℕ) (key k : ShardRef) (from : Origin) (new : Row) (o : Option Row) (b : Bool) → same_key key k ≡ b → made_row log c key from ≡ new
+    → (if b then Some (made_row log c k from) else o) ≡ (if b then Some new else o)
+made_here log c key k from new o false same is = refl
+made_here log c key k from new o true same is = ap (λ (q : ShardRef). Some (made_row log c q from)) (sym (same_ref key k same)) ∙ ap Some is
 
 module _ (s : Facing) (rs : List Row) (ts : List TenureValue) (by : ℕ) (key : ShardRef) where
-  pub make_gone : ((log : Journal) → Stands (leases s rs ts) log → is_listed_key log s.clock key ≡ false) → Leads (leases s rs ts) (leases s rs ts) by (command.MakeLease key) (Err refusal.ShardGone)
-  make_gone gone = λ log st. after_refused _ refusal.ShardGone log (Stands (leases s rs ts)) (refused_if _ _ _ (ap not (gone log st))) st
+  pub make_gone : (from : Origin) → ((log : Journal) → Stands (leases s rs ts) log → is_listed_key log s.clock key ≡ false) → Leads (leases s rs ts) (leases s rs ts) by (command.MakeLease key from) (Err refusal.ShardGone)
+  make_gone from gone = λ log st. after_refused _ refusal.ShardGone log (Stands (leases s rs ts)) (refused_if _ _ _ (ap not (gone log st))) st
 
   some_row : (o : Option Row) (r : Refusal) → ◌≡◌ {A = Result (Unit {0}) Refusal} (Err r) (if is_some o then Err refusal.LeaseThere else Ok tt) → (is_some o ≡ true) × (r ≡ refusal.LeaseThere)
   some_row None r h = absurd cc
   some_row (Some x) r h = (refl, err_same r refusal.LeaseThere h)
 
-  pub make_there : (r : Refusal) → ◌≡◌ {A = Result (Unit {0}) Refusal} (Err r) (if is_some (row_of rs key) then Err refusal.LeaseThere else Ok tt) → ((log : Journal) → Stands (leases s rs ts) log → true ≡ is_listed_key log s.clock key)
-      → Leads (leases s rs ts) (leases s rs ts) by (command.MakeLease key) (Err r)
-  make_there r h listed = λ log st.
+  pub make_there : (from : Origin) (r : Refusal) → ◌≡◌ {A = Result (Unit {0}) Refusal} (Err r) (if is_some (row_of rs key) then Err refusal.LeaseThere else Ok tt) → ((log : Journal) → Stands (leases s rs ts) log → true ≡ is_listed_key log s.clock key)
+      → Leads (leases s rs ts) (leases s rs ts) by (command.MakeLease key from) (Err r)
+  make_there from r h listed = λ log st.
       let there = some_row (row_of rs key) r h in
-      after_refused (decide log s.clock by (command.MakeLease key)) r log (Stands (leases s rs ts))
+      after_refused (decide log s.clock by (command.MakeLease key from)) r log (Stands (leases s rs ts))
       (passed_if _ _ _ (ap not (sym (listed log st))) ∙ refused_if _ _ _ (ap is_some (st.row_is key) ∙ there.0) ∙ ap Refused (sym there.1)) st
 
   no_row : (o : Option Row) → ◌≡◌ {A = Result (Unit {0}) Refusal} (Ok tt) (if is_some o then Err refusal.LeaseThere else Ok tt) → o ≡ None
   no_row None h = refl
   no_row (Some x) h = absurd cc
 
-  new_is : (log : Journal) (y : Shard) (k : ShardRef) (o : Option Row) (b : Bool) → same_key key k ≡ b → IsShard log key y
-      → (if b then Some (new_row k (shard_at log k.stream k.shard)) else o) ≡ (if b then Some (first_row key y.start y.parent y.adjacent) else o)
-  new_is log y k o false same of = refl
-  new_is log y k o true same of =
-      ap (λ (q : ShardRef). Some (new_row q (shard_at log q.stream q.shard))) (sym (same_ref key k same))
-      ∙ ap (λ x. Some (new_row key x)) of.at
-      ∙ ap (λ (z : Shard). Some (first_row key z.start z.parent z.adjacent)) (sym of.is_shown)
-
-  pub make_done : (y : Shard) → LeaseLines s → ◌≡◌ {A = Result (Unit {0}) Refusal} (Ok tt) (if is_some (row_of rs key) then Err refusal.LeaseThere else Ok tt) → ((log : Journal) → Stands (leases s rs ts) log → true ≡ is_listed_key log s.clock key)
+  pub make_done : (y : Shard) (from counts : Origin) (floor : ℕ) (start : Checkpoint) → LeaseLines s → ◌≡◌ {A = Result (Unit {0}) Refusal} (Ok tt) (if is_some (row_of rs key) then Err refusal.LeaseThere else Ok tt)
+      → ((log : Journal) → Stands (leases s rs ts) log → true ≡ is_listed_key log s.clock key)
       → ((log : Journal) → Stands (leases s rs ts) log → Some y ≡ option_map shown (live_shard log key))
-      → Leads (leases s rs ts) (leases s (with_row (first_row key y.start y.parent y.adjacent) rs) ts) by (command.MakeLease key) (Ok reply.Done)
-  make_done y law h listed shard = λ log st.
+      → ((log : Journal) → s.shows log → counts ≡ counting_from log rs key.stream y from)
+      → ((log : Journal) → s.shows log → y.start ≡ start_of (shard_at log key.stream key.shard) → floor ≡ floor_from log s.clock key counts)
+      → start ≡ start_from counts floor → start ≢ At last_number
+      → Leads (leases s rs ts) (leases s (with_row (new_row key floor start y.parent y.adjacent) rs) ts) by (command.MakeLease key from) (Ok (reply.Leased counts))
+  make_done y from counts floor start law h listed shard counted floored start_is bounded = λ log st.
       let none = no_row (row_of rs key) h in
-      let new = first_row key y.start y.parent y.adjacent in
-      let line = plain_line s.clock by (entry.LeaseMade key) in
+      let of = is_shard log key y (shard log st) in
+      let new = new_row key floor start y.parent y.adjacent in
+      let line = plain_line s.clock by (entry.LeaseMade key counts) in
+      let made = made_is log s.clock key y counts floor start of (floored log st.shows (starts_at log key y of)) start_is in
       let stands = stands_of s (with_row new rs) ts (line ∷ log) (law log line st.shows refl refl)
-      (made_rows log line rs new none (ap (with_key key) st.keys_are ∙ sym (keys_with new rs)) (λ k o. new_is log y k o (same_key key k) refl (is_shard log key y (shard log st))) (λ e. cc) (rows_of s rs ts log st))
+      (made_rows log line rs new none (ap (with_key key) st.keys_are ∙ sym (keys_with new rs)) (λ k o. made_here log s.clock key k counts new o (same_key key k) refl made) bounded (rows_of s rs ts log st))
       (same_tenures log line ts (λ n. refl) (λ u o. refl) (tenures_of s rs ts log st)) in
-      after_accepted (decide log s.clock by (command.MakeLease key)) (line ∷ []) reply.Done log (Stands (leases s (with_row new rs) ts))
-      (passed_if _ _ _ (ap not (sym (listed log st))) ∙ passed_if _ _ _ (ap is_some (st.row_is key ∙ none))) stands
+      after_accepted (decide log s.clock by (command.MakeLease key from)) (line ∷ []) (reply.Leased counts) log (Stands (leases s (with_row new rs) ts))
+      (passed_if _ _ _ (ap not (sym (listed log st))) ∙ passed_if _ _ _ (ap is_some (st.row_is key ∙ none))
+      ∙ ap (λ o. Accepted (plain_line s.clock by (entry.LeaseMade key o) ∷ []) (reply.Leased o)) (counting_is log rs key y from of st.row_is ∙ sym (counted log st.shows))) stands
 
 -- ---- a row is taken
 

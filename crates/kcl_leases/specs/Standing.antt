@@ -24,10 +24,11 @@ use Rattle.kcl_table.specs.Rows.{row_of}
 abbrev pub stream_of : Entry → Option ℕ
 stream_of (entry.Made s name count) = Some s
 stream_of (entry.Gone s) = Some s
-stream_of (entry.Put s sh number hash bytes) = Some s
+stream_of (entry.Put s sh number hash bytes key_bytes) = Some s
 stream_of (entry.Split s sh at number low high) = Some s
 stream_of (entry.Merged s sh other number child) = Some s
 stream_of (entry.Kept s hours) = Some s
+stream_of (entry.Enforced s on) = Some s
 stream_of _ = None
 
 -- the shard of a key in a journal, where its stream is live
@@ -114,3 +115,7 @@ pub record Stands (w : LeasesValue) (log : Journal) : Type 0 where
 abbrev pub Leads : LeasesValue → LeasesValue → ℕ → Command → Result Reply Refusal → Type 0
 Leads old new by what gives = (log : Journal) → Stands old log
     → (gives ≡ answer_of (decide log old.shards.clock by what)) × Stands new (with_lines (lines_of (decide log old.shards.clock by what)) log)
+
+-- it leads from these rows and tenures to those, beside shards that stand at a clock and show these journals
+abbrev pub LeadsOver : ℕ → (Journal → Type 0) → List Row → List TenureValue → List Row → List TenureValue → ℕ → Command → Result Reply Refusal → Type 0
+LeadsOver clock shows rows ts rows' ts' by what gives = Leads (over clock shows rows ts) (over clock shows rows' ts') by what gives

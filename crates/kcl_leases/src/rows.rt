@@ -5,18 +5,24 @@ ghost use Rattle.kds_defs.specs.StreamCommands.{last_number};
 ghost use Rattle.kcl_book.specs.Tenures.{TenureValue};
 ghost use Rattle.kcl_table.specs.Rows.{row_of};
 ghost use Rattle.kcl_leases.specs.Conditions.{start_answer};
-ghost use Rattle.kcl_leases.specs.Standing.{AreBounded, Leads, over};
+ghost use Rattle.kcl_leases.specs.Standing.{AreBounded, LeadsOver};
 
 use crate::actors::own;
+use crate::origins::{counting, floor_from, start_from};
 use crate::shards::Shards;
 use kcl_book::Book;
 use kcl_table::Table;
 use kds_base::{Checkpoint, Memory, ShardRef, TenureNo, WorkerNo};
-use kds_defs::{Answer, Refusal, Reply};
+use kds_defs::{Answer, Origin, Refusal, Reply};
 
-/// Makes the row of a listed shard.
-pub fn make<L: Shards>(shards: &L, table: &mut Table, key: &ShardRef) -> Result<Answer, Memory>
-    ensures leads { (by : ℕ) (ts : List TenureValue) → let at = over (L.clock shards.now) (L.shows shards.now) in IfOk result (Leads (at table.old ts) (at table.new ts) by (command.MakeLease key.now)) }
+/// Makes the row of a listed shard. From the origin that counts it has its floor and its first checkpoint.
+pub fn make<L: Shards>(
+    shards: &L,
+    table: &mut Table,
+    key: &ShardRef,
+    from: Origin,
+) -> Result<Answer, Memory>
+    ensures leads { (by : ℕ) (ts : List TenureValue) → IfOk result (LeadsOver (L.clock shards.now) (L.shows shards.now) table.old ts table.new ts by (command.MakeLease key.now from)) }
     ensures kept { OnErr result (table.new ≡ table.old) }
 {
     shards.lease_lines();
@@ -26,8 +32,13 @@ pub fn make<L: Shards>(shards: &L, table: &mut Table, key: &ShardRef) -> Result<
     if !shards.is_listed(*key) {
         return Ok(Err(Refusal::ShardGone));
     }
-    match table.create(*key, shard.start, shard.parent, shard.adjacent)? {
-        Ok(()) => Ok(Ok(Reply::Done)),
+    let counts = counting(shards, table, key.stream, shard, from);
+    // borrowed, so that it can be handed on more than once
+    let from = &counts;
+    let floor = floor_from(shards, key, shard.start, *from);
+    let start = start_from(*from, floor);
+    match table.create(*key, floor, start, shard.parent, shard.adjacent)? {
+        Ok(()) => Ok(Ok(Reply::Leased(*from))),
         Err(refusal) => Ok(Err(refusal)),
     }
 }
@@ -70,7 +81,7 @@ pub fn take<L: Shards>(
 ) -> Result<Answer, Memory>
     requires bounded { AreBounded table.old }
     requires few { length book.old.tenures ≤ last_number }
-    ensures leads { let at = over (L.clock shards.now) (L.shows shards.now) in IfOk result (Leads (at table.old book.old.tenures) (at table.new book.new.tenures) by (command.Take key.now counter owner)) }
+    ensures leads { IfOk result (LeadsOver (L.clock shards.now) (L.shows shards.now) table.old book.old.tenures table.new book.new.tenures by (command.Take key.now counter owner)) }
     ensures kept { OnErr result ((table.new ≡ table.old) × (book.new.tenures ≡ book.old.tenures)) }
 {
     shards.lease_lines();
@@ -101,7 +112,7 @@ pub fn renew<L: Shards>(
     tenure: TenureNo,
     counter: u64,
 ) -> Answer
-    ensures { let at = over (L.clock shards.now) (L.shows shards.now) in Leads (at table.old book.now.tenures) (at table.new book.now.tenures) by (command.Renew tenure counter) result }
+    ensures { LeadsOver (L.clock shards.now) (L.shows shards.now) table.old book.now.tenures table.new book.now.tenures by (command.Renew tenure counter) result }
 {
     shards.lease_lines();
     let own = own(book, by, tenure)?;
@@ -118,7 +129,7 @@ pub fn free<L: Shards>(
     tenure: TenureNo,
     counter: u64,
 ) -> Answer
-    ensures { let at = over (L.clock shards.now) (L.shows shards.now) in Leads (at table.old book.now.tenures) (at table.new book.now.tenures) by (command.Free tenure counter) result }
+    ensures { LeadsOver (L.clock shards.now) (L.shows shards.now) table.old book.now.tenures table.new book.now.tenures by (command.Free tenure counter) result }
 {
     shards.lease_lines();
     let own = own(book, by, tenure)?;
@@ -128,7 +139,7 @@ pub fn free<L: Shards>(
 
 /// Removes the row of a shard that isn't listed.
 pub fn cut<L: Shards>(shards: &L, table: &mut Table, key: &ShardRef, counter: u64) -> Answer
-    ensures { (by : ℕ) (ts : List TenureValue) → let at = over (L.clock shards.now) (L.shows shards.now) in Leads (at table.old ts) (at table.new ts) by (command.CutLease key.now counter) result }
+    ensures { (by : ℕ) (ts : List TenureValue) → LeadsOver (L.clock shards.now) (L.shows shards.now) table.old ts table.new ts by (command.CutLease key.now counter) result }
 {
     shards.lease_lines();
     let listed = shards.is_listed(*key);

@@ -3,7 +3,7 @@ ghost use Rattle.std.specs.Prelude.{◌≡◌, ℕ, List, IfOk, OnErr};
 ghost use Rattle.kds_defs.specs.declared.command.Command.TheVariants as command;
 ghost use Rattle.kds_defs.specs.declared.reply.Row.{Row};
 ghost use Rattle.kds_defs.specs.Journal.{Journal};
-ghost use Rattle.kcl_leases.specs.Standing.{Leads, over};
+ghost use Rattle.kcl_leases.specs.Standing.{LeadsOver};
 
 use crate::actors::{held, own, past_parent};
 use crate::shards::Shards;
@@ -20,7 +20,7 @@ pub fn open<L: Shards>(
     by: u32,
     tenure: TenureNo,
 ) -> Answer
-    ensures { let at = over (L.clock shards.now) (L.shows shards.now) in Leads (at table.now book.old.tenures) (at table.now book.new.tenures) by (command.OpenShard tenure) result }
+    ensures { LeadsOver (L.clock shards.now) (L.shows shards.now) table.now book.old.tenures table.now book.new.tenures by (command.OpenShard tenure) result }
 {
     shards.lease_lines();
     let own = held(table, book, by, tenure)?;
@@ -43,7 +43,7 @@ pub fn open<L: Shards>(
 
 /// The oldest of the tenure's reads that isn't given is given.
 pub fn give<L: Shards>(shards: &L, book: &mut Book, by: u32, tenure: TenureNo) -> Answer
-    ensures { (rows : List Row) → let at = over (L.clock shards.now) (L.shows shards.now) in Leads (at rows book.old.tenures) (at rows book.new.tenures) by (command.Give tenure) result }
+    ensures { (rows : List Row) → LeadsOver (L.clock shards.now) (L.shows shards.now) rows book.old.tenures rows book.new.tenures by (command.Give tenure) result }
 {
     shards.lease_lines();
     own(book, by, tenure)?;
@@ -61,7 +61,7 @@ pub fn mark<L: Shards>(
     counter: u64,
     to: Target,
 ) -> Answer
-    ensures { let at = over (L.clock shards.now) (L.shows shards.now) in Leads (at table.old book.now.tenures) (at table.new book.now.tenures) by (command.Mark tenure counter to) result }
+    ensures { LeadsOver (L.clock shards.now) (L.shows shards.now) table.old book.now.tenures table.new book.now.tenures by (command.Mark tenure counter to) result }
 {
     shards.lease_lines();
     let own = own(book, by, tenure)?;

@@ -1,15 +1,9 @@
 -- Rows of the lease table in the order of their keys (Kinesis Client Library, lease table).
 use Rattle.std.specs.Prelude.{ℕ, suc, ◌≡◌, ◌≤◌, true, if◌then◌else◌, List, [], ◌∷◌, Option, Some, None}
 use Rattle.std.specs.List.{AllByRecursion}
-use Rattle.kds_base.specs.declared.lease_key.Checkpoint.TheVariants.{TrimHorizon}
 use Rattle.kds_base.specs.declared.lease_key.ShardRef.{ShardRef}
 use Rattle.kds_defs.specs.declared.reply.Row.{Row}
 use Rattle.kds_defs.specs.Keys.{is_before, same_key}
-
--- a row as it is made: at the trim horizon, owned by nobody
-abbrev pub first_row : ShardRef → ℕ → Option ℕ → Option ℕ → Row
-first_row key floor parent adjacent =
-    record { key = key; owner = None; counter = 0; checkpoint = TrimHorizon; switches = 0; tenure = 0; floor = floor; parent = parent; adjacent = adjacent }
 
 -- the row of a key
 abbrev pub row_of : List Row → ShardRef → Option Row

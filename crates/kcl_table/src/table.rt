@@ -2,8 +2,8 @@
 ghost use Rattle.std.specs.Prelude.{◌≡◌, ◌≢◌, ◌≤◌, [], is_some, if◌then◌else◌, None, Err, Ok, IfOk, OnErr, OnOk};
 ghost use Rattle.std.specs.Option.{option_map};
 ghost use Rattle.kds_defs.specs.declared.reply.Refusal.TheVariants as refusal;
-ghost use Rattle.kds_defs.specs.Leases.{freed_row, marked_row, renewed_row, taken_row};
-ghost use Rattle.kcl_table.specs.Rows.{changed, first_row, row_of, with_row, without_row};
+ghost use Rattle.kds_defs.specs.Leases.{freed_row, marked_row, new_row, renewed_row, taken_row};
+ghost use Rattle.kcl_table.specs.Rows.{changed, row_of, with_row, without_row};
 ghost use Rattle.kcl_table.specs.Writes.{cut_answer, mark_answer, renew_answer, take_answer};
 
 use crate::place::{place_of, row_of};
@@ -72,17 +72,19 @@ impl Table {
         self.rows[place] = row;
     }
 
-    /// Makes the row of a key, at the trim horizon and owned by nobody. `LeaseThere` exactly where the key has
-    /// one. `floor` is the shard's starting sequence number (Kinesis Client Library, lease).
+    /// Makes the row of a key, owned by nobody: `floor` is the number where the row's records begin, `start` the
+    /// checkpoint where its first tenure begins. `LeaseThere` exactly where the key has one
+    /// (Kinesis Client Library, lease, initial position in stream).
     pub fn create(
         &mut self,
         key: ShardRef,
         floor: Seq,
+        start: Checkpoint,
         parent: Option<ShardNo>,
         adjacent: Option<ShardNo>,
     ) -> Result<Result<(), Refusal>, Memory>
         ensures value { IfOk result (λ a. a ≡ (if is_some (row_of self.old key) then Err refusal.LeaseThere else Ok tt)) }
-        ensures made { IfOk result (λ a. OnOk a (self.new ≡ with_row (first_row key floor parent adjacent) self.old)) }
+        ensures made { IfOk result (λ a. OnOk a (self.new ≡ with_row (new_row key floor start parent adjacent) self.old)) }
         ensures refused { IfOk result (λ a. OnErr a (self.new ≡ self.old)) }
         ensures kept { OnErr result (self.new ≡ self.old) }
     {
@@ -91,7 +93,7 @@ impl Table {
         };
         let place = place_of(&self.rows, &key);
         self.rows
-            .insert(place, first(key, floor, parent, adjacent))?;
+            .insert(place, first(key, floor, start, parent, adjacent))?;
         Ok(Ok(()))
     }
 
@@ -193,14 +195,20 @@ impl Table {
 }
 
 /// The row of a key as it is made.
-fn first(key: ShardRef, floor: Seq, parent: Option<ShardNo>, adjacent: Option<ShardNo>) -> Row
-    ensures { result ≡ first_row key floor parent adjacent }
+fn first(
+    key: ShardRef,
+    floor: Seq,
+    start: Checkpoint,
+    parent: Option<ShardNo>,
+    adjacent: Option<ShardNo>,
+) -> Row
+    ensures { result ≡ new_row key floor start parent adjacent }
 {
     Row {
         key,
         owner: None,
         counter: 0,
-        checkpoint: Checkpoint::TrimHorizon,
+        checkpoint: start,
         switches: 0,
         tenure: TenureNo(0),
         floor,
