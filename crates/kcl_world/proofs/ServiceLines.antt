@@ -1,6 +1,6 @@
 -- The lines of the commands to the stream service leave rows and tenures as they were.
 use Rattle.std.proofs.Common.{◌≡◌, ℕ, ◌+◌, Bool, true, false, List, [], ◌∷◌, Option, Some, None, refl}
-use Rattle.std.specs.Prelude.{is_some, Result, Ok, Err, IfOk}
+use Rattle.std.specs.Prelude.{if◌then◌else◌, is_some, Result, Ok, Err, IfOk}
 use Rattle.kds_base.specs.declared.lease_key.ShardRef.{ShardRef}
 use Rattle.kds_defs.specs.declared.command.Command.{Command}
 use Rattle.kds_defs.specs.declared.command.Command.TheVariants as command
@@ -10,12 +10,17 @@ use Rattle.kds_defs.specs.declared.entry.Entry.TheVariants as entry
 use Rattle.kds_defs.specs.declared.reply.Refusal.{Refusal}
 use Rattle.kds_defs.specs.declared.reply.Reply.{Reply}
 use Rattle.kds_defs.specs.declared.reply.Row.{Row}
+use Rattle.kds_defs.specs.declared.scale.ScaleStep.{ScaleStep}
+use Rattle.kds_defs.specs.declared.scale.ScaleStep.TheVariants.{Cut, Join}
 use Rattle.kds_defs.specs.Decision.{Decision, refuse◌if◌else◌, with◌or◌then◌}
 use Rattle.kds_defs.specs.Histories.{decide, lines_of}
-use Rattle.kds_defs.specs.Journal.{Journal, Line, with_lines}
+use Rattle.kds_defs.specs.Journal.{Journal, Line, plain_line, with_lines}
 use Rattle.kds_defs.specs.Kinds.{is_service}
 use Rattle.kds_defs.specs.Leases.{TenureState, row_after, row_keys_after, taken_count_after, tenure_after}
-use Rattle.kds_defs.specs.StreamCommands.{put_lines}
+use Rattle.kds_defs.specs.PutCommands.{is_held_back, put_lines}
+use Rattle.kds_defs.specs.Records.{next_number}
+use Rattle.kds_defs.specs.ScaleCommands.{step_entry, step_lines, steps_to}
+use Rattle.kds_defs.specs.StreamCommands.{put_line}
 use Rattle.kds_stream.specs.Showing.{stream_of}
 use Rattle.kcl_leases.specs.Standing.{Facing, facing}
 use Rattle.kds_service.specs.Shown.{ServiceValue, ShowsAll}
@@ -43,9 +48,23 @@ unfolding with◌or◌then◌
 found None r next rest = tt
 found (Some x) r next rest = rest x
 
-puts : (log : Journal) (c by s number : ℕ) (items : List NewItem) → AreOfStreams (put_lines log c by s number items)
-puts log c by s number [] = tt
-puts log c by s number (item ∷ items) = (refl, puts log c by s (number + 1) items)
+either : (b : Bool) (line : Line) (xs ys : List Line) → is_some (stream_of line.what) ≡ true → AreOfStreams xs → AreOfStreams ys → AreOfStreams (if b then xs else line ∷ ys)
+either true line xs ys of held stored = held
+either false line xs ys of held stored = (of, stored)
+
+puts : (log : Journal) (c by s : ℕ) (items : List NewItem) → AreOfStreams (put_lines log c by s items)
+puts log c by s [] = tt
+puts log c by s (item ∷ items) =
+    let line : Line = put_line log c by s (next_number log s) item in
+    either (is_held_back log c s item) line _ _ refl (puts log c by s items) (puts (line ∷ log) c by s items)
+
+step_of_stream : (log : Journal) (s : ℕ) (step : ScaleStep) → is_some (stream_of (step_entry log s step)) ≡ true
+step_of_stream log s (Join b) = refl
+step_of_stream log s (Cut b) = refl
+
+scalings : (log : Journal) (c by s : ℕ) (steps : List ScaleStep) → AreOfStreams (step_lines log c by s steps)
+scalings log c by s [] = tt
+scalings log c by s (step ∷ steps) = (step_of_stream log s step, scalings (plain_line c by (step_entry log s step) ∷ log) c by s steps)
 
 service_lines : (log : Journal) (c by : ℕ) (what : Command) → is_service what ≡ true → AreOfStreams (lines_of (decide log c by what))
 service_lines log c by (command.Create name count) h = refused _ _ _ (refused _ _ _ (refused _ _ _ (refl, tt)))
@@ -57,26 +76,28 @@ service_lines log c by (command.Shards name after limit) h = found _ _ _ (λ s. 
 service_lines log c by (command.More page limit) h = refused _ _ _ (refused _ _ _ tt)
 service_lines log c by (command.GetIterator name sh from) h = found _ _ _ (λ s. refused _ _ _ (found _ _ _ (λ x. refused _ _ _ tt)))
 service_lines log c by (command.Records iter limit) h = refused _ _ _ (refused _ _ _ (refused _ _ _ tt))
-service_lines log c by (command.Put name item) h = found _ _ _ (λ s. refused _ _ _ (refl, tt))
-service_lines log c by (command.PutMany name items) h = found _ _ _ (λ s. refused _ _ _ (puts log c by s _ items))
+service_lines log c by (command.Put name item) h = found _ _ _ (λ s. refused _ _ _ (refused _ _ _ (refl, tt)))
+service_lines log c by (command.PutMany name items) h = found _ _ _ (λ s. refused _ _ _ (puts log c by s items))
 service_lines log c by (command.Split name sh at) h = found _ _ _ (λ s. refused _ _ _ (refused _ _ _ (refused _ _ _ (refused _ _ _ (refused _ _ _ (refl, tt))))))
 service_lines log c by (command.Merge name sh other) h = found _ _ _ (λ s. refused _ _ _ (refused _ _ _ (refused _ _ _ (refused _ _ _ (refl, tt)))))
 service_lines log c by (command.Keep name wanted raise) h = found _ _ _ (λ s. refused _ _ _ (refl, tt))
+service_lines log c by (command.Scale name target) h = found _ _ _ (λ s. refused _ _ _ (refused _ _ _ (scalings log c by s (steps_to log s target))))
+service_lines log c by (command.Enforce name on) h = found _ _ _ (λ s. (refl, tt))
 service_lines log c by _ h = absurd cc
 
 -- ---- what such a line leaves
 
-row_same : (log : Journal) (what : Entry) (k : ShardRef) (o : Option Row) → is_some (stream_of what) ≡ true → row_after log what k o ≡ o
-row_same log (entry.LeaseMade q) k o h = absurd cc
-row_same log (entry.LeaseCut q n) k o h = absurd cc
-row_same log (entry.Taken q t n owner) k o h = absurd cc
-row_same log (entry.Renewed t n) k o h = absurd cc
-row_same log (entry.Freed t n) k o h = absurd cc
-row_same log (entry.Marked t n to) k o h = absurd cc
-row_same log _ k o h = refl
+row_same : (log : Journal) (line : Line) (what : Entry) (k : ShardRef) (o : Option Row) → is_some (stream_of what) ≡ true → row_after log line what k o ≡ o
+row_same log line (entry.LeaseMade q from) k o h = absurd cc
+row_same log line (entry.LeaseCut q n) k o h = absurd cc
+row_same log line (entry.Taken q t n owner) k o h = absurd cc
+row_same log line (entry.Renewed t n) k o h = absurd cc
+row_same log line (entry.Freed t n) k o h = absurd cc
+row_same log line (entry.Marked t n to) k o h = absurd cc
+row_same log line _ k o h = refl
 
 keys_same : (what : Entry) (ks : List ShardRef) → is_some (stream_of what) ≡ true → row_keys_after what ks ≡ ks
-keys_same (entry.LeaseMade q) ks h = absurd cc
+keys_same (entry.LeaseMade q from) ks h = absurd cc
 keys_same (entry.LeaseCut q n) ks h = absurd cc
 keys_same _ ks h = refl
 
@@ -94,7 +115,7 @@ tenure_same log line _ t o h = refl
 rows_along : (rs : List Row) (lines : List Line) (log : Journal) → AreOfStreams lines → HasRows log rs → HasRows (with_lines lines log) rs
 rows_along rs [] log of has = has
 rows_along rs (line ∷ lines) log of has =
-    rows_along rs lines (line ∷ log) of.1 (same_rows log line rs (λ ks. keys_same line.what ks of.0) (λ k o. row_same log line.what k o of.0) has)
+    rows_along rs lines (line ∷ log) of.1 (same_rows log line rs (λ ks. keys_same line.what ks of.0) (λ k o. row_same log line line.what k o of.0) has)
 
 tenures_along : (ts : List TenureValue) (lines : List Line) (log : Journal) → AreOfStreams lines → HasTenures log ts → HasTenures (with_lines lines log) ts
 tenures_along ts [] log of has = has

@@ -34,7 +34,7 @@ fn lease_answer(
     let shards = &shards;
     match what {
         Command::Survey => survey(service, table),
-        Command::MakeLease { key } => make(shards, table, &key),
+        Command::MakeLease { key, from } => make(shards, table, &key, from),
         Command::Take {
             key,
             counter,

@@ -1,7 +1,7 @@
 //! The shards of the service, as leases see them.
 use kcl_leases::Shards;
 use kds_base::ShardRef;
-use kds_defs::Shard;
+use kds_defs::{Origin, Shard};
 use kds_service::{Service, lease_lines};
 
 /// The shards of a service.
@@ -26,6 +26,10 @@ impl<'a> Shards for ServiceShards<'a> {
 
     fn shard(&self, key: ShardRef) -> Option<&Shard> {
         self.service.shard(key)
+    }
+
+    fn position(&self, key: ShardRef, from: Origin) -> u64 {
+        self.service.position(key, from)
     }
 
     fn lease_lines(&self) {
