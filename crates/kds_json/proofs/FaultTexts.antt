@@ -9,7 +9,7 @@ use Rattle.kds_json.specs.declared.operation.Operation.TheVariants as op
 use Rattle.kds_json.specs.declared.problem.Fault.{Fault}
 use Rattle.kds_json.specs.Reading.{some_or}
 use Rattle.kds_json.specs.Member.{absent_at, required_at, optional_at, token_at, member_of}
-use Rattle.kds_json.specs.Operations.{create_stream, delete_stream, list_streams, describe_stream, describe_summary, keep, start_at, start_after, start_time, start_of, get_shard_iterator, get_records, split_shard, merge_shards, list_from_start, list_from_token, list_shards}
+use Rattle.kds_json.specs.Operations.{create_stream, delete_stream, list_streams, describe_stream, describe_summary, keep, update_shard_count, enforce_limits, start_at, start_after, start_time, start_of, get_shard_iterator, get_records, split_shard, merge_shards, list_from_start, list_from_token, list_shards}
 use Rattle.kds_json.specs.Asked.{read_body, if_object, object_of, operation_named, members_of, asked}
 use Rattle.kds_json.proofs.MemberTexts.{NamesText, then_text, some_or_text, if_text, absent_text, required_text, optional_text, token_text, names}
 use Rattle.kds_json.proofs.RecordTexts.{put_text, many_text}
@@ -49,6 +49,19 @@ unfolding keep
 keep_text raise d =
     then_text (required_at _ (codes "StreamName") d) _ (required_text _ _ d names.stream_name) (λ name.
     then_text (required_at _ (codes "RetentionPeriodHours") d) _ (required_text _ _ d names.retention) (λ wanted. tt))
+
+scale_text : (d : Data) → NamesText (update_shard_count d)
+unfolding update_shard_count
+scale_text d =
+    then_text (required_at _ (codes "StreamName") d) _ (required_text _ _ d names.stream_name) (λ name.
+    then_text (required_at _ (codes "TargetShardCount") d) _ (required_text _ _ d names.target_count) (λ target.
+    then_text (required_at _ (codes "ScalingType") d) _ (required_text _ _ d names.scaling_type) (λ uniform. tt)))
+
+enforce_text : (d : Data) → NamesText (enforce_limits d)
+unfolding enforce_limits
+enforce_text d =
+    then_text (required_at _ (codes "StreamName") d) _ (required_text _ _ d names.stream_name) (λ name.
+    then_text (required_at _ (codes "Enforce") d) _ (required_text _ _ d names.enforce) (λ on. tt))
 
 at_text : (d : Data) → NamesText (start_at d)
 unfolding start_at
@@ -144,6 +157,8 @@ members_text op.SplitShard d = split_text d
 members_text op.MergeShards d = merge_text d
 members_text op.IncreaseRetention d = keep_text true d
 members_text op.DecreaseRetention d = keep_text false d
+members_text op.UpdateShardCount d = scale_text d
+members_text op.EnforceLimits d = enforce_text d
 
 asked_text : (operation body : List ℕ) → NamesText (asked operation body)
 unfolding asked

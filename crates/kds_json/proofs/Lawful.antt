@@ -1,7 +1,7 @@
 -- A command that is asked for is lawful, and one of the stream service.
 use Rattle.std.proofs.Common.{◌≡◌, ℕ, List, Bool, true, false, None, Ok, IfOk, codes, arith, is_some, refl}
 use Rattle.serde_json.specs.Data.{Data}
-use Rattle.serde_json.specs.Find.{as_str}
+use Rattle.serde_json.specs.Find.{as_str, as_bool}
 use Rattle.kds_defs.specs.declared.command.Command.{Command}
 use Rattle.kds_defs.specs.declared.limits.TheConstants.{LEAST_SHARDS, MOST_SHARDS, LEAST_HOURS, MOST_HOURS}
 use Rattle.kds_defs.specs.Lawful.{IsNameIfThere, IsRetention, IsShardCount}
@@ -9,8 +9,8 @@ use Rattle.kds_json.specs.declared.operation.Operation.{Operation}
 use Rattle.kds_json.specs.declared.operation.Operation.TheVariants as op
 use Rattle.kds_json.specs.Reading.{some_or}
 use Rattle.kds_json.specs.Member.{absent_at, member_of, required_at, optional_at, token_at}
-use Rattle.kds_json.specs.Kinds.{some_name_in, number_in, hash_in}
-use Rattle.kds_json.specs.Operations.{create_stream, delete_stream, list_streams, describe_stream, describe_summary, keep, start_of, get_shard_iterator, get_records, split_shard, merge_shards, list_from_start, list_from_token, list_shards}
+use Rattle.kds_json.specs.Kinds.{some_name_in, scaling_in, number_in, hash_in}
+use Rattle.kds_json.specs.Operations.{create_stream, delete_stream, list_streams, describe_stream, describe_summary, keep, update_shard_count, enforce_limits, start_of, get_shard_iterator, get_records, split_shard, merge_shards, list_from_start, list_from_token, list_shards}
 use Rattle.kds_json.specs.Asked.{object_of, operation_named, members_of, asked, IsRequest}
 use Rattle.kds_json.proofs.LawfulMembers.{then_has, then_is, either, some_name_is, number_is, IsHash, hash_is, required_has, optional_has, then_named, then_limited}
 use Rattle.kds_json.proofs.LawfulRecords.{put_is, many_is}
@@ -54,6 +54,20 @@ keep_is raise d =
     then_has IsRetention IsRequest (required_at (number_in LEAST_HOURS MOST_HOURS) (codes "RetentionPeriodHours") d) _
     (required_has IsRetention (number_in LEAST_HOURS MOST_HOURS) (codes "RetentionPeriodHours") d (number_is LEAST_HOURS MOST_HOURS))
     (λ wanted is. ((is_named, is), refl)))
+
+scale_is : (d : Data) → IfOk (update_shard_count d) IsRequest
+unfolding update_shard_count
+scale_is d =
+    then_named (codes "StreamName") d _ (λ name is_named.
+    then_has IsShardCount IsRequest (required_at (number_in LEAST_SHARDS MOST_SHARDS) (codes "TargetShardCount") d) _
+    (required_has IsShardCount (number_in LEAST_SHARDS MOST_SHARDS) (codes "TargetShardCount") d (number_is LEAST_SHARDS MOST_SHARDS)) (λ target counted.
+    then_is IsRequest (required_at scaling_in (codes "ScalingType") d) _ (λ uniform. ((is_named, counted), refl))))
+
+enforce_is : (d : Data) → IfOk (enforce_limits d) IsRequest
+unfolding enforce_limits
+enforce_is d =
+    then_named (codes "StreamName") d _ (λ name is_named.
+    then_is IsRequest (required_at as_bool (codes "Enforce") d) _ (λ on. (is_named, refl)))
 
 iterator_is : (d : Data) → IfOk (get_shard_iterator d) IsRequest
 unfolding get_shard_iterator
@@ -120,6 +134,8 @@ members_are op.SplitShard d = split_is d
 members_are op.MergeShards d = merge_is d
 members_are op.IncreaseRetention d = keep_is true d
 members_are op.DecreaseRetention d = keep_is false d
+members_are op.UpdateShardCount d = scale_is d
+members_are op.EnforceLimits d = enforce_is d
 
 asked_is : (operation body : List ℕ) → IfOk (asked operation body) IsRequest
 unfolding asked

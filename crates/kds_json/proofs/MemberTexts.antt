@@ -87,6 +87,9 @@ pub record AreTexts : Type 0 where
   pub most : IsUtf8 (codes "MaxResults")
   pub exclusive_name : IsUtf8 (codes "ExclusiveStartStreamName")
   pub retention : IsUtf8 (codes "RetentionPeriodHours")
+  pub target_count : IsUtf8 (codes "TargetShardCount")
+  pub scaling_type : IsUtf8 (codes "ScalingType")
+  pub enforce : IsUtf8 (codes "Enforce")
   pub moment : IsUtf8 (codes "Timestamp")
   pub many : IsUtf8 (codes "Records")
   pub one_of_many : IsUtf8 (codes "Records.")
@@ -116,6 +119,9 @@ names = record {
   most = IsUtf8-from_is_utf8 (codes "MaxResults") refl;
   exclusive_name = IsUtf8-from_is_utf8 (codes "ExclusiveStartStreamName") refl;
   retention = IsUtf8-from_is_utf8 (codes "RetentionPeriodHours") refl;
+  target_count = IsUtf8-from_is_utf8 (codes "TargetShardCount") refl;
+  scaling_type = IsUtf8-from_is_utf8 (codes "ScalingType") refl;
+  enforce = IsUtf8-from_is_utf8 (codes "Enforce") refl;
   moment = IsUtf8-from_is_utf8 (codes "Timestamp") refl;
   many = IsUtf8-from_is_utf8 (codes "Records") refl;
   one_of_many = IsUtf8-from_is_utf8 (codes "Records.") refl;

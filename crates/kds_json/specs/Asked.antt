@@ -11,7 +11,7 @@ use Rattle.kds_json.specs.declared.operation.Operation.TheVariants as op
 use Rattle.kds_json.specs.declared.problem.Fault.{Fault}
 use Rattle.kds_json.specs.declared.problem.FaultKind.TheVariants.{Unknown, Serialization}
 use Rattle.kds_json.specs.Reading.{◌>>=◌, fault_of, some_or}
-use Rattle.kds_json.specs.Operations.{create_stream, delete_stream, list_streams, describe_stream, describe_summary, keep, put_record, get_shard_iterator, get_records, split_shard, merge_shards, list_shards}
+use Rattle.kds_json.specs.Operations.{create_stream, delete_stream, list_streams, describe_stream, describe_summary, keep, update_shard_count, enforce_limits, put_record, get_shard_iterator, get_records, split_shard, merge_shards, list_shards}
 use Rattle.kds_json.specs.Many.{put_records}
 
 -- what a body reads as, where it is JSON in UTF-8 (RFC 8259)
@@ -26,7 +26,7 @@ if_object _ = Err (fault_of Serialization [])
 abbrev pub object_of : List ℕ → Result Data Fault
 object_of body = if_object (read_body body)
 
--- the operation of a name, if there is one (Kinesis API Reference, Actions)
+-- the operation of a name, if there is one (Kinesis API Reference, Actions; LocalEnforceLimits is this project's own)
 abbrev pub operation_named : List ℕ → Option Operation
 operation_named name =
     if bytes_eq name (codes "CreateStream") then Some op.CreateStream
@@ -43,6 +43,8 @@ operation_named name =
     else if bytes_eq name (codes "MergeShards") then Some op.MergeShards
     else if bytes_eq name (codes "IncreaseStreamRetentionPeriod") then Some op.IncreaseRetention
     else if bytes_eq name (codes "DecreaseStreamRetentionPeriod") then Some op.DecreaseRetention
+    else if bytes_eq name (codes "UpdateShardCount") then Some op.UpdateShardCount
+    else if bytes_eq name (codes "LocalEnforceLimits") then Some op.EnforceLimits
     else None
 
 -- what the members of an operation ask for
@@ -61,6 +63,8 @@ members_of op.SplitShard d = split_shard d
 members_of op.MergeShards d = merge_shards d
 members_of op.IncreaseRetention d = keep true d
 members_of op.DecreaseRetention d = keep false d
+members_of op.UpdateShardCount d = update_shard_count d
+members_of op.EnforceLimits d = enforce_limits d
 
 -- An operation that isn't known is refused before the body is read.
 unfoldable pub asked : List ℕ → List ℕ → Result Command Fault

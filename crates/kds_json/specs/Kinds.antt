@@ -29,6 +29,13 @@ provisioned mode = if bytes_eq mode (codes "PROVISIONED") then Some tt else None
 abbrev pub mode_in : Data → Option ⊤
 mode_in x = option_and_then provisioned (option_and_then as_str (member_of (codes "StreamMode") x))
 
+abbrev pub uniform : List ℕ → Option ⊤
+uniform kind = if bytes_eq kind (codes "UNIFORM_SCALING") then Some tt else None
+
+-- the kind of a scaling: `UNIFORM_SCALING` (Kinesis API Reference, UpdateShardCount, ScalingType)
+abbrev pub scaling_in : Data → Option ⊤
+scaling_in x = option_and_then uniform (as_str x)
+
 abbrev pub within : ℕ → ℕ → ℕ → Option ℕ
 within low high n = if nat_le low n && nat_le n high then Some n else None
 

@@ -3,7 +3,7 @@
 use Rattle.std.specs.Prelude.{ℕ, List, length, codes, Bool, if◌then◌else◌, is_some, None, Result, Ok, Err}
 use Rattle.std.specs.Str.{bytes_eq}
 use Rattle.serde_json.specs.Data.{Data}
-use Rattle.serde_json.specs.Find.{as_str}
+use Rattle.serde_json.specs.Find.{as_str, as_bool}
 use Rattle.kds_defs.specs.declared.command.Command.{Command}
 use Rattle.kds_defs.specs.declared.command.Command.TheVariants as command
 use Rattle.kds_defs.specs.declared.command.NewItem.{NewItem}
@@ -16,7 +16,7 @@ use Rattle.kds_json.specs.declared.problem.Fault.{Fault}
 use Rattle.kds_json.specs.declared.problem.FaultKind.TheVariants.{Invalid}
 use Rattle.kds_json.specs.Reading.{◌>>=◌, fault_of}
 use Rattle.kds_json.specs.Member.{member_of, absent_at, required_at, optional_at, token_at}
-use Rattle.kds_json.specs.Kinds.{name_in, some_name_in, mode_in, number_in, moment_in, key_in, blob_in, id_in, some_id_in, hash_in, hash_at, sequence_in}
+use Rattle.kds_json.specs.Kinds.{name_in, some_name_in, mode_in, scaling_in, number_in, moment_in, key_in, blob_in, id_in, some_id_in, hash_in, hash_at, sequence_in}
 
 -- ---- streams
 
@@ -61,6 +61,21 @@ keep raise d = do
   name ← required_at name_in (codes "StreamName") d
   wanted ← required_at (number_in LEAST_HOURS MOST_HOURS) (codes "RetentionPeriodHours") d
   Ok (command.Keep name wanted raise)
+
+-- UpdateShardCount (Kinesis API Reference, UpdateShardCount, Request Parameters)
+unfoldable pub update_shard_count : Data → Result Command Fault
+update_shard_count d = do
+  name ← required_at name_in (codes "StreamName") d
+  target ← required_at (number_in LEAST_SHARDS MOST_SHARDS) (codes "TargetShardCount") d
+  uniform ← required_at scaling_in (codes "ScalingType") d
+  Ok (command.Scale name target)
+
+-- LocalEnforceLimits, an operation of this project's own
+unfoldable pub enforce_limits : Data → Result Command Fault
+enforce_limits d = do
+  name ← required_at name_in (codes "StreamName") d
+  on ← required_at as_bool (codes "Enforce") d
+  Ok (command.Enforce name on)
 
 -- ---- records
 

@@ -19,6 +19,9 @@ pub enum Operation {
     MergeShards,
     IncreaseRetention,
     DecreaseRetention,
+    UpdateShardCount,
+    /// An operation of this project's own.
+    EnforceLimits,
 }
 
 /// The operation of a name, if there is one.
@@ -53,6 +56,10 @@ pub fn operation_named(name: &[u8]) -> Option<Operation>
         Some(Operation::IncreaseRetention)
     } else if name == b"DecreaseStreamRetentionPeriod".as_slice() {
         Some(Operation::DecreaseRetention)
+    } else if name == b"UpdateShardCount".as_slice() {
+        Some(Operation::UpdateShardCount)
+    } else if name == b"LocalEnforceLimits".as_slice() {
+        Some(Operation::EnforceLimits)
     } else {
         None
     }

@@ -12,7 +12,8 @@ use crate::problem::{Fault, FaultKind, Stop};
 use crate::records::{get_records, get_shard_iterator, put_record};
 use crate::shards::{list_shards, merge_shards, split_shard};
 use crate::streams::{
-    create_stream, delete_stream, describe_stream, describe_summary, keep, list_streams,
+    create_stream, delete_stream, describe_stream, describe_summary, enforce_limits, keep,
+    list_streams, update_shard_count,
 };
 use kds_base::Memory;
 use kds_defs::Command;
@@ -65,6 +66,8 @@ fn members(alloc: Global, operation: Operation, object: &Value) -> Result<Comman
         Operation::MergeShards => merge_shards(alloc, object),
         Operation::IncreaseRetention => keep(alloc, object, true),
         Operation::DecreaseRetention => keep(alloc, object, false),
+        Operation::UpdateShardCount => update_shard_count(alloc, object),
+        Operation::EnforceLimits => enforce_limits(alloc, object),
     }
 }
 

@@ -2,11 +2,11 @@
 ghost use Rattle.std.specs.Prelude.{◌≡◌};
 ghost use Rattle.serde_json.specs.View.{view};
 ghost use Rattle.kds_json.specs.Reading.{Gives};
-ghost use Rattle.kds_json.specs.Operations.{create_stream as create_stream_of, delete_stream as delete_stream_of, list_streams as list_streams_of, describe_stream as describe_stream_of, describe_summary as describe_summary_of, keep as keep_of};
+ghost use Rattle.kds_json.specs.Operations.{create_stream as create_stream_of, delete_stream as delete_stream_of, list_streams as list_streams_of, describe_stream as describe_stream_of, describe_summary as describe_summary_of, keep as keep_of, update_shard_count as update_shard_count_of, enforce_limits as enforce_limits_of};
 
 use crate::numbers::{number_member, optional_id, optional_limit};
 use crate::problem::Stop;
-use crate::texts::{mode_member, name_member, optional_name};
+use crate::texts::{mode_member, name_member, optional_name, scaling_member, truth_member};
 use kds_defs::Command;
 use kds_defs::limits::{
     DESCRIBED_LIMIT, LEAST_HOURS, LEAST_SHARDS, MOST, MOST_HOURS, MOST_SHARDS, NAMES_LIMIT,
@@ -79,4 +79,26 @@ pub fn keep(alloc: Global, object: &Value, raise: bool) -> Result<Command, Stop>
         MOST_HOURS,
     )?;
     Ok(Command::Keep { name, hours, raise })
+}
+
+/// UpdateShardCount. Its factor has no bound here (Kinesis API Reference, UpdateShardCount).
+#[tactic(auto, unfolding(crate::specs::Operations::update_shard_count))]
+pub fn update_shard_count(alloc: Global, object: &Value) -> Result<Command, Stop>
+    ensures { Gives (λ c. c) result (update_shard_count_of (view object.now)) }
+{
+    let name = name_member(alloc, object, "StreamName")?;
+    let target = number_member(alloc, object, "TargetShardCount", LEAST_SHARDS, MOST_SHARDS)?;
+    scaling_member(alloc, object, "ScalingType")?;
+    Ok(Command::Scale { name, target })
+}
+
+/// LocalEnforceLimits, an operation of this project's own: the limits on the throughput of a stream's shards are
+/// turned on or off.
+#[tactic(auto, unfolding(crate::specs::Operations::enforce_limits))]
+pub fn enforce_limits(alloc: Global, object: &Value) -> Result<Command, Stop>
+    ensures { Gives (λ c. c) result (enforce_limits_of (view object.now)) }
+{
+    let name = name_member(alloc, object, "StreamName")?;
+    let on = truth_member(alloc, object, "Enforce")?;
+    Ok(Command::Enforce { name, on })
 }

@@ -1,11 +1,11 @@
-//! Members that are names, modes, partition keys and payloads.
+//! Members that are names, modes, truth values, partition keys and payloads.
 ghost use Rattle.std.specs.Prelude.{◌≡◌, ◌+◌, length, chars, nat_le, None, IfOk};
-ghost use Rattle.serde_json.specs.Find.{as_str};
+ghost use Rattle.serde_json.specs.Find.{as_str, as_bool};
 ghost use Rattle.serde_json.specs.View.{view};
 ghost use Rattle.kds_defs.specs.declared.limits.TheConstants.{RECORD_BYTES as most_bytes};
 ghost use Rattle.kds_json.specs.Reading.{Gives};
 ghost use Rattle.kds_json.specs.Member.{required_at, optional_at};
-ghost use Rattle.kds_json.specs.Kinds.{name_in, some_name_in, mode_in, is_partition_key as is_key, key_in, blob_in};
+ghost use Rattle.kds_json.specs.Kinds.{name_in, some_name_in, mode_in, scaling_in, is_partition_key as is_key, key_in, blob_in};
 
 use crate::member::{member, required_member, stop_at, value_at};
 use crate::problem::{FaultKind, Stop};
@@ -79,6 +79,33 @@ pub fn mode_member(alloc: Global, object: &Value, name: &str) -> Result<(), Stop
         Some(value) => value_at(alloc, FaultKind::Invalid, name, mode_value(value)),
         None => Ok(()),
     }
+}
+
+fn scaling_value(value: &Value) -> Option<()>
+    ensures { result ≡ scaling_in (view value.now) }
+{
+    match value.as_str() {
+        Some("UNIFORM_SCALING") => Some(()),
+        _ => None,
+    }
+}
+
+/// The kind of a scaling, which is always to uniform ranges (Kinesis API Reference, UpdateShardCount, ScalingType).
+#[tactic(auto, unfolding(crate::specs::Member::required_at))]
+pub fn scaling_member(alloc: Global, object: &Value, name: &str) -> Result<(), Stop>
+    ensures { Gives (λ u. u) result (required_at scaling_in name.now (view object.now)) }
+{
+    let value = required_member(alloc, object, name)?;
+    value_at(alloc, FaultKind::Invalid, name, scaling_value(value))
+}
+
+/// A truth value.
+#[tactic(auto, unfolding(crate::specs::Member::required_at))]
+pub fn truth_member(alloc: Global, object: &Value, name: &str) -> Result<bool, Stop>
+    ensures { Gives (λ b. b) result (required_at as_bool name.now (view object.now)) }
+{
+    let value = required_member(alloc, object, name)?;
+    value_at(alloc, FaultKind::Invalid, name, value.as_bool())
 }
 
 fn character_count(text: &str) -> usize

@@ -8,13 +8,14 @@ use Rattle.base64.specs.Engines.{standard}
 use Rattle.base64.specs.GeneralPurpose.{encode_of}
 use Rattle.json.specs.Token.{Token, begin_array, begin_object, end_array, end_object, key, null, number, string}
 use Rattle.kds_defs.specs.declared.reply.Iter.{Iter}
+use Rattle.kds_defs.specs.declared.reply.Outcome.{Outcome}
 use Rattle.kds_defs.specs.declared.reply.Place.{Place}
 use Rattle.kds_defs.specs.declared.reply.Shard.{Shard}
 use Rattle.kds_defs.specs.declared.reply.Stored.{Stored}
 use Rattle.kds_json.specs.Ids.{shard_id}
 use Rattle.kds_token.specs.Tokens.{iter_token}
 use Rattle.kds_base.specs.Span.{Span}
-use Rattle.kds_reply.specs.Bodies.{id_data, list_data, place_data, places_data, iterator_data}
+use Rattle.kds_reply.specs.Bodies.{id_data, list_data, place_data, failed_data, outcome_data, failed_count, outcomes_data, iterator_data}
 use Rattle.kds_reply.specs.Records.{record_data, records_data}
 use Rattle.kds_reply.specs.Shards.{range_data, parents_of, child_data}
 use Rattle.kds_reply.specs.Writing.{tokens_of, id_tokens}
@@ -39,10 +40,15 @@ pub place_tokens : (p : Place) (id : List ℕ) → id ≡ shard_id p.shard
 unfolding place_data
 place_tokens p id is_id = rw is_id refl
 
-pub places_tokens : (ps : List Place)
-    → (begin_object ∷ key (codes "FailedRecordCount") ∷ number (decimal 0) ∷ key (codes "Records") ∷ tokens_of (list_data place_data ps)) ++ end_object ∷ [] ≡ tokens_of (places_data ps)
-unfolding places_data
-places_tokens ps = refl
+pub failed_tokens : (name message : List ℕ)
+    → begin_object ∷ key (codes "ErrorCode") ∷ string name ∷ key (codes "ErrorMessage") ∷ string message ∷ end_object ∷ [] ≡ tokens_of (failed_data name message)
+unfolding failed_data
+failed_tokens name message = refl
+
+pub outcomes_tokens : (os : List Outcome) (n : ℕ) → n ≡ failed_count os
+    → (begin_object ∷ key (codes "FailedRecordCount") ∷ number (decimal n) ∷ key (codes "Records") ∷ tokens_of (list_data outcome_data os)) ++ end_object ∷ [] ≡ tokens_of (outcomes_data os)
+unfolding outcomes_data
+outcomes_tokens os n is = rw is refl
 
 pub iterator_tokens : (i : Iter) (token : List ℕ) → token ≡ iter_token i
     → begin_object ∷ key (codes "ShardIterator") ∷ string token ∷ end_object ∷ [] ≡ tokens_of (iterator_data i)

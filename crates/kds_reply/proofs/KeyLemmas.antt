@@ -1,5 +1,5 @@
 -- The keys of the lines of every journal are text, and so are those of the records that answers hold.
-use Rattle.std.proofs.Common.{ℕ, zero, suc, ◌+◌, ◌-◌, List, [], ◌∷◌, ◌++◌, map, Bool, true, false, nat_le, ◌==◌, ◌&&◌, if◌then◌else◌, Option, Some, None}
+use Rattle.std.proofs.Common.{ℕ, zero, suc, ◌-◌, List, [], ◌∷◌, ◌++◌, map, Bool, true, false, nat_le, ◌==◌, ◌&&◌, if◌then◌else◌, Option, Some, None}
 use Rattle.std.specs.List.{AllByRecursion, filter}
 use Rattle.std.specs.Str.{IsUtf8}
 use Rattle.std.proofs.lemmas.Str.{IsUtf8-nil, utf8_lossy-IsUtf8}
@@ -17,16 +17,19 @@ use Rattle.kds_defs.specs.declared.reply.Iter.{Iter}
 use Rattle.kds_defs.specs.declared.reply.Page.{Page}
 use Rattle.kds_defs.specs.declared.reply.Refusal.{Refusal}
 use Rattle.kds_defs.specs.declared.reply.Reply.{Reply}
+use Rattle.kds_defs.specs.declared.scale.ScaleStep.{ScaleStep}
 use Rattle.kds_defs.specs.Decision.{Decision, refuse◌if◌else◌, with◌or◌then◌}
 use Rattle.kds_defs.specs.Histories.{decide, lines_of, answer_of, clock, journal, answer}
-use Rattle.kds_defs.specs.Journal.{Line, Journal, with_lines}
+use Rattle.kds_defs.specs.Journal.{Line, Journal, plain_line, with_lines}
 use Rattle.kds_defs.specs.Lawful.{IsItem, AreItems, IsLawfulCommand, IsHistory}
 use Rattle.kds_defs.specs.LeaseCommands.{open_shard, past_parent, past_parents, past_target, read, with_held, with_tenure}
 use Rattle.kds_defs.specs.Leases.{TenureState, reach, row, tenure}
 use Rattle.kds_defs.specs.Listings.{more, get_iterator, get_records, records_reply, ends_at}
 use Rattle.kds_defs.specs.Records.{Logged, next_number, stored, records_after, records, is_left, left_from, beginning, batch}
 use Rattle.kds_defs.specs.Shards.{ShardState, shard_at}
-use Rattle.kds_defs.specs.StreamCommands.{create, put, put_lines, put_many, split, merge, keep}
+use Rattle.kds_defs.specs.PutCommands.{is_held_back, put, put_lines, put_many}
+use Rattle.kds_defs.specs.ScaleCommands.{scale_stream, step_entry, step_lines, steps_to}
+use Rattle.kds_defs.specs.StreamCommands.{create, put_line, split, merge, keep}
 use Rattle.kds_defs.specs.Streams.{is_live, stream_named, trim_floor}
 use Rattle.kds_reply.specs.Keys.{records_in, IsPrintedWhole, ArePrintedWhole}
 
@@ -56,7 +59,7 @@ abbrev HasTextKeys : Journal → Type 0
 HasTextKeys log = AllByRecursion HasTextKey log
 
 record_text : (line : Line) (e : Entry) (s sh : ℕ) (before : List Logged) → HasTextKey line → AllByRecursion IsKeptText before → AllByRecursion IsKeptText (records_after line e s sh before)
-record_text line (entry.Put stream shard seq hash bytes) s sh before h k =
+record_text line (entry.Put stream shard seq hash bytes key_bytes) s sh before h k =
     all-if IsKeptText ((stream == s) && (shard == sh)) _ before (all-append IsKeptText before _ k (h, tt)) k
 record_text line _ s sh before h k = k
 
@@ -99,14 +102,16 @@ create_text : (log : Journal) (c by : ℕ) (name : List ℕ) (count : ℕ) → I
 create_text log c by name count = refused_text _ _ _ (refused_text _ _ _ (refused_text _ _ _ ((IsUtf8-nil, tt), tt)))
 
 put_text : (log : Journal) (c by s : ℕ) (item : NewItem) → IsItem item → IsText (put log c by s item)
-put_text log c by s item is = refused_text _ _ _ ((is.key.text, tt), tt)
+put_text log c by s item is = refused_text _ _ _ (refused_text _ _ _ ((is.key.text, tt), tt))
 
-puts_text : (log : Journal) (c by s number : ℕ) (items : List NewItem) → AllByRecursion IsItem items → HasTextKeys (put_lines log c by s number items)
-puts_text log c by s number [] h = tt
-puts_text log c by s number (item ∷ items) h = (h.0.key.text, puts_text log c by s (number + 1) items h.1)
+puts_text : (log : Journal) (c by s : ℕ) (items : List NewItem) → AllByRecursion IsItem items → HasTextKeys (put_lines log c by s items)
+puts_text log c by s [] h = tt
+puts_text log c by s (item ∷ items) h =
+    all-if HasTextKey (is_held_back log c s item) _ _ (puts_text log c by s items h.1)
+    (h.0.key.text, puts_text (put_line log c by s (next_number log s) item ∷ log) c by s items h.1)
 
 many_text : (log : Journal) (c by s : ℕ) (items : List NewItem) → AreItems items → IsText (put_many log c by s items)
-many_text log c by s items are = refused_text _ _ _ (puts_text log c by s (next_number log s) items are.each, tt)
+many_text log c by s items are = refused_text _ _ _ (puts_text log c by s items are.each, tt)
 
 keep_text : (log : Journal) (c by s wanted : ℕ) (raise : Bool) → IsText (keep log c by s wanted raise)
 keep_text log c by s wanted raise = refused_text _ _ _ ((IsUtf8-nil, tt), tt)
@@ -117,6 +122,13 @@ split_text log c by s sh at =
 
 merge_text : (log : Journal) (c by s sh other : ℕ) → IsText (merge log c by s sh other)
 merge_text log c by s sh other = refused_text _ _ _ (refused_text _ _ _ (refused_text _ _ _ (refused_text _ _ _ ((IsUtf8-nil, tt), tt))))
+
+steps_text : (log : Journal) (c by s : ℕ) (steps : List ScaleStep) → HasTextKeys (step_lines log c by s steps)
+steps_text log c by s [] = tt
+steps_text log c by s (step ∷ steps) = (IsUtf8-nil, steps_text (plain_line c by (step_entry log s step) ∷ log) c by s steps)
+
+scale_text : (log : Journal) (c by : ℕ) (name : List ℕ) (s target : ℕ) → IsText (scale_stream log c by name s target)
+scale_text log c by name s target = refused_text _ _ _ (refused_text _ _ _ (steps_text log c by s (steps_to log s target), tt))
 
 iterator_text : (log : Journal) (c s sh : ℕ) (from : Start) → IsText (get_iterator log c s sh from)
 iterator_text log c s sh from = refused_text _ _ _ (with_text _ _ _ (λ x. refused_text _ _ _ (tt, tt)))
@@ -179,6 +191,8 @@ decide_text log c by (command.Describe name after limit) h is = with_text (strea
 decide_text log c by (command.Summary name) h is = with_text (stream_named log name) _ _ (λ s. (tt, tt))
 decide_text log c by (command.PutMany name items) h is = with_text (stream_named log name) _ _ (λ s. many_text log c by s items is.1)
 decide_text log c by (command.Keep name wanted raise) h is = with_text (stream_named log name) _ _ (λ s. keep_text log c by s wanted raise)
+decide_text log c by (command.Scale name target) h is = with_text (stream_named log name) _ _ (λ s. scale_text log c by name s target)
+decide_text log c by (command.Enforce name on) h is = with_text (stream_named log name) _ _ (λ s. ((IsUtf8-nil, tt), tt))
 decide_text log c by (command.Shards name after limit) h is = with_text (stream_named log name) _ _ (λ s. (tt, tt))
 decide_text log c by (command.More page limit) h is = more_text log c page limit
 decide_text log c by (command.GetIterator name sh from) h is = with_text (stream_named log name) _ _ (λ s. iterator_text log c s sh from)
@@ -187,7 +201,7 @@ decide_text log c by (command.Put name item) h is = with_text (stream_named log 
 decide_text log c by (command.Split name sh at) h is = with_text (stream_named log name) _ _ (λ s. split_text log c by s sh at)
 decide_text log c by (command.Merge name sh other) h is = with_text (stream_named log name) _ _ (λ s. merge_text log c by s sh other)
 decide_text log c by command.Survey h is = (tt, tt)
-decide_text log c by (command.MakeLease key) h is = refused_text _ _ _ (refused_text _ _ _ ((IsUtf8-nil, tt), tt))
+decide_text log c by (command.MakeLease key from) h is = refused_text _ _ _ (refused_text _ _ _ ((IsUtf8-nil, tt), tt))
 decide_text log c by (command.Take key counter owner) h is =
     with_text (row log key) _ _ (λ r. refused_text _ _ _ (refused_text _ _ _ (refused_text _ _ _ ((IsUtf8-nil, tt), tt))))
 decide_text log c by (command.Renew t counter) h is = of_held log by t _ (λ T. refused_text _ _ _ (refused_text _ _ _ ((IsUtf8-nil, tt), tt)))

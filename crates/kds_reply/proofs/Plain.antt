@@ -9,7 +9,7 @@ use Rattle.kds_defs.specs.declared.reply.Page.{Page}
 use Rattle.kds_defs.specs.declared.reply.Shard.{Shard}
 use Rattle.kds_reply.specs.Bodies.{number_data, id_data, list_data, member_if, page_string}
 use Rattle.kds_reply.specs.Shards.{range_data, sequence_data, shard_data, shards_data}
-use Rattle.kds_reply.specs.Streams.{streams_data, description_data, digest_data, described_data, summary_data}
+use Rattle.kds_reply.specs.Streams.{streams_data, description_data, digest_data, described_data, summary_data, scaled_data}
 
 abbrev IsPlain : Data → Type 0
 IsPlain d = has_float d ≡ false
@@ -65,3 +65,7 @@ described_plain about shards more = rw (description_plain about shards more) ref
 pub summary_plain : (about : About) (open_shards : ℕ) → IsPlain (summary_data about open_shards)
 unfolding summary_data
 summary_plain about open_shards = rw (digest_plain about open_shards) refl
+
+pub scaled_plain : (name : List ℕ) (before target : ℕ) → IsPlain (scaled_data name before target)
+unfolding scaled_data
+scaled_plain name before target = refl

@@ -3,7 +3,7 @@ use Rattle.std.specs.Prelude.{ℕ, List, [], ◌++◌, codes}
 use Rattle.serde_json.specs.Data.{Data, string, object, member, no_members}
 use Rattle.serde_json.specs.Written.{compact_text}
 use Rattle.kds_defs.specs.declared.reply.Refusal.{Refusal}
-use Rattle.kds_defs.specs.declared.reply.Refusal.TheVariants.{NoStream, StreamThere, NoShard, ShardClosed, NotAdjacent, BadSplit, BadNumber, BadRetention, Expired, PageExpired, Full, Spent}
+use Rattle.kds_defs.specs.declared.reply.Refusal.TheVariants.{NoStream, StreamThere, NoShard, ShardClosed, NotAdjacent, BadSplit, BadNumber, BadRetention, Expired, PageExpired, Full, Spent, Throttled}
 use Rattle.kds_json.specs.declared.problem.Fault.{Fault}
 use Rattle.kds_json.specs.declared.problem.FaultKind.{FaultKind}
 use Rattle.kds_json.specs.declared.problem.FaultKind.TheVariants.{Unknown, Serialization, Missing, Invalid, Token}
@@ -27,6 +27,7 @@ refusal_name Expired = codes "ExpiredIteratorException"
 refusal_name PageExpired = codes "ExpiredNextTokenException"
 refusal_name Full = codes "LimitExceededException"
 refusal_name Spent = codes "LimitExceededException"
+refusal_name (Throttled sh) = codes "ProvisionedThroughputExceededException"
 refusal_name _ = []
 
 abbrev pub refusal_message : Refusal → List ℕ
@@ -42,6 +43,7 @@ refusal_message Expired = codes "iterator expired"
 refusal_message PageExpired = codes "next token expired"
 refusal_message Full = codes "limit reached"
 refusal_message Spent = codes "numbers are used up"
+refusal_message (Throttled sh) = codes "rate exceeded"
 refusal_message _ = []
 
 -- the body of a refusal

@@ -3,14 +3,14 @@ use Rattle.std.specs.Prelude.{ℕ, Result, Ok, Err, List, [], Option, Some, None
 use Rattle.serde_json.specs.Data.{Data}
 use Rattle.serde_json.specs.Written.{compact_text}
 use Rattle.kds_defs.specs.declared.reply.Reply.{Reply}
-use Rattle.kds_defs.specs.declared.reply.Reply.TheVariants.{Done, Streams, Described, Summary, Put, PutMany, Iterator, Records, Shards}
+use Rattle.kds_defs.specs.declared.reply.Reply.TheVariants.{Done, Streams, Described, Summary, Put, PutMany, Scaled, Iterator, Records, Shards}
 use Rattle.kds_defs.specs.declared.reply.Refusal.{Refusal}
 use Rattle.kds_json.specs.declared.problem.Fault.{Fault}
-use Rattle.kds_reply.specs.Bodies.{place_data, places_data, iterator_data}
+use Rattle.kds_reply.specs.Bodies.{place_data, outcomes_data, iterator_data}
 use Rattle.kds_reply.specs.Errors.{refusal_text, fault_text}
 use Rattle.kds_reply.specs.Records.{records_data}
 use Rattle.kds_reply.specs.Shards.{shards_data}
-use Rattle.kds_reply.specs.Streams.{streams_data, described_data, summary_data}
+use Rattle.kds_reply.specs.Streams.{streams_data, described_data, summary_data, scaled_data}
 
 -- What a reply of the stream service tells, if there is anything to tell. No other reply is told in JSON: the last
 -- line stands for those, which the condition of `reply` excludes.
@@ -20,7 +20,8 @@ reply_data (Streams names more) = Some (streams_data names more)
 reply_data (Described about shards more) = Some (described_data about shards more)
 reply_data (Summary about open_shards) = Some (summary_data about open_shards)
 reply_data (Put p) = Some (place_data p)
-reply_data (PutMany ps) = Some (places_data ps)
+reply_data (PutMany os) = Some (outcomes_data os)
+reply_data (Scaled name before target entries) = Some (scaled_data name before target)
 reply_data (Iterator i) = Some (iterator_data i)
 reply_data (Records batch next behind children) = Some (records_data batch next behind children)
 reply_data (Shards shards next) = Some (shards_data shards next)

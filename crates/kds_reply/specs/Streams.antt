@@ -67,3 +67,11 @@ described_data about shards more = object (member (codes "StreamDescription") (d
 -- (Kinesis API Reference, DescribeStreamSummary, Response Elements)
 unfoldable pub summary_data : About → ℕ → Data
 summary_data about open_shards = object (member (codes "StreamDescriptionSummary") (digest_data about open_shards) no_members)
+
+-- how many shards a stream had and is to have (Kinesis API Reference, UpdateShardCount, Response Elements)
+unfoldable pub scaled_data : List ℕ → ℕ → ℕ → Data
+scaled_data name before target =
+    object
+    (member (codes "CurrentShardCount") (number (unsigned before))
+    (member (codes "StreamName") (string name)
+    (member (codes "TargetShardCount") (number (unsigned target)) no_members)))

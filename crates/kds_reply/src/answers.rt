@@ -7,10 +7,10 @@ ghost use Rattle.kds_reply.specs.Replies.{reply_text, reply_of};
 
 use crate::batches::batch_text;
 use crate::errors::BAD_REQUEST;
-use crate::places::{place_text, places_text};
+use crate::places::{outcomes_text, place_text};
 use crate::refusals::refusal_body;
 use crate::shards::shards_value;
-use crate::streams::{described_value, streams_value, summary_value};
+use crate::streams::{described_value, scaled_value, streams_value, summary_value};
 use crate::tokens::iterator_text;
 use kds_base::{Memory, Octets};
 use kds_defs::{Answer, Reply};
@@ -51,7 +51,16 @@ fn reply_body(alloc: Global, reply: &Reply) -> Result<Octets, Memory>
             value_text(alloc, &value)
         }
         Reply::Put(place) => place_text(alloc, place),
-        Reply::PutMany(places) => places_text(alloc, places.as_slice()),
+        Reply::PutMany(outcomes) => outcomes_text(alloc, outcomes.as_slice()),
+        Reply::Scaled {
+            name,
+            before,
+            target,
+            ..
+        } => {
+            let value = scaled_value(alloc, name, *before, *target)?;
+            value_text(alloc, &value)
+        }
         Reply::Iterator(iter) => iterator_text(alloc, iter),
         Reply::Records {
             batch,

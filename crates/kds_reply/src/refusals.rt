@@ -9,7 +9,7 @@ use kds_defs::Refusal;
 use std::alloc::Global;
 
 /// The name of a refusal (Kinesis API Reference, Errors of each action).
-fn refusal_name(refusal: &Refusal) -> &'static str
+pub fn refusal_name(refusal: &Refusal) -> &'static str
     requires { is_service_refusal refusal.now ≡ true }
     ensures { result.now ≡ name_of refusal.now }
 {
@@ -26,11 +26,13 @@ fn refusal_name(refusal: &Refusal) -> &'static str
         Refusal::PageExpired => "ExpiredNextTokenException",
         Refusal::Full => "LimitExceededException",
         Refusal::Spent => "LimitExceededException",
+        Refusal::Throttled(_) => "ProvisionedThroughputExceededException",
         _ => unreachable!(),
     }
 }
 
-fn refusal_message(refusal: &Refusal) -> &'static str
+/// The message of a refusal.
+pub fn refusal_message(refusal: &Refusal) -> &'static str
     requires { is_service_refusal refusal.now ≡ true }
     ensures { result.now ≡ message_of refusal.now }
 {
@@ -47,6 +49,7 @@ fn refusal_message(refusal: &Refusal) -> &'static str
         Refusal::PageExpired => "next token expired",
         Refusal::Full => "limit reached",
         Refusal::Spent => "numbers are used up",
+        Refusal::Throttled(_) => "rate exceeded",
         _ => unreachable!(),
     }
 }

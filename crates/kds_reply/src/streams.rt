@@ -2,7 +2,7 @@
 ghost use Rattle.std.specs.Prelude.{◌≡◌, ◌++◌, codes, map, IfOk, string_bytes};
 ghost use Rattle.serde_json.specs.Data.{string};
 ghost use Rattle.serde_json.specs.View.{view, members_view};
-ghost use Rattle.kds_reply.specs.Streams.{streams_data, monitoring_data, about_members, description_data, digest_data, described_data, summary_data};
+ghost use Rattle.kds_reply.specs.Streams.{streams_data, monitoring_data, about_members, description_data, digest_data, described_data, summary_data, scaled_data};
 
 use crate::seconds::seconds;
 use crate::shards::shard_values;
@@ -129,4 +129,15 @@ pub fn summary_value(alloc: Global, about: &About, open_shards: u32) -> Result<V
 {
     let digest = digest_value(alloc, about, open_shards)?;
     Ok(json!(in alloc; {"StreamDescriptionSummary": digest})?)
+}
+
+/// How many shards a stream had and is to have (Kinesis API Reference, UpdateShardCount, Response Elements).
+#[tactic(auto, unfolding(crate::specs::Streams::scaled_data))]
+pub fn scaled_value(alloc: Global, name: &Name, before: u32, target: u32) -> Result<Value, Memory>
+    ensures { IfOk result (λ v. view v ≡ scaled_data name.now before target) }
+{
+    let name = name_text(alloc, name)?;
+    Ok(
+        json!(in alloc; {"CurrentShardCount": before, "StreamName": name, "TargetShardCount": target})?,
+    )
 }
