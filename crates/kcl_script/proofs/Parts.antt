@@ -14,6 +14,10 @@ pub parted_at : (sep : ℕ) (a b : List ℕ) → Lacks sep a → (sep == sep) �
 parted_at sep [] b n e = rw e refl
 parted_at sep (x ∷ a) b n e = rw (n.0, parted_at sep a b n.1 e) refl
 
+pub parted_none : (sep : ℕ) (text : List ℕ) → Lacks sep text → parted sep text ≡ None
+parted_none sep [] n = refl
+parted_none sep (b ∷ bs) n = rw (n.0, parted_none sep bs n.1) refl
+
 other_byte : (sep b : ℕ) → ((b == sep) ≡ true → ⊥) → (b == sep) ≡ false
 other_byte sep b differs = elim (cases_Bool (b == sep)) [
   | inl same ↦ absurd (differs same)

@@ -1,6 +1,7 @@
 -- Each command of a raw line has one text.
-use Rattle.std.proofs.Common.{◌≡◌, ℕ, ◌<◌, ◌^◌, List, ◌∷◌, ◌++◌, Bool, true, false, Option, Some, refl, sym, ap, ◌∙◌, arith, codes, decimal, inl, inr, subst}
+use Rattle.std.proofs.Common.{◌≡◌, ℕ, ◌<◌, ◌^◌, List, ◌∷◌, ◌++◌, Bool, true, false, Option, Some, None, refl, sym, ap, ◌∙◌, arith, codes, decimal, inl, inr, subst}
 use Rattle.std.proofs.lemmas.Bool.{cases_Bool}
+use Rattle.std.proofs.lemmas.List.{append-nil}
 use Rattle.std.specs.Prelude.{if◌then◌else◌, option_map}
 use Rattle.std.specs.List.{list_all}
 use Rattle.std.proofs.lemmas.Fmt.{digits_decimal}
@@ -11,15 +12,17 @@ use Rattle.kds_base.specs.declared.lease_key.ShardRef.{ShardRef}
 use Rattle.kds_base.proofs.NumberLemmas.{own}
 use Rattle.kds_defs.specs.declared.command.Command.{Command}
 use Rattle.kds_defs.specs.declared.command.Command.TheVariants as command
+use Rattle.kds_defs.specs.declared.command.Origin.{Origin}
+use Rattle.kds_defs.specs.declared.command.Origin.TheVariants as origin
 use Rattle.kds_defs.specs.declared.command.Target.{Target}
 use Rattle.kds_defs.specs.declared.command.Target.TheVariants as target
 use Rattle.kds_defs.specs.declared.limits.TheConstants.{MOST}
 use Rattle.kds_defs.specs.Kinds.{is_service}
 use Rattle.kds_defs.specs.Lawful.{IsLawfulCommand}
-use Rattle.kcl_script.specs.Fields.{field, Lacks, two, number, count_of, worker_of, worker_text, key_of, key_text}
-use Rattle.kcl_script.specs.Commands.{target_of, target_text, words_of, longer_of, command_of, command_text, raw_text, IsKey, IsTarget, AreNumbers, IsRaw, IsLong}
-use Rattle.kcl_script.proofs.Parts.{parted_spells, bind_some, map_some}
-use Rattle.kcl_script.proofs.Forms.{IsForm, Is64, number_form, IsCount, count_form, IsWorker, worker_form, two_form, key_form, key_lacks, decimal_lacks}
+use Rattle.kcl_script.specs.Fields.{field, Lacks, two, moment_of, number, count_of, worker_of, worker_text, key_of, key_text}
+use Rattle.kcl_script.specs.Commands.{target_of, target_text, time_of, origin_of, key_with_origin, row_of, origin_text, IsOrigin, words_of, longer_of, command_of, command_text, raw_text, IsKey, IsTarget, AreNumbers, IsRaw, IsLong}
+use Rattle.kcl_script.proofs.Parts.{parted_at, parted_none, parted_spells, bind_some, map_some}
+use Rattle.kcl_script.proofs.Forms.{IsForm, Is64, number_form, moment_form, IsCount, count_form, IsWorker, worker_form, two_form, key_form, key_lacks, decimal_lacks}
 
 -- ---- targets
 
@@ -45,6 +48,70 @@ target_again (target.At q) v = rw (number_not_end q v) (ap (option_map (λ n. ta
 
 target_form : IsForm IsTarget target_of target_text
 target_form = record { spells = λ text to h. target_is (bytes_eq text (codes "end")) text to refl h; again = target_again }
+
+-- ---- origins
+
+-- a text after a space spells an origin
+abbrev SpellsOrigin : List ℕ → Origin → Type 0
+SpellsOrigin text from = IsOrigin from × (32 ∷ text ≡ origin_text from)
+
+time_is : (c : Bool) (word rest : List ℕ) (from : Origin) → bytes_eq word (codes "time") ≡ c
+    → (if c then option_map (λ m. origin.Time m) (moment_of rest) else None) ≡ Some from → SpellsOrigin (word ++ 32 ∷ rest) from
+time_is false word rest from c h = absurd (cc)
+time_is true word rest from c h =
+    let m = map_some (λ n. origin.Time n) (moment_of rest) from h in
+    let d = moment_form.spells rest m.0 m.1 in
+    let spelled : SpellsOrigin (codes "time" ++ 32 ∷ rest) (origin.Time m.0) = (d.0, ap (λ z. codes " time " ++ z) d.1) in
+    let at_word : SpellsOrigin (word ++ 32 ∷ rest) (origin.Time m.0) = subst (λ (z : List ℕ). SpellsOrigin (z ++ 32 ∷ rest) (origin.Time m.0)) (sym ((bytes_eq-Decides word (codes "time")).0 c)) spelled in
+    subst (λ (z : Origin). SpellsOrigin (word ++ 32 ∷ rest) z) m.2 at_word
+
+time_spells : (text : List ℕ) (from : Origin) → time_of text ≡ Some from → SpellsOrigin text from
+time_spells text from h =
+    let p = bind_some (field text) _ from h in
+    subst (λ (z : List ℕ). SpellsOrigin z from) (sym (parted_spells 32 text p.0 p.1).0) (time_is (bytes_eq p.0.0 (codes "time")) p.0.0 p.0.1 from refl p.2)
+
+origin_is : (c : Bool) (text : List ℕ) (from : Origin) → bytes_eq text (codes "latest") ≡ c
+    → (if c then Some origin.Latest else time_of text) ≡ Some from → SpellsOrigin text from
+origin_is true text from c h =
+    let same : origin.Latest ≡ from = cc in
+    subst (λ (z : Origin). SpellsOrigin text z) same (tt, ap (λ z. 32 ∷ z) ((bytes_eq-Decides text (codes "latest")).0 c))
+origin_is false text from c h = time_spells text from h
+
+-- ---- a key with its origin
+
+abbrev IsRow : ShardRef × Origin → Type 0
+IsRow a = IsKey a.0 × IsOrigin a.1
+
+abbrev row_text : ShardRef × Origin → List ℕ
+row_text a = key_text a.0 ++ origin_text a.1
+
+row_is : (text : List ℕ) (o : Option (List ℕ × List ℕ)) (a : ShardRef × Origin) → field text ≡ o → key_with_origin text o ≡ Some a → IsRow a × (text ≡ row_text a)
+row_is text None a e h =
+    let m = map_some (λ k. (k, origin.TrimHorizon)) (key_of text) a h in
+    let d = key_form.spells text m.0 m.1 in
+    subst (λ (z : ShardRef × Origin). IsRow z × (text ≡ row_text z)) m.2 ((d.0, tt), d.1 ∙ sym (append-nil (key_text m.0)))
+row_is text (Some p) a e h =
+    let k = bind_some (key_of p.0) _ a h in
+    let m = map_some (λ o. (k.0, o)) (origin_of p.1) a k.2 in
+    let d = key_form.spells p.0 k.0 k.1 in
+    let o = origin_is (bytes_eq p.1 (codes "latest")) p.1 m.0 refl m.1 in
+    subst (λ (z : ShardRef × Origin). IsRow z × (text ≡ row_text z)) m.2
+    ((d.0, o.0), (parted_spells 32 text p e).0 ∙ ap (λ z. z ++ 32 ∷ p.1) d.1 ∙ ap (λ z. key_text k.0 ++ z) o.1)
+
+-- what reads a key with an origin after it
+with_again : (k : ShardRef) (from : Origin) (text : List ℕ) → IsKey k → origin_of text ≡ Some from → row_of (key_text k ++ 32 ∷ text) ≡ Some (k, from)
+with_again k from text v e = rw (parted_at 32 (key_text k) text (key_lacks k v) refl, key_form.again k v, e) refl
+
+time_again : (at : ℕ) → at < 2 ^ 62 → origin_of (codes "time " ++ decimal at) ≡ Some (origin.Time at)
+time_again at small = ap (option_map (λ m. origin.Time m)) (moment_form.again at small)
+
+row_again : (a : ShardRef × Origin) → IsRow a → row_of (row_text a) ≡ Some a
+row_again (k, origin.TrimHorizon) v = rw (append-nil (key_text k), parted_none 32 (key_text k) (key_lacks k v.0), key_form.again k v.0) refl
+row_again (k, origin.Latest) v = with_again k origin.Latest (codes "latest") v.0 refl
+row_again (k, origin.Time at) v = with_again k (origin.Time at) (codes "time " ++ decimal at) v.0 (time_again at v.1)
+
+row_form : IsForm IsRow row_of row_text
+row_form = record { spells = λ text a h. row_is text (field text) a refl h; again = row_again }
 
 -- ---- what follows the word
 
@@ -91,7 +158,7 @@ raw_is : (what : Command) → is_service what ≡ false → IsLawfulCommand what
 raw_is what e l n = record { lease = e; lawful = l; numbers = n }
 
 words_spell : (word text : List ℕ) (c : Command) → words_of word text ≡ Some c → Spells word text c
-words_spell word text c h = choose (bytes_eq word (codes "make")) _ _ c h (spelled (codes "make") word key_form _ (λ k v. (raw_is _ refl tt v, refl)) text c)
+words_spell word text c h = choose (bytes_eq word (codes "make")) _ _ c h (spelled (codes "make") word row_form _ (λ a v. (raw_is _ refl tt v, refl)) text c)
     (λ h. choose (bytes_eq word (codes "take")) _ _ c h (spelled (codes "take") word take_form _ (λ a v. (raw_is _ refl v.1.1.0 (v.0, (v.1.0, omega (arith, v.1.1.1))), refl)) text c)
     (λ h. choose (bytes_eq word (codes "renew")) _ _ c h (spelled (codes "renew") word numbers_form _ (λ a v. (raw_is _ refl tt v, refl)) text c)
     (λ h. choose (bytes_eq word (codes "free")) _ _ c h (spelled (codes "free") word numbers_form _ (λ a v. (raw_is _ refl tt v, refl)) text c)
@@ -130,7 +197,7 @@ command_spells text r h = choose (bytes_eq text (codes "survey")) _ _ r h (surve
 
 short_again : (what : Command) → IsRaw what → command_of (command_text what) ≡ Some (what, false)
 short_again command.Survey v = refl
-short_again (command.MakeLease key) v = ap (λ o. option_map (λ c. (c, false)) (option_map (λ k. command.MakeLease k) o)) (key_form.again key v.numbers)
+short_again (command.MakeLease key from) v = ap (λ o. option_map (λ c. (c, false)) (option_map (λ a. command.MakeLease a.0 a.1) o)) (row_form.again (key, from) v.numbers)
 short_again (command.Take key counter owner) v =
     ap (λ o. option_map (λ c. (c, false)) (option_map (λ a. command.Take a.0 a.1.0 a.1.1) o)) (take_form.again (key, (counter, owner)) (v.numbers.0, (v.numbers.1.0, (v.lawful, omega (arith, v.numbers.1.1)))))
 short_again (command.Renew tenure counter) v = ap (λ o. option_map (λ c. (c, false)) (option_map (λ a. command.Renew a.0 a.1) o)) (numbers_form.again (tenure, counter) v.numbers)
@@ -154,6 +221,8 @@ short_again (command.Records iter limit) v = absurd (cc v.lease)
 short_again (command.Split name shard at) v = absurd (cc v.lease)
 short_again (command.Merge name shard other) v = absurd (cc v.lease)
 short_again (command.Keep name hours raise) v = absurd (cc v.lease)
+short_again (command.Scale name target) v = absurd (cc v.lease)
+short_again (command.Enforce name on) v = absurd (cc v.lease)
 short_again (command.Shards name after limit) v = absurd (cc v.lease)
 short_again (command.More page limit) v = absurd (cc v.lease)
 

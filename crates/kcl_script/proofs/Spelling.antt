@@ -1,41 +1,18 @@
 -- Each line has one text, and no other text is that line.
-use Rattle.std.proofs.Common.{◌≡◌, ℕ, ◌<◌, ◌^◌, List, ◌∷◌, ◌++◌, Bool, true, false, Option, Some, None, refl, sym, ap, ◌∙◌, arith, codes, decimal, inl, inr, subst}
-use Rattle.std.proofs.lemmas.Grind.{common_steps}
-use Rattle.std.proofs.lemmas.Bool.{cases_Bool}
-use Rattle.std.specs.Prelude.{if◌then◌else◌, option_and_then, nat_lt}
+use Rattle.std.proofs.Common.{◌≡◌, ℕ, ◌<◌, ◌^◌, List, ◌∷◌, ◌++◌, Bool, true, false, Some, None, refl, sym, ap, ◌∙◌, arith, codes, decimal, subst}
+use Rattle.std.specs.Prelude.{if◌then◌else◌}
 use Rattle.std.proofs.lemmas.Slice.Eq.{bytes_eq-Decides}
 use Rattle.std.specs.Char.{is_ascii_alphanumeric}
 use Rattle.std.specs.Str.{bytes_eq}
-use Rattle.kds_base.specs.NumberText.{number_of}
-use Rattle.kds_base.proofs.NumberLemmas.{decimal_of_number, number_of_decimal}
 use Rattle.kds_defs.specs.declared.limits.TheConstants.{MOST_ACTOR}
 use Rattle.kcl_script.specs.declared.line.Line.{Line}
 use Rattle.kcl_script.specs.declared.line.Line.TheVariants.{Api, Raw}
-use Rattle.kcl_script.specs.Fields.{field, Lacks, in_time, moment_of, count_of}
+use Rattle.kcl_script.specs.Fields.{field, Lacks, moment_of, count_of}
 use Rattle.kcl_script.specs.Commands.{command_of, raw_text}
 use Rattle.kcl_script.specs.Line.{is_operation, raw_line, line_with, line_of, spelling, IsLine}
 use Rattle.kcl_script.proofs.Parts.{parted_at, parted_spells, both, kind_lacks, bind_some}
-use Rattle.kcl_script.proofs.Forms.{count_form, decimal_lacks}
+use Rattle.kcl_script.proofs.Forms.{count_form, moment_form, decimal_lacks}
 use Rattle.kcl_script.proofs.RawLemmas.{choose, command_spells, command_again}
-
-in_time_is : (n m : ℕ) → in_time n ≡ Some m → (n ≡ m) × (m < 2 ^ 62)
-in_time_is n m h = elim (cases_Bool (nat_lt n (2 ^ 62))) [
-  | inl small ↦ let e : Some n ≡ Some m = rw small at h in let same : n ≡ m = cc in (same, grind (arith, common_steps))
-  | inr big ↦ let e : None ≡ Some m = rw big at h in absurd (cc)
-]
-
-moment_of_text : (o : Option ℕ) (text : List ℕ) (at : ℕ) → number_of 64 text ≡ o → option_and_then in_time o ≡ Some at → (text ≡ decimal at) × (at < 2 ^ 62)
-moment_of_text None text at e h = absurd (cc)
-moment_of_text (Some n) text at e h =
-    let t = in_time_is n at h in
-    let d = decimal_of_number text n e in
-    (d.0 ∙ ap decimal t.0, t.1)
-
-in_time_again : (at : ℕ) → at < 2 ^ 62 → in_time at ≡ Some at
-in_time_again at small = grind (arith, common_steps)
-
-moment_again : (at : ℕ) → at < 2 ^ 62 → moment_of (decimal at) ≡ Some at
-moment_again at small = ap (option_and_then in_time) (number_of_decimal at (omega arith)) ∙ in_time_again at small
 
 -- ---- lines of each kind
 
@@ -79,12 +56,12 @@ line_spells text l h =
     let b = bind_some (moment_of a.0.0) _ l a.2 in
     let c = bind_some (field a.0.1) _ l b.2 in
     let d = bind_some (field c.0.1) _ l c.2 in
-    let m = moment_of_text _ a.0.0 b.0 refl b.1 in
-    let w = with_spells b.0 c.0.0 d.0.0 d.0.1 l m.1 d.2 in
+    let m = moment_form.spells a.0.0 b.0 b.1 in
+    let w = with_spells b.0 c.0.0 d.0.0 d.0.1 l m.0 d.2 in
     let fa = parted_spells 32 text a.0 a.1 in
     let fc = parted_spells 32 a.0.1 c.0 c.1 in
     let fd = parted_spells 32 c.0.1 d.0 d.1 in
-    (w.0, fa.0 ∙ ap (λ z. z ++ 32 ∷ a.0.1) m.0 ∙ ap (λ z. decimal b.0 ++ 32 ∷ z) (fc.0 ∙ ap (λ z. c.0.0 ++ 32 ∷ z) fd.0) ∙ w.1)
+    (w.0, fa.0 ∙ ap (λ z. z ++ 32 ∷ a.0.1) m.1 ∙ ap (λ z. decimal b.0 ++ 32 ∷ z) (fc.0 ∙ ap (λ z. c.0.0 ++ 32 ∷ z) fd.0) ∙ w.1)
 
 -- and what is spelled so is read
 pub line_again : (l : Line) → IsLine l → line_of (spelling l) ≡ Some l
@@ -92,13 +69,13 @@ unfolding line_of raw_line
 line_again (Api at operation body) h =
     let digits = decimal_lacks 32 at refl (omega (arith, h.0)) in
     let letters : Lacks 32 operation = kind_lacks is_ascii_alphanumeric 32 operation refl (both _ _ h.1).1 in
-    rw (parted_at 32 (decimal at) (codes "api " ++ (operation ++ 32 ∷ body)) digits refl, moment_again at h.0, parted_at 32 operation body letters refl, h.1) refl
+    rw (parted_at 32 (decimal at) (codes "api " ++ (operation ++ 32 ∷ body)) digits refl, moment_form.again at h.0, parted_at 32 operation body letters refl, h.1) refl
 line_again (Raw at by what long) h =
     let digits = decimal_lacks 32 at refl (omega (arith, h.0)) in
     let actor = decimal_lacks 32 by refl (omega (arith, h.1.0.1)) in
     rw (
       parted_at 32 (decimal at) (codes "raw " ++ (decimal by ++ 32 ∷ raw_text what long)) digits refl,
-      moment_again at h.0,
+      moment_form.again at h.0,
       parted_at 32 (decimal by) (raw_text what long) actor refl,
       (count_form MOST_ACTOR (omega arith)).again by h.1.0,
       command_again what long h.1.1.0 h.1.1.1,

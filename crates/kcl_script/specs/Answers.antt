@@ -45,6 +45,7 @@ survey_text long shards rows = if long then codes "ok " ++ (decimal (length rows
 
 abbrev pub reply_text : Bool → Reply → List ℕ
 reply_text long reply.Done = codes "ok"
+reply_text long (reply.Leased from) = codes "ok"
 reply_text long (reply.Survey shards rows) = survey_text long (length shards) rows
 reply_text long (reply.Taken tenure counter start) = codes "ok tenure " ++ (decimal tenure ++ (codes " counter " ++ (decimal counter ++ (codes " start " ++ checkpoint_text start))))
 reply_text long (reply.Counter counter) = codes "ok counter " ++ decimal counter
@@ -67,6 +68,7 @@ refusal_name refusal.Expired = codes "Expired"
 refusal_name refusal.PageExpired = codes "PageExpired"
 refusal_name refusal.Full = codes "Full"
 refusal_name refusal.Spent = codes "Spent"
+refusal_name (refusal.Throttled sh) = codes "Throttled"
 refusal_name refusal.NoLease = codes "NoLease"
 refusal_name refusal.NoTenure = codes "NoTenure"
 refusal_name refusal.NotYours = codes "NotYours"
@@ -88,6 +90,7 @@ refusal_name refusal.ShardListed = codes "ShardListed"
 
 -- a space and the value, where there is one
 abbrev pub refusal_value : Refusal → List ℕ
+refusal_value (refusal.Throttled sh) = 32 ∷ decimal sh
 refusal_value (refusal.Lost tenure) = 32 ∷ decimal tenure
 refusal_value (refusal.Moved counter) = 32 ∷ decimal counter
 refusal_value (refusal.Beyond delivered) = 32 ∷ decimal delivered

@@ -131,6 +131,7 @@ fn fill_reply(alloc: Global, reply: &Reply, long: bool, to: &mut Octets) -> Resu
 {
     match reply {
         Reply::Done => to.extend(b"ok".as_slice()),
+        Reply::Leased(_) => to.extend(b"ok".as_slice()),
         Reply::Survey { shards, rows } => {
             survey(alloc, long, shards.as_slice().len(), rows.as_slice(), to)
         }
@@ -173,6 +174,7 @@ fn refusal_name(refusal: &Refusal) -> &'static str
         Refusal::PageExpired => "PageExpired",
         Refusal::Full => "Full",
         Refusal::Spent => "Spent",
+        Refusal::Throttled(_) => "Throttled",
         Refusal::NoLease => "NoLease",
         Refusal::NoTenure => "NoTenure",
         Refusal::NotYours => "NotYours",
@@ -199,6 +201,7 @@ fn value(alloc: Global, refusal: &Refusal, to: &mut Octets) -> Result<(), Memory
     ensures { OnOk result (to.new ≡ to.old ++ refusal_value refusal.now) }
 {
     match refusal {
+        Refusal::Throttled(shard) => number_field(alloc, shard.0, to),
         Refusal::Lost(tenure) => number_field(alloc, tenure.0, to),
         Refusal::Moved(counter) => number_field(alloc, *counter, to),
         Refusal::Beyond(delivered) => number_field(alloc, *delivered, to),

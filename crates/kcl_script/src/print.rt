@@ -2,13 +2,13 @@
 ghost use Rattle.std.specs.Prelude.{◌≡◌, ◌∷◌, ◌++◌, false, OnOk, OnErr};
 ghost use Rattle.kds_defs.specs.Kinds.{is_service};
 ghost use Rattle.kcl_script.specs.Fields.{worker_text};
-ghost use Rattle.kcl_script.specs.Commands.{target_text, command_text, raw_text};
+ghost use Rattle.kcl_script.specs.Commands.{target_text, origin_text, command_text, raw_text};
 ghost use Rattle.kcl_script.specs.Line.{spelling, IsLine};
 
 use crate::line::Line;
 use crate::words::{number_field, with_key, with_number, with_numbers};
 use kds_base::{Memory, Octets, WorkerNo, write_u64};
-use kds_defs::{Command, Target};
+use kds_defs::{Command, Origin, Target};
 use std::alloc::Global;
 
 fn owner_field(alloc: Global, owner: WorkerNo, to: &mut Octets) -> Result<(), Memory>
@@ -27,6 +27,16 @@ fn target_field(alloc: Global, target: Target, to: &mut Octets) -> Result<(), Me
     }
 }
 
+fn origin_field(alloc: Global, from: Origin, to: &mut Octets) -> Result<(), Memory>
+    ensures { OnOk result (to.new ≡ to.old ++ origin_text from) }
+{
+    match from {
+        Origin::TrimHorizon => Ok(()),
+        Origin::Latest => to.extend(b" latest".as_slice()),
+        Origin::Time(at) => with_number(alloc, b" time".as_slice(), at.ms(), to),
+    }
+}
+
 /// Adds the one text of a command. After `Memory` a front of it may have been added.
 fn fill_command(alloc: Global, what: &Command, to: &mut Octets) -> Result<(), Memory>
     requires { is_service what.now ≡ false }
@@ -34,7 +44,10 @@ fn fill_command(alloc: Global, what: &Command, to: &mut Octets) -> Result<(), Me
 {
     match what {
         Command::Survey => to.extend(b"survey".as_slice()),
-        Command::MakeLease { key } => with_key(alloc, b"make".as_slice(), *key, to),
+        Command::MakeLease { key, from } => {
+            with_key(alloc, b"make".as_slice(), *key, to)?;
+            origin_field(alloc, *from, to)
+        }
         Command::Take {
             key,
             counter,

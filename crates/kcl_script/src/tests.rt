@@ -8,11 +8,13 @@ use kds_defs::Command;
 use std::alloc::Global;
 use std::test::Fail;
 
-const LINES: [&str; 12] = [
+const LINES: [&str; 14] = [
     "1000 api CreateStream ",
     "1000 raw 999 rows",
     "0 raw 1 survey",
     "1000 raw 1 make 1/0",
+    "1000 raw 1 make 1/0 latest",
+    "1000 raw 1 make 1/0 time 4611686018427387903",
     "2000 raw 1 take 1/0 18446744073709551615 w4294967295",
     "3000 raw 2 renew 2 5",
     "3000 raw 2 free 2 4",
