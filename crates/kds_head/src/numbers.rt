@@ -9,7 +9,7 @@ pub const HEAD_BYTES: usize = 16_384;
 pub const HEADERS: usize = 64;
 
 /// The most bytes of a request's body (RFC 9110, section 15.5.14).
-pub const BODY_BYTES: u64 = 8_388_608;
+pub const BODY_BYTES: u64 = 16_777_216;
 
 /// The most digits of a Content-Length (RFC 9110, section 8.6): as many always fit 64 bits.
 pub const LENGTH_DIGITS: usize = 19;
@@ -18,6 +18,6 @@ pub const LENGTH_DIGITS: usize = 19;
 pub fn limits()
     ensures head { number.HEAD_BYTES ≡ 16384 }
     ensures headers { number.HEADERS ≡ 64 }
-    ensures body { number.BODY_BYTES ≡ 8388608 }
+    ensures body { number.BODY_BYTES ≡ 16777216 }
     ensures digits { number.LENGTH_DIGITS ≡ 19 }
 {}

@@ -18,8 +18,8 @@ fn first_case_decides(rt: HostRuntime) -> Result<(), Fail> {
         ("GET / HTTP/1.1\r\n\r\n", 411),
         ("GET / HTTP/1.1\r\nContent-Length: 0\r\n\r\n", 405),
         ("POST /x HTTP/1.1\r\nContent-Length: 0\r\n\r\n", 404),
-        ("POST / HTTP/1.1\r\nContent-Length: 8388608\r\n\r\n", 200),
-        ("POST / HTTP/1.1\r\nContent-Length: 8388609\r\n\r\n", 413),
+        ("POST / HTTP/1.1\r\nContent-Length: 16777216\r\n\r\n", 200),
+        ("POST / HTTP/1.1\r\nContent-Length: 16777217\r\n\r\n", 413),
         ("GET /x HTTP/1.1\r\ntransfer-encoding: gzip\r\n\r\n", 501),
         (
             "POST / HTTP/1.1\r\nContent-Length: 2\r\ncontent-length: 2\r\n\r\n",

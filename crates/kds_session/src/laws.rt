@@ -41,6 +41,6 @@ pub fn first_part()
 pub fn session_limits()
     ensures requests { REQUESTS ≡ 1000000 }
     ensures piece { PIECE_BYTES ≡ 65536 }
-    ensures unread { UNREAD_BYTES ≡ 8470528 }
+    ensures unread { UNREAD_BYTES ≡ 16859136 }
     ensures whole { UNREAD_BYTES ≡ HEAD_BYTES + BODY_BYTES + PIECE_BYTES }
 {}

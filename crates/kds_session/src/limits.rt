@@ -7,4 +7,4 @@ pub const REQUESTS: u32 = 1_000_000;
 pub const PIECE_BYTES: usize = 65_536;
 
 /// The most unread bytes of a session: those of a head and of a body, and a piece.
-pub const UNREAD_BYTES: usize = 8_470_528;
+pub const UNREAD_BYTES: usize = 16_859_136;

@@ -31,7 +31,7 @@ returns-then-body-gt-BODY_BYTES c =
     (passes _ _ _ _ (not_above _ _ 0 c.encodings.ensures c.if-encodings-gt0.false)
     (passes _ _ _ _ (other_number _ _ 0 c.lengths.ensures c.if-lengths-eq0.false)
     (passes _ _ _ _ (ap is_none (sym some))
-    (stops _ _ _ (above _ _ 8388608 (ap (λ o. unwrap_or o 0) some) c.if-body-gt-BODY_BYTES.true)))))
+    (stops _ _ _ (above _ _ 16777216 (ap (λ o. unwrap_or o 0) some) c.if-body-gt-BODY_BYTES.true)))))
 
 pub returns-then-not-is_post : goal.returns-then-not-is_post
 returns-then-not-is_post c =
@@ -40,7 +40,7 @@ returns-then-not-is_post c =
     (passes _ _ _ _ (not_above _ _ 0 c.encodings.ensures c.if-encodings-gt0.false)
     (passes _ _ _ _ (other_number _ _ 0 c.lengths.ensures c.if-lengths-eq0.false)
     (passes _ _ _ _ (ap is_none (sym some))
-    (passes _ _ _ _ (not_above _ _ 8388608 (ap (λ o. unwrap_or o 0) some) c.if-body-gt-BODY_BYTES.false)
+    (passes _ _ _ _ (not_above _ _ 16777216 (ap (λ o. unwrap_or o 0) some) c.if-body-gt-BODY_BYTES.false)
     (stops _ _ _ (ap not (sym c.is_post.ensures ∙ c.if-not-is_post.true)))))))
 
 pub returns-then-not-is_root : goal.returns-then-not-is_root
@@ -50,7 +50,7 @@ returns-then-not-is_root c =
     (passes _ _ _ _ (not_above _ _ 0 c.encodings.ensures c.if-encodings-gt0.false)
     (passes _ _ _ _ (other_number _ _ 0 c.lengths.ensures c.if-lengths-eq0.false)
     (passes _ _ _ _ (ap is_none (sym some))
-    (passes _ _ _ _ (not_above _ _ 8388608 (ap (λ o. unwrap_or o 0) some) c.if-body-gt-BODY_BYTES.false)
+    (passes _ _ _ _ (not_above _ _ 16777216 (ap (λ o. unwrap_or o 0) some) c.if-body-gt-BODY_BYTES.false)
     (passes _ _ _ _ (ap not (sym c.is_post.ensures ∙ c.if-not-is_post.false))
     (stops _ _ _ (ap not (sym c.is_root.ensures ∙ c.if-not-is_root.true))))))))
 
@@ -61,7 +61,7 @@ returns c =
     (passes _ _ _ _ (not_above _ _ 0 c.encodings.ensures c.if-encodings-gt0.false)
     (passes _ _ _ _ (other_number _ _ 0 c.lengths.ensures c.if-lengths-eq0.false)
     (passes _ _ _ _ (ap is_none (sym some))
-    (passes _ _ _ _ (not_above _ _ 8388608 (ap (λ o. unwrap_or o 0) some) c.if-body-gt-BODY_BYTES.false)
+    (passes _ _ _ _ (not_above _ _ 16777216 (ap (λ o. unwrap_or o 0) some) c.if-body-gt-BODY_BYTES.false)
     (passes _ _ _ _ (ap not (sym c.is_post.ensures ∙ c.if-not-is_post.false))
     (passes _ _ _ _ (ap not (sym c.is_root.ensures ∙ c.if-not-is_root.false))
     (whole_same _ _ _ _ _ _ _ _ _ (ap (λ o. unwrap_or o 0) some) (c.in_ok-operation.ensures ∙ c.operation.ensures) c.says_json.ensures c.closes.ensures)))))))
