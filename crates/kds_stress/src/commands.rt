@@ -3,7 +3,7 @@ ghost use Rattle.std.specs.Prelude.{IfOk};
 ghost use Rattle.kds_defs.specs.Lawful.{IsLimit, IsLawfulCommand};
 
 use kds_base::{Memory, Moment, ShardNo, ShardRef, StreamNo, WorkerNo};
-use kds_defs::{Command, Iter};
+use kds_defs::{Command, Iter, Origin};
 use kds_json::ask;
 use std::alloc::Global;
 
@@ -68,7 +68,10 @@ pub fn other(round: u32, now: Moment) -> Command
     };
     match round % 4 {
         0 => Command::Survey,
-        1 => Command::MakeLease { key },
+        1 => Command::MakeLease {
+            key,
+            from: Origin::TrimHorizon,
+        },
         2 => Command::Take {
             key,
             counter: round as u64 / 16,

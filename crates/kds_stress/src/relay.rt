@@ -33,6 +33,11 @@ fn first_number(answer: &Answer) -> u64 {
     }
 }
 
+/// The same of an answer that isn't needed any more.
+fn number_in(answer: Answer) -> u64 {
+    first_number(&answer)
+}
+
 /// One pass makes the stream, puts a record and tells what it has seen; the other one learns it, and reads the shard from
 /// its beginning. The answer is the number of the record that it reads.
 fn told<R: Wait>(
@@ -58,7 +63,7 @@ fn told<R: Wait>(
     hall.learn(second, note);
     turn(rt, hall, second, now, iterator)?;
     match hall.turn(rt, second, now, read(HOME, 0, 1, now)) {
-        Ok(answer) => Ok(first_number(&answer)),
+        Ok(answer) => Ok(number_in(answer)),
         Err(_) => Err(Memory),
     }
 }

@@ -141,7 +141,7 @@ fn refused_heads(rt: HostRuntime) -> Result<(), Fail> {
         ),
         ("POST /x HTTP/1.1\r\nContent-Length: 0", "404 Not Found"),
         (
-            "POST / HTTP/1.1\r\nContent-Length: 8388609",
+            "POST / HTTP/1.1\r\nContent-Length: 16777217",
             "413 Content Too Large",
         ),
         (

@@ -216,9 +216,113 @@ refused TooManyPending
     "",
 );
 
+/// A row that begins at LATEST: what was put before isn't read, and no mark goes below it. Then the shard is split, and its
+/// child is read from its first record.
+const LATEST: Row = (
+    r#"1000 api CreateStream {"StreamName":"s","ShardCount":1}
+1000 api PutRecord {"StreamName":"s","Data":"aGk=","PartitionKey":"a"}
+1000 api PutRecord {"StreamName":"s","Data":"","PartitionKey":"abc"}
+2000 raw 1 make 1/0 latest
+2000 raw 1 rows
+2000 raw 1 take 1/0 0 w1
+2000 raw 1 open 1
+2000 raw 1 read 1 3 10
+3000 api PutRecord {"StreamName":"s","Data":"aGk=","PartitionKey":"a"}
+3000 raw 1 read 1 3 10
+3000 raw 1 give 1
+3000 raw 1 give 1
+3000 raw 1 mark 1 1 1
+3000 raw 1 mark 1 1 3
+4000 api SplitShard {"StreamName":"s","ShardToSplit":"shardId-000000000000","NewStartingHashKey":"170141183460469231731687303715884105728"}
+4000 raw 1 make 1/1 latest
+4000 raw 1 take 1/1 0 w1
+"#,
+    0,
+    r#"200
+200 {"SequenceNumber":"1","ShardId":"shardId-000000000000"}
+200 {"SequenceNumber":"2","ShardId":"shardId-000000000000"}
+ok
+ok 1 1/0 - 0 2 0
+ok tenure 1 counter 1 start 2
+ok
+ok reach 3 more
+200 {"SequenceNumber":"3","ShardId":"shardId-000000000000"}
+ok reach 4 more 3
+ok delivered 3
+ok delivered 4
+refused Below 2
+ok counter 2
+200
+ok
+ok tenure 2 counter 1 start TRIM_HORIZON
+"#,
+    "",
+);
+
+/// The same after the split: the parent's row begins above its end, so the child's begins at LATEST too.
+const LATEST_AFTER_A_SPLIT: Row = (
+    r#"1000 api CreateStream {"StreamName":"s","ShardCount":1}
+1000 api SplitShard {"StreamName":"s","ShardToSplit":"shardId-000000000000","NewStartingHashKey":"170141183460469231731687303715884105728"}
+1000 raw 1 make 1/0 latest
+1000 raw 1 make 1/1 latest
+1000 raw 1 take 1/1 0 w1
+"#,
+    0,
+    r#"200
+200
+ok
+ok
+ok tenure 1 counter 1 start 1
+"#,
+    "",
+);
+
+/// Rows that begin at a moment: at the first record that arrived then, and at the next number where none did.
+const MOMENTS: Row = (
+    r#"1000 api CreateStream {"StreamName":"s","ShardCount":1}
+1000 api PutRecord {"StreamName":"s","Data":"aGk=","PartitionKey":"a"}
+2000 api PutRecord {"StreamName":"s","Data":"","PartitionKey":"abc"}
+3000 raw 1 make 1/0 time 1001
+3000 raw 1 rows
+3000 raw 1 cut 1/0 0
+3000 raw 1 take 1/0 0 w1
+3000 raw 1 open 1
+3000 raw 1 read 1 2 10
+3000 api CreateStream {"StreamName":"t","ShardCount":1}
+3000 raw 1 make 2/0 time 4000
+3000 raw 1 take 2/0 0 w1
+3000 raw 1 make 2/0 latest
+"#,
+    0,
+    r#"200
+200 {"SequenceNumber":"1","ShardId":"shardId-000000000000"}
+200 {"SequenceNumber":"2","ShardId":"shardId-000000000000"}
+ok
+ok 1 1/0 - 0 1 0
+refused ShardListed
+ok tenure 1 counter 1 start 1
+ok
+ok reach 3 more 2
+200
+ok
+ok tenure 2 counter 1 start 0
+refused LeaseThere
+"#,
+    "",
+);
+
 #[test]
 fn leases(rt: HostRuntime) -> Result<(), Fail> {
-    let rows = [ROBBED, BOTH_ENDED, ONE_EXPIRED, TRIMMED, READS];
+    let rows = [
+        ROBBED,
+        BOTH_ENDED,
+        ONE_EXPIRED,
+        TRIMMED,
+        READS,
+        LATEST,
+        LATEST_AFTER_A_SPLIT,
+        MOMENTS,
+    ];
     assert_eq!(rt; first_other(&rt, "replay", &rows, &[4096])?, None);
     Ok(())
 }

@@ -90,7 +90,7 @@ fn schedules(rt: HostRuntime) -> Result<(), Fail> {
 /// A line of one byte more than the limit.
 #[test]
 fn too_long(rt: HostRuntime) -> Result<(), Fail> {
-    let bytes = vec![in rt.alloc(); b'1'; 8388609]?;
+    let bytes = vec![in rt.alloc(); b'1'; 16777217]?;
     let left = run_on(&rt, &["replay"], bytes.as_slice(), 65536, &[], &[])?;
     assert!(rt; left.is(9, b"", "input too long\n"));
     Ok(())

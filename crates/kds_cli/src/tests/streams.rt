@@ -290,6 +290,34 @@ const NAMES: Row = (
     "",
 );
 
+/// Two shards to three uniform ranges, by a merge and two splits; then there is nothing left to do.
+const SCALING: Row = (
+    r#"1000 api CreateStream {"StreamName":"s","ShardCount":2}
+1000 api UpdateShardCount {"StreamName":"s","TargetShardCount":3,"ScalingType":"UNIFORM_SCALING"}
+1000 api PutRecord {"StreamName":"s","Data":"aGk=","PartitionKey":"a"}
+1000 api ListShards {"StreamName":"s","ExclusiveStartShardId":"shardId-000000000001"}
+1000 api UpdateShardCount {"StreamName":"s","TargetShardCount":3,"ScalingType":"UNIFORM_SCALING"}
+1000 api UpdateShardCount {"StreamName":"s","TargetShardCount":501,"ScalingType":"UNIFORM_SCALING"}
+1000 api UpdateShardCount {"StreamName":"t","TargetShardCount":500,"ScalingType":"UNIFORM_SCALING"}
+1000 api CreateStream {"StreamName":"t","ShardCount":1}
+1000 api UpdateShardCount {"StreamName":"s","TargetShardCount":500,"ScalingType":"UNIFORM_SCALING"}
+1000 api PutRecord {"StreamName":"s","Data":"aGk=","PartitionKey":"a"}
+"#,
+    0,
+    r#"200
+200 {"CurrentShardCount":2,"StreamName":"s","TargetShardCount":3}
+200 {"SequenceNumber":"4","ShardId":"shardId-000000000003"}
+200 {"Shards":[{"AdjacentParentShardId":"shardId-000000000001","HashKeyRange":{"EndingHashKey":"340282366920938463463374607431768211455","StartingHashKey":"0"},"ParentShardId":"shardId-000000000000","SequenceNumberRange":{"EndingSequenceNumber":"2","StartingSequenceNumber":"2"},"ShardId":"shardId-000000000002"},{"HashKeyRange":{"EndingHashKey":"113427455640312821154458202477256070484","StartingHashKey":"0"},"ParentShardId":"shardId-000000000002","SequenceNumberRange":{"StartingSequenceNumber":"3"},"ShardId":"shardId-000000000003"},{"HashKeyRange":{"EndingHashKey":"340282366920938463463374607431768211455","StartingHashKey":"113427455640312821154458202477256070485"},"ParentShardId":"shardId-000000000002","SequenceNumberRange":{"EndingSequenceNumber":"3","StartingSequenceNumber":"3"},"ShardId":"shardId-000000000004"},{"HashKeyRange":{"EndingHashKey":"226854911280625642308916404954512140969","StartingHashKey":"113427455640312821154458202477256070485"},"ParentShardId":"shardId-000000000004","SequenceNumberRange":{"StartingSequenceNumber":"4"},"ShardId":"shardId-000000000005"},{"HashKeyRange":{"EndingHashKey":"340282366920938463463374607431768211455","StartingHashKey":"226854911280625642308916404954512140970"},"ParentShardId":"shardId-000000000004","SequenceNumberRange":{"StartingSequenceNumber":"4"},"ShardId":"shardId-000000000006"}]}
+200 {"CurrentShardCount":3,"StreamName":"s","TargetShardCount":3}
+400 {"__type":"ValidationException","message":"TargetShardCount is not valid"}
+400 {"__type":"ResourceNotFoundException","message":"stream not found"}
+200
+400 {"__type":"LimitExceededException","message":"limit reached"}
+200 {"SequenceNumber":"5","ShardId":"shardId-000000000003"}
+"#,
+    "",
+);
+
 #[test]
 fn streams(rt: HostRuntime) -> Result<(), Fail> {
     let rows = [
@@ -309,6 +337,7 @@ fn streams(rt: HostRuntime) -> Result<(), Fail> {
         PAGES,
         SUMMARY,
         NAMES,
+        SCALING,
     ];
     assert_eq!(rt; first_other(&rt, "replay", &rows, &[4096])?, None);
     Ok(())
