@@ -274,7 +274,7 @@ class Suite(unittest.TestCase):
 
     def test_payload_at_the_limit(self):
         name = self.stream()
-        most = 1_048_576 - len('key')
+        most = 10_485_760 - len('key')
         placed = self.put(name, 'key', b'\xff' * most)
         records, _ = self.read(name, placed['ShardId'])
         self.assertEqual(records[0]['Data'], b'\xff' * most)
@@ -283,7 +283,7 @@ class Suite(unittest.TestCase):
 
     def test_put_records_at_the_limit(self):
         name = self.stream()
-        each = 1_048_576 - 1
+        each = 2_097_152 - 1
         items = [{'PartitionKey': 'a', 'Data': bytes(each)} for _ in range(5)]
         self.assertEqual(self.kinesis.put_records(StreamName=name, Records=items)['FailedRecordCount'], 0)
         told = self.refused(ClientError, self.kinesis.put_records, StreamName=name,
