@@ -3,3 +3,5 @@ pub mod RowLines
 pub mod TenureLines
 pub mod Makings
 pub mod Deliveries
+pub mod Recorded
+pub mod ShownLines

@@ -2,21 +2,31 @@
 #![tactic(auto)]
 
 ghost use Rattle.std.specs.Prelude.{ℕ, List, [], ◌∷◌, ◌≤◌, ◌≡◌, Option, Some, None, Err};
+ghost use Rattle.std.specs.List.{AllByRecursion};
 ghost use Rattle.kcl_laws.specs.Acting.{acting, row_tenure, ActsBy, HasLost};
 ghost use Rattle.kcl_laws.specs.Deliveries.{AreReadOn, AreWhole};
 ghost use Rattle.kcl_laws.specs.Makings.{times_made};
+ghost use Rattle.kcl_laws.specs.Recorded.{AreDrawn, HasFrom, IsSized};
 ghost use Rattle.kcl_laws.specs.RowLines.{Making, IsToldRow, last_bound, making};
+ghost use Rattle.kcl_laws.specs.ShownLines.{shown_journal};
 ghost use Rattle.kcl_laws.specs.TenureLines.{IsToldTenure, Told, taking};
+ghost use Rattle.kds_base.specs.declared.lease_key.Checkpoint.TheVariants.{At};
 ghost use Rattle.kds_base.specs.declared.lease_key.ShardRef.{ShardRef};
+ghost use Rattle.kds_defs.specs.declared.command.Origin.TheVariants.{TrimHorizon};
 ghost use Rattle.kds_defs.specs.declared.command.Turn.{Turn};
 ghost use Rattle.kds_defs.specs.declared.reply.Refusal.{Refusal};
 ghost use Rattle.kds_defs.specs.declared.reply.Refusal.TheVariants as refusal;
+ghost use Rattle.kds_defs.specs.declared.reply.Row.{Row};
 ghost use Rattle.kds_defs.specs.Histories.{journal, clock, answer};
 ghost use Rattle.kds_defs.specs.Journal.{Line, Journal};
 ghost use Rattle.kds_defs.specs.Lawful.{IsHistory};
-ghost use Rattle.kds_defs.specs.Leases.{TenureState, row, tenure};
+ghost use Rattle.kds_defs.specs.Leases.{TenureState, origin_of, row, tenure};
 ghost use Rattle.kds_defs.specs.Legal.{IsGood, IsLegal, IsReached};
+ghost use Rattle.kds_defs.specs.Records.{next_number, records};
 ghost use Rattle.kds_defs.specs.Safe.{HasPartitions, ArePlaced, AreCovered, AreInLine, HoldsRow, AreFenced, IsSafe};
+ghost use Rattle.kds_defs.specs.Shards.{shard_at, shards, start_of};
+ghost use Rattle.kds_defs.specs.StreamCommands.{last_number};
+ghost use Rattle.kds_defs.specs.Tiled.{AreNumbered};
 
 /// The open shards of each stream partition the keys.
 pub fn partition()
@@ -99,4 +109,29 @@ pub fn rows()
 pub fn tenures()
     ensures never { (log : Journal) (t : ℕ) → taking log t ≡ None → tenure log t ≡ None }
     ensures begun { (log : Journal) (t : ℕ) (begun : Told) → taking log t ≡ Some begun → IsToldTenure log t begun }
+{}
+
+/// The shards of a stream are numbered from 0 in their order. The numbers of a shard's records rise from its starting
+/// number on, below the stream's next one, which is never above the greatest u64; and a record has the bytes of its
+/// payload and its key, which one batch can hold.
+pub fn shard_records()
+    ensures shards { (log : Journal) (s : ℕ) → AreNumbered 0 (shards log s) }
+    ensures numbers { (log : Journal) → IsLegal log → (s sh : ℕ) → AreDrawn log s sh }
+    ensures next { (log : Journal) → IsLegal log → (s : ℕ) → next_number log s ≤ last_number }
+    ensures sizes { (h : List Turn) → IsHistory h → (s sh : ℕ) → AllByRecursion IsSized (records (journal h) s sh) }
+{}
+
+/// A row from the trim horizon has its shard's starting number as its floor, and where its checkpoint is a number,
+/// a record of its shard has that number or a greater one.
+pub fn checkpoints()
+    ensures floor { (h : List Turn) → IsHistory h → (key : ShardRef) (r : Row) → row (journal h) key ≡ Some r
+        → origin_of (journal h) key ≡ Some TrimHorizon → r.floor ≡ start_of (shard_at (journal h) key.stream key.shard) }
+    ensures reached { (h : List Turn) → IsHistory h → (key : ShardRef) (r : Row) (q : ℕ) → row (journal h) key ≡ Some r
+        → origin_of (journal h) key ≡ Some TrimHorizon → r.checkpoint ≡ At q → HasFrom q (records (journal h) key.stream key.shard) }
+{}
+
+/// What the text of a journal doesn't show, the bytes of keys and of payloads, decides nothing: where a journal is legal
+/// and ends by a clock, so is the one that its text shows.
+pub fn shown()
+    ensures { (log : Journal) (c : ℕ) → IsReached log c → IsReached (shown_journal log) c }
 {}
