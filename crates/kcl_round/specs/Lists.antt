@@ -1,6 +1,6 @@
 -- Consumers and those that are over, as lists that callers see.
-use Rattle.std.specs.Prelude.{ℕ, Bool, is_some, List, [], ◌∷◌, Option, Some, None}
-use Rattle.std.specs.List.{find}
+use Rattle.std.specs.Prelude.{ℕ, Bool, is_some, List, [], ◌∷◌, length, Option, Some, None}
+use Rattle.std.specs.List.{filter, find}
 use Rattle.kds_base.specs.declared.lease_key.ShardRef.{ShardRef}
 use Rattle.kcl_defs.specs.declared.consumer.Due.{Due}
 use Rattle.kcl_defs.specs.declared.consumer.Why.{Why}
@@ -38,3 +38,7 @@ due_or c (Some due) rest = Some (c.made.key, due)
 abbrev pub due_in : {P : Type 0} → List (Standing P) → Option (ShardRef × Due)
 due_in [] = None
 due_in (c ∷ cs) = due_or c (due_call c.phase) (due_in cs)
+
+-- how many calls are due
+abbrev pub due_count : {P : Type 0} → List (Standing P) → ℕ
+due_count cs = length (filter is_due cs)

@@ -6,3 +6,4 @@ pub mod ServedLemmas
 pub mod Standings
 pub mod Surveys
 pub mod Steppings
+pub mod Counting

@@ -1,5 +1,5 @@
 //! The worker.
-ghost use Rattle.std.specs.Prelude.{◌≡◌, ℕ, IfOk, Result, ◌≤◌, true, false, [], ◌∷◌, None, Some, IfErr, IsSome, OnErr, OnOk, map};
+ghost use Rattle.std.specs.Prelude.{◌≡◌, ◌<◌, ℕ, IfOk, Result, ◌≤◌, true, false, [], ◌∷◌, None, Some, IfErr, IsSome, OnErr, OnOk, map};
 ghost use Rattle.kds_defs.specs.declared.reply.Refusal.{Refusal};
 ghost use Rattle.kds_defs.specs.declared.reply.Reply.{Reply};
 ghost use Rattle.kcl_worker.specs.Parts.{IsSyncing, IsTaking};
@@ -11,7 +11,7 @@ ghost use Rattle.kcl_worker.specs.Adding.{AddsAnswer, AddsCall, AddsCommand, Add
 ghost use Rattle.kcl_worker.specs.Asks.{AllowsSame};
 ghost use Rattle.kcl_defs.specs.Workers.{Consuming, Finishing, Freeing, Got_answer, Renewing, Surveying, WorkerPast};
 ghost use Rattle.kcl_round.specs.Retirements.{retirement};
-ghost use Rattle.kcl_round.specs.Lists.{due_in};
+ghost use Rattle.kcl_round.specs.Lists.{due_count, due_in};
 ghost use Rattle.kcl_worker.specs.Standing.{StandsFor, is_idle_in};
 
 use crate::answers::{Taken, add_taken, after_consumer, after_renewal, taken_of, tenancy_of};
@@ -203,6 +203,7 @@ impl<P: Processor, F: Maker<P>> Worker<P, F> {
         ensures made { self.new.made ≡ self.old.made }
         ensures maker { self.new.maker ≡ self.old.maker }
         ensures waiting { self.new.waiting ≡ self.old.waiting }
+        ensures fewer { OnOk result (due_count self.new.consumers < due_count self.old.consumers) }
         ensures ok { OnOk result (AddsCall P.stands_for (F.asks self.old.maker) self.old self.new) }
         ensures err { OnErr result (AddsNothing P.stands_for self.old self.new) }
     {

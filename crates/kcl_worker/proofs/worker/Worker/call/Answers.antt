@@ -1,4 +1,4 @@
-use Rattle.std.proofs.Common.{◌+◌, ◌≤◌, map, refl, subst, sym}
+use Rattle.std.proofs.Common.{◌+◌, ◌<◌, ◌≤◌, map, refl, subst, sym}
 use Rattle.std.specs.Prelude.{IsSome}
 use Rattle.std.specs.Vec.{vec_capacity, vec_len}
 use Rattle.kcl_defs.specs.Workers.{due_known, worker_after}
@@ -6,9 +6,10 @@ use Rattle.kcl_worker.specs.Asks.{IsAskOf}
 use Rattle.kcl_worker.specs.Outlook.{IsAsking, NoneOver}
 use Rattle.kcl_worker.specs.Parts.{chore_of}
 use Rattle.kcl_round.specs.Retirements.{retirement}
-use Rattle.kcl_round.specs.Lists.{due_in}
+use Rattle.kcl_round.specs.Lists.{due_count, due_in}
 use Rattle.kcl_worker.specs.Standing.{StandsFor}
 use Rattle.kcl_worker.proofs.Askings.{asked_so, within_called, within_settled, within_uncalled}
+use Rattle.kcl_worker.proofs.Counting.{fewer_due}
 use Rattle.kcl_worker.proofs.Happenings.{asks_nothing, live_on, uncalled_on}
 use Rattle.kcl_worker.proofs.Standings.{call_leaves, on_err_so, uncalled_stands}
 use Rattle.kcl_worker.proofs.worker.Worker.call.Goals as goal
@@ -56,3 +57,8 @@ returns-clause-ok g c = λ past st.
           c.settle.ensures.live c.settle.ensures.over
           st0,
     )
+
+pub returns-clause-fewer : goal.returns-clause-fewer
+returns-clause-fewer g c =
+    subst (λ v. due_count c.settle.new.consumers.items < due_count v.consumers) c.self.view_is
+    (fewer_due g.P.Processor.stands_for g.P.Processor.asks c.in_ok-call_first.ensures.ok.0 c.self.inside.consumers.items c.call_first.new.consumers.items c.settle.new.consumers.items c.in_ok-call_first.ensures.ok.1 c.settle.ensures.live)
