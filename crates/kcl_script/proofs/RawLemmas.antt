@@ -1,7 +1,6 @@
 -- Each command of a raw line has one text.
 use Rattle.std.proofs.Common.{◌≡◌, ℕ, ◌<◌, ◌^◌, List, ◌∷◌, ◌++◌, Bool, true, false, Option, Some, None, refl, sym, ap, ◌∙◌, arith, codes, decimal, inl, inr, subst}
 use Rattle.std.proofs.lemmas.Bool.{cases_Bool}
-use Rattle.std.proofs.lemmas.List.{append-nil}
 use Rattle.std.specs.Prelude.{if◌then◌else◌, option_map}
 use Rattle.std.specs.List.{list_all}
 use Rattle.std.proofs.lemmas.Fmt.{digits_decimal}
@@ -13,16 +12,17 @@ use Rattle.kds_base.proofs.NumberLemmas.{own}
 use Rattle.kds_defs.specs.declared.command.Command.{Command}
 use Rattle.kds_defs.specs.declared.command.Command.TheVariants as command
 use Rattle.kds_defs.specs.declared.command.Origin.{Origin}
-use Rattle.kds_defs.specs.declared.command.Origin.TheVariants as origin
 use Rattle.kds_defs.specs.declared.command.Target.{Target}
 use Rattle.kds_defs.specs.declared.command.Target.TheVariants as target
 use Rattle.kds_defs.specs.declared.limits.TheConstants.{MOST}
 use Rattle.kds_defs.specs.Kinds.{is_service}
 use Rattle.kds_defs.specs.Lawful.{IsLawfulCommand}
-use Rattle.kcl_script.specs.Fields.{field, Lacks, two, moment_of, number, count_of, worker_of, worker_text, key_of, key_text}
-use Rattle.kcl_script.specs.Commands.{target_of, target_text, time_of, origin_of, key_with_origin, row_of, origin_text, IsOrigin, words_of, longer_of, command_of, command_text, raw_text, IsKey, IsTarget, AreNumbers, IsRaw, IsLong}
-use Rattle.kcl_script.proofs.Parts.{parted_at, parted_none, parted_spells, bind_some, map_some}
-use Rattle.kcl_script.proofs.Forms.{IsForm, Is64, number_form, moment_form, IsCount, count_form, IsWorker, worker_form, two_form, key_form, key_lacks, decimal_lacks}
+use Rattle.kcl_script.specs.Fields.{field, Lacks, two, number, count_of, worker_of, worker_text, key_of, key_text}
+use Rattle.kcl_script.specs.Commands.{target_of, target_text, row_of, words_of, longer_of, command_of, command_text, raw_text, IsKey, IsTarget, AreNumbers, IsRaw, IsLong}
+use Rattle.kcl_script.specs.Origins.{IsOrigin, origin_text}
+use Rattle.kcl_script.proofs.OriginLemmas.{with_origin_form}
+use Rattle.kcl_script.proofs.Parts.{parted_spells, bind_some, map_some}
+use Rattle.kcl_script.proofs.Forms.{IsForm, Is64, number_form, IsCount, count_form, IsWorker, worker_form, two_form, key_form, key_lacks, decimal_lacks}
 
 -- ---- targets
 
@@ -46,72 +46,13 @@ target_again : (to : Target) → IsTarget to → target_of (target_text to) ≡ 
 target_again target.End v = refl
 target_again (target.At q) v = rw (number_not_end q v) (ap (option_map (λ n. target.At n)) (number_form.again q v))
 
-target_form : IsForm IsTarget target_of target_text
+pub target_form : IsForm IsTarget target_of target_text
 target_form = record { spells = λ text to h. target_is (bytes_eq text (codes "end")) text to refl h; again = target_again }
-
--- ---- origins
-
--- a text after a space spells an origin
-abbrev SpellsOrigin : List ℕ → Origin → Type 0
-SpellsOrigin text from = IsOrigin from × (32 ∷ text ≡ origin_text from)
-
-time_is : (c : Bool) (word rest : List ℕ) (from : Origin) → bytes_eq word (codes "time") ≡ c
-    → (if c then option_map (λ m. origin.Time m) (moment_of rest) else None) ≡ Some from → SpellsOrigin (word ++ 32 ∷ rest) from
-time_is false word rest from c h = absurd (cc)
-time_is true word rest from c h =
-    let m = map_some (λ n. origin.Time n) (moment_of rest) from h in
-    let d = moment_form.spells rest m.0 m.1 in
-    let spelled : SpellsOrigin (codes "time" ++ 32 ∷ rest) (origin.Time m.0) = (d.0, ap (λ z. codes " time " ++ z) d.1) in
-    let at_word : SpellsOrigin (word ++ 32 ∷ rest) (origin.Time m.0) = subst (λ (z : List ℕ). SpellsOrigin (z ++ 32 ∷ rest) (origin.Time m.0)) (sym ((bytes_eq-Decides word (codes "time")).0 c)) spelled in
-    subst (λ (z : Origin). SpellsOrigin (word ++ 32 ∷ rest) z) m.2 at_word
-
-time_spells : (text : List ℕ) (from : Origin) → time_of text ≡ Some from → SpellsOrigin text from
-time_spells text from h =
-    let p = bind_some (field text) _ from h in
-    subst (λ (z : List ℕ). SpellsOrigin z from) (sym (parted_spells 32 text p.0 p.1).0) (time_is (bytes_eq p.0.0 (codes "time")) p.0.0 p.0.1 from refl p.2)
-
-origin_is : (c : Bool) (text : List ℕ) (from : Origin) → bytes_eq text (codes "latest") ≡ c
-    → (if c then Some origin.Latest else time_of text) ≡ Some from → SpellsOrigin text from
-origin_is true text from c h =
-    let same : origin.Latest ≡ from = cc in
-    subst (λ (z : Origin). SpellsOrigin text z) same (tt, ap (λ z. 32 ∷ z) ((bytes_eq-Decides text (codes "latest")).0 c))
-origin_is false text from c h = time_spells text from h
 
 -- ---- a key with its origin
 
-abbrev IsRow : ShardRef × Origin → Type 0
-IsRow a = IsKey a.0 × IsOrigin a.1
-
-abbrev row_text : ShardRef × Origin → List ℕ
-row_text a = key_text a.0 ++ origin_text a.1
-
-row_is : (text : List ℕ) (o : Option (List ℕ × List ℕ)) (a : ShardRef × Origin) → field text ≡ o → key_with_origin text o ≡ Some a → IsRow a × (text ≡ row_text a)
-row_is text None a e h =
-    let m = map_some (λ k. (k, origin.TrimHorizon)) (key_of text) a h in
-    let d = key_form.spells text m.0 m.1 in
-    subst (λ (z : ShardRef × Origin). IsRow z × (text ≡ row_text z)) m.2 ((d.0, tt), d.1 ∙ sym (append-nil (key_text m.0)))
-row_is text (Some p) a e h =
-    let k = bind_some (key_of p.0) _ a h in
-    let m = map_some (λ o. (k.0, o)) (origin_of p.1) a k.2 in
-    let d = key_form.spells p.0 k.0 k.1 in
-    let o = origin_is (bytes_eq p.1 (codes "latest")) p.1 m.0 refl m.1 in
-    subst (λ (z : ShardRef × Origin). IsRow z × (text ≡ row_text z)) m.2
-    ((d.0, o.0), (parted_spells 32 text p e).0 ∙ ap (λ z. z ++ 32 ∷ p.1) d.1 ∙ ap (λ z. key_text k.0 ++ z) o.1)
-
--- what reads a key with an origin after it
-with_again : (k : ShardRef) (from : Origin) (text : List ℕ) → IsKey k → origin_of text ≡ Some from → row_of (key_text k ++ 32 ∷ text) ≡ Some (k, from)
-with_again k from text v e = rw (parted_at 32 (key_text k) text (key_lacks k v) refl, key_form.again k v, e) refl
-
-time_again : (at : ℕ) → at < 2 ^ 62 → origin_of (codes "time " ++ decimal at) ≡ Some (origin.Time at)
-time_again at small = ap (option_map (λ m. origin.Time m)) (moment_form.again at small)
-
-row_again : (a : ShardRef × Origin) → IsRow a → row_of (row_text a) ≡ Some a
-row_again (k, origin.TrimHorizon) v = rw (append-nil (key_text k), parted_none 32 (key_text k) (key_lacks k v.0), key_form.again k v.0) refl
-row_again (k, origin.Latest) v = with_again k origin.Latest (codes "latest") v.0 refl
-row_again (k, origin.Time at) v = with_again k (origin.Time at) (codes "time " ++ decimal at) v.0 (time_again at v.1)
-
-row_form : IsForm IsRow row_of row_text
-row_form = record { spells = λ text a h. row_is text (field text) a refl h; again = row_again }
+pub row_form : IsForm (λ (a : ShardRef × Origin). IsKey a.0 × IsOrigin a.1) row_of (λ (a : ShardRef × Origin). key_text a.0 ++ origin_text a.1)
+row_form = with_origin_form key_lacks key_form
 
 -- ---- what follows the word
 

@@ -5,13 +5,13 @@ use Rattle.kds_base.specs.declared.lease_key.ShardRef.{ShardRef}
 use Rattle.kds_defs.specs.declared.command.Command.{Command}
 use Rattle.kds_defs.specs.declared.command.Command.TheVariants as command
 use Rattle.kds_defs.specs.declared.command.Origin.{Origin}
-use Rattle.kds_defs.specs.declared.command.Origin.TheVariants as origin
 use Rattle.kds_defs.specs.declared.command.Target.{Target}
 use Rattle.kds_defs.specs.declared.command.Target.TheVariants as target
 use Rattle.kds_defs.specs.declared.limits.TheConstants.{MOST}
 use Rattle.kds_defs.specs.Kinds.{is_service}
 use Rattle.kds_defs.specs.Lawful.{IsLawfulCommand}
-use Rattle.kcl_script.specs.Fields.{◌>>=◌, field, two, moment_of, number, count_of, worker_of, worker_text, key_of, key_text}
+use Rattle.kcl_script.specs.Origins.{IsOrigin, origin_text, with_origin}
+use Rattle.kcl_script.specs.Fields.{◌>>=◌, field, two, number, count_of, worker_of, worker_text, key_of, key_text}
 
 -- what a checkpoint is set to: a record's number, or `end`
 abbrev pub target_of : List ℕ → Option Target
@@ -21,28 +21,9 @@ abbrev pub target_text : Target → List ℕ
 target_text target.End = codes "end"
 target_text (target.At q) = decimal q
 
--- the moment of `time M`
-abbrev pub time_of : List ℕ → Option Origin
-time_of text = field text >>= λ p. if bytes_eq p.0 (codes "time") then option_map (λ m. origin.Time m) (moment_of p.1) else None
-
--- where the reading of a row begins: `latest` or `time M`
-abbrev pub origin_of : List ℕ → Option Origin
-origin_of text = if bytes_eq text (codes "latest") then Some origin.Latest else time_of text
-
--- a key alone is read from the shard's first record, else its origin follows it
-abbrev pub key_with_origin : List ℕ → Option (List ℕ × List ℕ) → Option (ShardRef × Origin)
-key_with_origin text None = option_map (λ k. (k, origin.TrimHorizon)) (key_of text)
-key_with_origin text (Some p) = key_of p.0 >>= λ k. option_map (λ o. (k, o)) (origin_of p.1)
-
 -- `KEY`, `KEY latest` or `KEY time M`
 abbrev pub row_of : List ℕ → Option (ShardRef × Origin)
-row_of text = key_with_origin text (field text)
-
--- and what follows the key
-abbrev pub origin_text : Origin → List ℕ
-origin_text origin.TrimHorizon = []
-origin_text origin.Latest = codes " latest"
-origin_text (origin.Time m) = codes " time " ++ decimal m
+row_of text = with_origin key_of text
 
 -- `make KEY`, `make KEY latest` or `make KEY time M`
 abbrev pub make_of : List ℕ → Option Command
@@ -130,10 +111,6 @@ IsKey key = (key.stream < 2 ^ 64) × (key.shard < 2 ^ 64)
 abbrev pub IsTarget : Target → Type 0
 IsTarget target.End = Unit {0}
 IsTarget (target.At q) = q < 2 ^ 64
-
-abbrev pub IsOrigin : Origin → Type 0
-IsOrigin (origin.Time m) = m < 2 ^ 62
-IsOrigin _ = Unit {0}
 
 abbrev pub AreNumbers : Command → Type 0
 AreNumbers (command.MakeLease key from) = IsKey key × IsOrigin from

@@ -2,23 +2,28 @@
 ghost use Rattle.std.specs.Prelude.{◌≡◌, ◌∷◌, ◌++◌, false, OnOk, OnErr};
 ghost use Rattle.kds_defs.specs.Kinds.{is_service};
 ghost use Rattle.kcl_script.specs.Fields.{worker_text};
-ghost use Rattle.kcl_script.specs.Commands.{target_text, origin_text, command_text, raw_text};
+ghost use Rattle.kcl_script.specs.Commands.{target_text, command_text, raw_text};
+ghost use Rattle.kcl_script.specs.Origins.{origin_text};
+ghost use Rattle.kcl_script.specs.Workers.{kind_text};
 ghost use Rattle.kcl_script.specs.Line.{spelling, IsLine};
 
 use crate::line::Line;
 use crate::words::{number_field, with_key, with_number, with_numbers};
+use kcl_proc::Kind;
 use kds_base::{Memory, Octets, WorkerNo, write_u64};
 use kds_defs::{Command, Origin, Target};
 use std::alloc::Global;
 
-fn owner_field(alloc: Global, owner: WorkerNo, to: &mut Octets) -> Result<(), Memory>
+/// Adds a space and a worker. After `Memory` a front of it may have been added.
+pub fn owner_field(alloc: Global, owner: WorkerNo, to: &mut Octets) -> Result<(), Memory>
     ensures { OnOk result (to.new ≡ to.old ++ 32 ∷ worker_text owner) }
 {
     to.extend(b" w".as_slice())?;
     write_u64(alloc, owner.0 as u64, to)
 }
 
-fn target_field(alloc: Global, target: Target, to: &mut Octets) -> Result<(), Memory>
+/// Adds a space and what a checkpoint is set to. After `Memory` a front of it may have been added.
+pub fn target_field(alloc: Global, target: Target, to: &mut Octets) -> Result<(), Memory>
     ensures { OnOk result (to.new ≡ to.old ++ 32 ∷ target_text target) }
 {
     match target {
@@ -27,13 +32,24 @@ fn target_field(alloc: Global, target: Target, to: &mut Octets) -> Result<(), Me
     }
 }
 
-fn origin_field(alloc: Global, from: Origin, to: &mut Octets) -> Result<(), Memory>
+/// Adds where reading begins, after a space, unless it is the first record. After `Memory` a front of it may have been
+/// added.
+pub fn origin_field(alloc: Global, from: Origin, to: &mut Octets) -> Result<(), Memory>
     ensures { OnOk result (to.new ≡ to.old ++ origin_text from) }
 {
     match from {
         Origin::TrimHorizon => Ok(()),
         Origin::Latest => to.extend(b" latest".as_slice()),
         Origin::Time(at) => with_number(alloc, b" time".as_slice(), at.ms(), to),
+    }
+}
+
+fn kind_field(kind: Kind, to: &mut Octets) -> Result<(), Memory>
+    ensures { OnOk result (to.new ≡ to.old ++ 32 ∷ kind_text kind) }
+{
+    match kind {
+        Kind::Tally => to.extend(b" tally".as_slice()),
+        Kind::Lines => to.extend(b" lines".as_slice()),
     }
 }
 
@@ -122,6 +138,26 @@ fn fill_line(alloc: Global, line: &Line, to: &mut Octets) -> Result<(), Memory>
             with_number(alloc, b" raw".as_slice(), *by as u64, to)?;
             to.extend(b" ".as_slice())?;
             fill_raw(alloc, what, *long, to)
+        }
+        Line::Worker {
+            at,
+            name,
+            kind,
+            from,
+        } => {
+            write_u64(alloc, at.ms(), to)?;
+            to.extend(b" worker".as_slice())?;
+            owner_field(alloc, *name, to)?;
+            kind_field(*kind, to)?;
+            origin_field(alloc, *from, to)
+        }
+        Line::Step { at, by } => {
+            write_u64(alloc, at.ms(), to)?;
+            with_number(alloc, b" step".as_slice(), *by as u64, to)
+        }
+        Line::Stop { at, by } => {
+            write_u64(alloc, at.ms(), to)?;
+            with_number(alloc, b" stop".as_slice(), *by as u64, to)
         }
     }
 }

@@ -1,14 +1,16 @@
 //! The commands of raw lines.
 ghost use Rattle.std.specs.Prelude.{◌≡◌, option_map};
 ghost use Rattle.kcl_script.specs.Fields.{two, number, count_of, worker_of, key_of};
-ghost use Rattle.kcl_script.specs.Commands.{target_of, time_of, origin_of, row_of, make_of, take_of, renew_of, free_of, open_of, read_of, give_of, mark_of, cut_of, words_of, longer_of, command_of};
+ghost use Rattle.kcl_script.specs.Commands.{target_of, row_of, make_of, take_of, renew_of, free_of, open_of, read_of, give_of, mark_of, cut_of, words_of, longer_of, command_of};
 
-use crate::fields::{count, field, key, moment, two_numbers, worker};
+use crate::fields::{count, field, key, two_numbers, worker};
+use crate::origins::origin;
 use kds_base::{Seq, ShardRef, TenureNo, read_u64};
 use kds_defs::limits::MOST;
 use kds_defs::{Command, Origin, Target};
 
-fn target(text: &[u8]) -> Option<Target>
+/// What a checkpoint is set to: a record's number, or `end`.
+pub fn target(text: &[u8]) -> Option<Target>
     ensures { result ≡ target_of text.now }
 {
     if text == b"end".as_slice() {
@@ -19,32 +21,8 @@ fn target(text: &[u8]) -> Option<Target>
     }
 }
 
-/// The moment of `time M`.
-fn time(text: &[u8]) -> Option<Origin>
-    ensures { result ≡ time_of text.now }
-{
-    let (word, rest) = field(text)?;
-    if word == b"time".as_slice() {
-        let at = moment(rest)?;
-        Some(Origin::Time(at))
-    } else {
-        None
-    }
-}
-
-/// Where the reading of a row begins: `latest` or `time M`.
-fn origin(text: &[u8]) -> Option<Origin>
-    ensures { result ≡ origin_of text.now }
-{
-    if text == b"latest".as_slice() {
-        Some(Origin::Latest)
-    } else {
-        time(text)
-    }
-}
-
 /// A key, and where the reading of its row begins: at the shard's first record where only the key is there.
-fn row(text: &[u8]) -> Option<(ShardRef, Origin)>
+pub fn row(text: &[u8]) -> Option<(ShardRef, Origin)>
     ensures { result ≡ row_of text.now }
 {
     match field(text) {

@@ -8,7 +8,7 @@ use kds_defs::Command;
 use std::alloc::Global;
 use std::test::Fail;
 
-const LINES: [&str; 14] = [
+const LINES: [&str; 18] = [
     "1000 api CreateStream ",
     "1000 raw 999 rows",
     "0 raw 1 survey",
@@ -23,6 +23,10 @@ const LINES: [&str; 14] = [
     "3000 raw 2 give 2",
     "3000 raw 2 mark 2 4 end",
     "4611686018427387903 raw 2 cut 1/0 5",
+    "3000 worker w1 tally",
+    "3000 worker w4294967295 lines latest",
+    "3000 step 4294967295",
+    "3000 stop 0",
 ];
 
 /// The text of the line that a text is.
