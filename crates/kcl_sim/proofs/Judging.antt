@@ -8,6 +8,7 @@ use Rattle.kcl_script.specs.declared.line.Line.{Line}
 use Rattle.kcl_script.specs.Line.{line_of}
 use Rattle.kcl_sim.specs.Output.{Ran, fresh, with_line, output_of, with_schedule, outputs}
 use Rattle.kcl_sim.specs.Schedule.{whole, judge_form, judge, preceded_by}
+use Rattle.kcl_sim.specs.Standing.{GoesOn, MayHaveRun, RunsSo, SimValue}
 use Rattle.kcl_sim.specs.Taking.{judged_texts, Took, texts_output}
 
 pub outputs-append : (ran : Ran) (ls ks : List Line) → outputs ran (ls ++ ks) ≡ outputs ran ls ++ outputs (with_schedule ran ls) ks
@@ -44,31 +45,36 @@ one_more : (texts : List (List ℕ)) (text : List ℕ) (l : Line) → (judged_te
     → judged_texts (texts ++ text ∷ []) ≡ record { lines = (judged_texts texts).lines ++ l ∷ []; ending = whole }
 one_more texts text l are is = judge_more texts (text ∷ []) input.whole are ∙ ap (λ o. preceded_by (judged_texts texts).lines (judge_form (length texts) o (judge (length texts + 1) [] input.whole))) is
 
-pub took_nothing : (ran : Ran) → ran ≡ fresh → Took ran []
-took_nothing ran is = record { are_lines = refl; made = is }
+pub took_nothing : (s : SimValue) → RunsSo s fresh → Took s []
+took_nothing s is = record { are_lines = refl; made = is }
 
-pub took_more : (old new : Ran) (texts : List (List ℕ)) (text : List ℕ) (l : Line) → Took old texts → line_of text ≡ Some l → new ≡ with_line old l → Took new (texts ++ text ∷ [])
+pub took_more : (old new : SimValue) (texts : List (List ℕ)) (text : List ℕ) (l : Line) → Took old texts → line_of text ≡ Some l → RunsSo new (with_line (with_schedule fresh (judged_texts texts).lines) l) → Took new (texts ++ text ∷ [])
 took_more old new texts text l t is made =
-    let j = one_more texts text l t.are_lines is in record {
-      are_lines = ap (λ z. z.ending) j;
-      made = made ∙ ap (λ r. with_line r l) t.made ∙ sym (with_schedule-append fresh (judged_texts texts).lines (l ∷ [])) ∙ ap (λ z. with_schedule fresh z.lines) (sym j);
+    let j = one_more texts text l t.are_lines is in
+    let same : with_line (with_schedule fresh (judged_texts texts).lines) l ≡ with_schedule fresh (judged_texts (texts ++ text ∷ [])).lines =
+    sym (with_schedule-append fresh (judged_texts texts).lines (l ∷ [])) ∙ ap (λ z. with_schedule fresh z.lines) (sym j) in
+    record { are_lines = ap (λ z. z.ending) j; made = subst (λ (r : Ran). RunsSo new r) same made }
+
+output_more : (texts : List (List ℕ)) (text : List ℕ) (l : Line) → (judged_texts texts).ending ≡ whole → line_of text ≡ Some l → texts_output (texts ++ text ∷ []) ≡ texts_output texts ++ output_of (with_schedule fresh (judged_texts texts).lines) l
+output_more texts text l are is =
+    ap (λ z. outputs fresh z.lines) (one_more texts text l are is) ∙ outputs-append fresh (judged_texts texts).lines (l ∷ [])
+    ∙ ap (λ z. texts_output texts ++ z) (append-nil _)
+
+pub takes : (old new : SimValue) (text : List ℕ) (l : Line) (before after : List ℕ) → line_of text ≡ Some l → ((ran : Ran) → RunsSo old ran → GoesOn new ran l before after)
+    → (texts : List (List ℕ)) → Took old texts → Goes (λ z. Took new z) texts_output texts text before after
+takes old new text l before after is goes texts t =
+    let g = goes (with_schedule fresh (judged_texts texts).lines) t.made in record {
+      taken = took_more old new texts text l t is g.made;
+      added = output_of (with_schedule fresh (judged_texts texts).lines) l;
+      grows = output_more texts text l t.are_lines is;
+      wrote = g.wrote;
     }
 
-output_more : (old : Ran) (texts : List (List ℕ)) (text : List ℕ) (l : Line) → Took old texts → line_of text ≡ Some l → texts_output (texts ++ text ∷ []) ≡ texts_output texts ++ output_of old l
-output_more old texts text l t is =
-    ap (λ z. outputs fresh z.lines) (one_more texts text l t.are_lines is) ∙ outputs-append fresh (judged_texts texts).lines (l ∷ [])
-    ∙ ap (λ z. texts_output texts ++ z) (append-nil _) ∙ ap (λ r. texts_output texts ++ output_of r l) (sym t.made)
+breaks_by : (old new : SimValue) (text : List ℕ) (l : Line) → line_of text ≡ Some l → (texts : List (List ℕ)) → Took old texts
+    → MayHaveRun new (with_schedule fresh (judged_texts texts).lines) l → Breaks (λ z. Took new z) texts_output texts text
+breaks_by old new text l is texts t (inl same) = inl (record { are_lines = t.are_lines; made = same })
+breaks_by old new text l is texts t (inr made) = inr (took_more old new texts text l t is made, (output_of (with_schedule fresh (judged_texts texts).lines) l, output_more texts text l t.are_lines is))
 
-pub takes : (old new : Ran) (text : List ℕ) (l : Line) (before after : List ℕ) → line_of text ≡ Some l → new ≡ with_line old l → after ≡ before ++ output_of old l
-    → (texts : List (List ℕ)) → Took old texts → Goes (λ z. Took new z) texts_output texts text before after
-takes old new text l before after is made wrote texts t = record {
-  taken = took_more old new texts text l t is made;
-  added = output_of old l;
-  grows = output_more old texts text l t is;
-  wrote = wrote;
-}
-
-pub breaks : (old new : Ran) (text : List ℕ) (l : Line) → line_of text ≡ Some l → (new ≡ old) ⊎ (new ≡ with_line old l)
+pub breaks : (old new : SimValue) (text : List ℕ) (l : Line) → line_of text ≡ Some l → ((ran : Ran) → RunsSo old ran → MayHaveRun new ran l)
     → (texts : List (List ℕ)) → Took old texts → Breaks (λ z. Took new z) texts_output texts text
-breaks old new text l is (inl same) texts t = inl (subst (λ (r : Ran). Took r texts) (sym same) t)
-breaks old new text l is (inr made) texts t = inr (took_more old new texts text l t is made, (output_of old l, output_more old texts text l t is))
+breaks old new text l is may texts t = breaks_by old new text l is texts t (may (with_schedule fresh (judged_texts texts).lines) t.made)

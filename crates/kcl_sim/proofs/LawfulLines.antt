@@ -6,15 +6,18 @@ use Rattle.kds_defs.specs.Lawful.{IsHistory}
 use Rattle.kds_json.specs.declared.problem.Fault.{Fault}
 use Rattle.kds_json.specs.Asked.{asked, IsRequest}
 use Rattle.kcl_script.specs.declared.line.Line.{Line}
-use Rattle.kcl_script.specs.declared.line.Line.TheVariants.{Api, Raw}
+use Rattle.kcl_script.specs.declared.line.Line.TheVariants.{Api, Raw, Step, Stop, Worker}
 use Rattle.kcl_script.specs.Line.{line_of, IsLine}
 use Rattle.kds_lines.specs.Lines.{End, lined}
-use Rattle.kcl_sim.specs.Output.{Ran, fresh, with_request, with_line, with_schedule}
+use Rattle.kds_defs.specs.declared.command.Turn.{Turn}
+use Rattle.kcl_sim.specs.Output.{Ran, fresh, requested, with_line, with_schedule}
+use Rattle.kcl_sim.specs.Workers.{employed_by}
+use Rattle.kcl_sim.proofs.LawfulSteps.{AreBounded, line_bounded, step_lawful, stop_lawful}
 use Rattle.kcl_sim.specs.Schedule.{Judged, judge_form, judge, judged, history}
 
-pub request_lawful : (ran : Ran) (at : ℕ) (r : Result Command Fault) → at < 2 ^ 62 → ((what : Command) → r ≡ Ok what → IsRequest what) → IsHistory ran.history → IsHistory (with_request ran at r).history
-request_lawful ran at (Ok what) early lawful past = ((early, (lawful what refl).0), past)
-request_lawful ran at (Err f) early lawful past = past
+pub request_lawful : (h : List Turn) (at : ℕ) (r : Result Command Fault) → at < 2 ^ 62 → ((what : Command) → r ≡ Ok what → IsRequest what) → IsHistory h → IsHistory (requested h at r)
+request_lawful h at (Ok what) early lawful past = ((early, (lawful what refl).0), past)
+request_lawful h at (Err f) early lawful past = past
 
 -- the lines of a judgement are lines
 abbrev pub AreLines : Judged → Type 0
@@ -27,15 +30,7 @@ AskLawfully = (operation body : List ℕ) (what : Command) → asked operation b
 abbrev pub ReadLines : Type 0
 ReadLines = (text : List ℕ) (line : Line) → line_of text ≡ Some line → IsLine line
 
-module _ (asks : AskLawfully) (reads : ReadLines) where
-  line_lawful : (ran : Ran) (l : Line) → IsLine l → IsHistory ran.history → IsHistory (with_line ran l).history
-  line_lawful ran (Api at operation body) is past = request_lawful ran at (asked operation body) is.0 (asks operation body) past
-  line_lawful ran (Raw at by what long) is past = ((is.0, is.1.1.0.lawful), past)
-
-  schedule_lawful : (ran : Ran) (ls : List Line) → AllByRecursion IsLine ls → IsHistory ran.history → IsHistory (with_schedule ran ls).history
-  schedule_lawful ran [] are past = past
-  schedule_lawful ran (l ∷ ls) are past = schedule_lawful (with_line ran l) ls are.1 (line_lawful ran l are.0 past)
-
+module _ (reads : ReadLines) where
   form_lines : (count : ℕ) (text : List ℕ) (o : Option Line) (later : Judged) → line_of text ≡ o → AreLines later → AreLines (judge_form count o later)
   form_lines count text None later is are = tt
   form_lines count text (Some l) later is are = (reads text l is, are)
@@ -44,14 +39,32 @@ module _ (asks : AskLawfully) (reads : ReadLines) where
   judge_lines count [] end = tt
   judge_lines count (text ∷ texts) end = form_lines count text (line_of text) _ refl (judge_lines (count + 1) texts end)
 
-  pub history_lawful : (bytes : List ℕ) → IsHistory (history bytes)
-  history_lawful bytes = schedule_lawful fresh (judged bytes).lines (judge_lines 0 (lined bytes).texts (lined bytes).end) tt
-
   front_lines : (ls ks : List Line) → AllByRecursion IsLine (ls ++ ks) → AllByRecursion IsLine ls
   front_lines [] ks are = tt
   front_lines (l ∷ ls) ks are = (are.0, front_lines ls ks are.1)
 
+  -- the lines of a schedule
+  pub schedule_lines : (bytes : List ℕ) → AllByRecursion IsLine (judged bytes).lines
+  schedule_lines bytes = judge_lines 0 (lined bytes).texts (lined bytes).end
+
+  -- and the first of them
+  pub first_lines : (bytes : List ℕ) (lines later : List Line) → (judged bytes).lines ≡ lines ++ later → AllByRecursion IsLine lines
+  first_lines bytes lines later parts = front_lines lines later (subst (λ (z : List Line). AllByRecursion IsLine z) parts (schedule_lines bytes))
+
+module _ (asks : AskLawfully) (reads : ReadLines) where
+  line_lawful : (ran : Ran) (l : Line) → IsLine l → AreBounded ran.workers → IsHistory ran.history → IsHistory (with_line ran l).history
+  line_lawful ran (Api at operation body) is bound past = request_lawful ran.history at (asked operation body) is.0 (asks operation body) past
+  line_lawful ran (Raw at by what long) is bound past = ((is.0, is.1.1.0.lawful), past)
+  line_lawful ran (Worker at name kind from) is bound past = past
+  line_lawful ran (Step at by) is bound past = step_lawful ran at by is.0 bound past
+  line_lawful ran (Stop at by) is bound past = stop_lawful ran by (employed_by by ran.workers) past
+
+  schedule_lawful : (ran : Ran) (ls : List Line) → AllByRecursion IsLine ls → AreBounded ran.workers → IsHistory ran.history → IsHistory (with_schedule ran ls).history
+  schedule_lawful ran [] are bound past = past
+  schedule_lawful ran (l ∷ ls) are bound past = schedule_lawful (with_line ran l) ls are.1 (line_bounded ran l are.0 bound) (line_lawful ran l are.0 bound past)
+
+  pub history_lawful : (bytes : List ℕ) → IsHistory (history bytes)
+  history_lawful bytes = schedule_lawful fresh (judged bytes).lines (schedule_lines reads bytes) tt tt
+
   pub front_lawful : (bytes : List ℕ) (lines later : List Line) → (judged bytes).lines ≡ lines ++ later → IsHistory (with_schedule fresh lines).history
-  front_lawful bytes lines later parts =
-      let are : AllByRecursion IsLine (lines ++ later) = subst (λ (z : List Line). AllByRecursion IsLine z) parts (judge_lines 0 (lined bytes).texts (lined bytes).end) in
-      schedule_lawful fresh lines (front_lines lines later are) tt
+  front_lawful bytes lines later parts = schedule_lawful fresh lines (first_lines reads bytes lines later parts) tt tt

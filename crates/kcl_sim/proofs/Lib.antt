@@ -1,3 +1,9 @@
+pub mod Calling
+pub mod Employing
 pub mod Judging
+pub mod LawfulSteps
 pub mod LawfulLines
+pub mod Stepping
+pub mod Running
 pub mod Reversed
+pub mod Serving

@@ -1,5 +1,5 @@
 -- What a line of a schedule makes of a run, and what it adds to the output.
-use Rattle.std.specs.Prelude.{ℕ, List, [], ◌∷◌, ◌++◌, decimal, Bool, Result, Ok, Err}
+use Rattle.std.specs.Prelude.{ℕ, List, [], ◌∷◌, ◌++◌, codes, decimal, length, Bool, false, Option, Some, None, Result, Ok, Err}
 use Rattle.kds_defs.specs.declared.command.Turn.{Turn}
 use Rattle.kds_defs.specs.declared.command.Command.{Command}
 use Rattle.kds_defs.specs.Histories.{answer}
@@ -9,7 +9,9 @@ use Rattle.kds_json.specs.Asked.{asked}
 use Rattle.kds_reply.specs.Replies.{reply_of, fault_reply}
 use Rattle.kcl_script.specs.Answers.{answer_text}
 use Rattle.kcl_script.specs.declared.line.Line.{Line}
-use Rattle.kcl_script.specs.declared.line.Line.TheVariants.{Api, Raw}
+use Rattle.kcl_script.specs.declared.line.Line.TheVariants.{Api, Raw, Step, Stop, Worker}
+use Rattle.kcl_script.specs.Commands.{command_text}
+use Rattle.kcl_sim.specs.Workers.{Employed, actor_at, all_called, answered, command_at, employed_by, hired, stopped, with_employed}
 
 -- a space and the body, unless it is empty
 abbrev pub body_part : List ℕ → List ℕ
@@ -20,43 +22,92 @@ body_part (b ∷ bs) = 32 ∷ b ∷ bs
 abbrev pub printed : ℕ × List ℕ → List ℕ
 printed r = decimal r.0 ++ (body_part r.1 ++ 10 ∷ [])
 
--- What a run of lines has made so far: the history of its turns, the newest first.
+-- What a run of lines has made so far: the history of its turns, the newest first, and its workers, in the order of
+-- their making.
 pub record Ran : Type 0 where
   pub history : List Turn
+  pub workers : List Employed
 
 -- a run of no line
 abbrev pub fresh : Ran
-fresh = record { history = [] }
+fresh = record { history = []; workers = [] }
 
 abbrev pub with_turn : Ran → Turn → Ran
-with_turn ran turn = record { history = turn ∷ ran.history }
+with_turn ran turn = record ran { history = turn ∷ ran.history }
 
--- the run with a request. A request with a fault is no turn
-abbrev pub with_request : Ran → ℕ → Result Command Fault → Ran
-with_request ran at (Ok what) = with_turn ran (request_turn at what)
-with_request ran at (Err f) = ran
+-- the worker of an actor becomes this
+abbrev pub with_worker : Ran → ℕ → Employed → Ran
+with_worker ran by e = record ran { workers = with_employed by e ran.workers }
 
-abbrev pub request_output : Ran → ℕ → Result Command Fault → List ℕ
-request_output ran at (Ok what) = printed (reply_of (answer ran.history (request_turn at what)))
-request_output ran at (Err f) = printed (fault_reply f)
+-- ---- requests and raw lines
 
--- the turn of a raw line, by its actor
+-- the history with a request. A request with a fault is no turn
+abbrev pub requested : List Turn → ℕ → Result Command Fault → List Turn
+requested h at (Ok what) = request_turn at what ∷ h
+requested h at (Err f) = h
+
+abbrev pub request_output : List Turn → ℕ → Result Command Fault → List ℕ
+request_output h at (Ok what) = printed (reply_of (answer h (request_turn at what)))
+request_output h at (Err f) = printed (fault_reply f)
+
+-- the turn of a command for leases, by its actor
 abbrev pub raw_turn : ℕ → ℕ → Command → Turn
 raw_turn at by what = record { by = by; at = at; what = what }
 
 -- its output: the text of the answer
-abbrev pub raw_output : Ran → Turn → Bool → List ℕ
-raw_output ran turn long = answer_text long (answer ran.history turn) ++ 10 ∷ []
+abbrev pub raw_output : List Turn → Turn → Bool → List ℕ
+raw_output h turn long = answer_text long (answer h turn) ++ 10 ∷ []
+
+-- ---- steps of workers
+
+-- the turn of a worker whose calls were made, where a command comes next
+abbrev pub with_command : Ran → ℕ → ℕ → Employed → Option Command → Ran
+with_command ran at by e None = with_worker ran by e
+with_command ran at by e (Some what) =
+    with_worker (with_turn ran (raw_turn at by what)) by (answered at (answer ran.history (raw_turn at by what)) e)
+
+-- its output: the command and the answer, or that it is idle
+abbrev pub command_output : List Turn → ℕ → ℕ → Option Command → List ℕ
+command_output h at by None = codes "idle" ++ 10 ∷ []
+command_output h at by (Some what) =
+    command_text what ++ (codes " = " ++ (answer_text false (answer h (raw_turn at by what)) ++ 10 ∷ []))
+
+-- all calls that are due are made, and then comes the turn
+abbrev pub with_step : Ran → ℕ → ℕ → Option Employed → Ran
+with_step ran at by None = ran
+with_step ran at by (Some e) = with_command ran at by (all_called e) (command_at at (all_called e))
+
+abbrev pub step_output : Ran → ℕ → ℕ → Option Employed → List ℕ
+step_output ran at by None = codes "none" ++ 10 ∷ []
+step_output ran at by (Some e) = command_output ran.history at by (command_at at (all_called e))
+
+-- ---- stops
+
+abbrev pub with_stop : Ran → ℕ → Option Employed → Ran
+with_stop ran by None = ran
+with_stop ran by (Some e) = with_worker ran by (stopped e)
+
+abbrev pub stop_output : Option Employed → List ℕ
+stop_output None = codes "none" ++ 10 ∷ []
+stop_output (Some e) = codes "stopping" ++ 10 ∷ []
+
+-- ---- lines
 
 -- the run with a line. A raw line is always a turn, also where it is refused
 abbrev pub with_line : Ran → Line → Ran
-with_line ran (Api at operation body) = with_request ran at (asked operation body)
+with_line ran (Api at operation body) = record ran { history = requested ran.history at (asked operation body) }
 with_line ran (Raw at by what long) = with_turn ran (raw_turn at by what)
+with_line ran (Worker at name kind from) = record ran { workers = ran.workers ++ hired name kind from ∷ [] }
+with_line ran (Step at by) = with_step ran at by (employed_by by ran.workers)
+with_line ran (Stop at by) = with_stop ran by (employed_by by ran.workers)
 
 -- what a line adds to the output of a run
 abbrev pub output_of : Ran → Line → List ℕ
-output_of ran (Api at operation body) = request_output ran at (asked operation body)
-output_of ran (Raw at by what long) = raw_output ran (raw_turn at by what) long
+output_of ran (Api at operation body) = request_output ran.history at (asked operation body)
+output_of ran (Raw at by what long) = raw_output ran.history (raw_turn at by what) long
+output_of ran (Worker at name kind from) = codes "worker " ++ (decimal (actor_at (length ran.workers)) ++ 10 ∷ [])
+output_of ran (Step at by) = step_output ran at by (employed_by by ran.workers)
+output_of ran (Stop at by) = stop_output (employed_by by ran.workers)
 
 -- the run with lines, one after another
 abbrev pub with_schedule : Ran → List Line → Ran

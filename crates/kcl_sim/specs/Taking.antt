@@ -2,7 +2,8 @@
 use Rattle.std.specs.Prelude.{◌≡◌, ℕ, List, None}
 use Rattle.kds_lines.specs.Lines as input
 use Rattle.kcl_script.specs.Line.{line_of}
-use Rattle.kcl_sim.specs.Output.{Ran, fresh, with_schedule, outputs}
+use Rattle.kcl_sim.specs.Output.{fresh, with_schedule, outputs}
+use Rattle.kcl_sim.specs.Standing.{RunsSo, SimValue}
 use Rattle.kcl_sim.specs.Schedule.{Judged, judge, whole}
 
 -- these texts as a schedule
@@ -10,9 +11,9 @@ abbrev pub judged_texts : List (List ℕ) → Judged
 judged_texts texts = judge 0 texts input.whole
 
 -- each text is a line, and the run is that of these lines
-pub record Took (ran : Ran) (texts : List (List ℕ)) : Type 0 where
+pub record Took (s : SimValue) (texts : List (List ℕ)) : Type 0 where
   pub are_lines : (judged_texts texts).ending ≡ whole
-  pub made : ran ≡ with_schedule fresh (judged_texts texts).lines
+  pub made : RunsSo s (with_schedule fresh (judged_texts texts).lines)
 
 -- a text that is no line stops the run, whatever came before
 abbrev pub IsNoLine : List (List ℕ) → List ℕ → Type 0

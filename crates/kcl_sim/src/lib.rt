@@ -6,14 +6,18 @@ ghost use Rattle.kds_defs.specs.Lawful.{IsHistory};
 ghost use Rattle.kds_lines.specs.Lines.{End};
 ghost use Rattle.kcl_script.specs.declared.line.Line.{Line};
 ghost use Rattle.kcl_sim.specs.Output.{Ran, fresh, with_schedule, outputs};
-ghost use Rattle.kcl_sim.specs.Schedule.{history, judge, judged, preceded_by, whole};
+ghost use Rattle.kcl_sim.specs.Schedule.{history, judge, judged, preceded_by, ran, whole};
+ghost use Rattle.kcl_sim.specs.Serving.{AreAllServed};
 ghost use Rattle.kcl_sim.specs.Taking.{judged_texts};
 
 use kcl_script::one_spelling;
+use kcl_worker::service;
 use kds_json::asks_lawfully;
 
 mod print;
 mod sim;
+mod steps;
+mod workers;
 
 pub use sim::Sim;
 
@@ -25,6 +29,17 @@ pub fn lawful()
 {
     asks_lawfully();
     one_spelling();
+}
+
+/// In every schedule the processors of each worker are called for the given reads of their tenures, and so after its first
+/// lines.
+pub fn served()
+    ensures whole { (bytes : List ℕ) → AreAllServed (ran bytes) }
+    ensures first { (bytes : List ℕ) (lines later : List Line) → (judged bytes).lines ≡ lines ++ later
+        → AreAllServed (with_schedule fresh lines) }
+{
+    one_spelling();
+    service();
 }
 
 /// Lines run one after another: those so far go on to what follows.

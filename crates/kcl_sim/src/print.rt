@@ -1,5 +1,5 @@
 //! Lines of output. Each is made in a room that is used again, and added whole.
-ghost use Rattle.std.specs.Prelude.{◌≡◌, [], ◌∷◌, ◌++◌, true, IsUtf8, OnOk, OnErr};
+ghost use Rattle.std.specs.Prelude.{◌≡◌, [], ◌∷◌, ◌++◌, codes, decimal, true, false, IsUtf8, OnOk, OnErr};
 ghost use Rattle.kds_defs.specs.Kinds.{is_lease_answer};
 ghost use Rattle.kds_reply.specs.Replies.{fault_reply};
 ghost use Rattle.kcl_script.specs.Answers.{answer_text};
@@ -71,4 +71,42 @@ pub fn print_raw(
     print_answer(alloc, answer, long, line)?;
     line.extend(b"\n".as_slice())?;
     to.extend(line.as_slice())
+}
+
+/// Adds a word as a line. After `Memory` nothing was added.
+pub fn print_word(word: &[u8], line: &mut Octets, to: &mut Octets) -> Result<(), Memory>
+    ensures ok { OnOk result (to.new ≡ to.old ++ (word.now ++ 10 ∷ [])) }
+    ensures err { OnErr result (to.new ≡ to.old) }
+{
+    line.clear();
+    line.extend(word)?;
+    line.extend(b"\n".as_slice())?;
+    to.extend(line.as_slice())
+}
+
+/// Adds the number of a worker's actor as a line. After `Memory` nothing was added.
+pub fn print_worker(
+    alloc: Global,
+    by: u64,
+    line: &mut Octets,
+    to: &mut Octets,
+) -> Result<(), Memory>
+    ensures ok { OnOk result (to.new ≡ to.old ++ (codes "worker " ++ (decimal by ++ 10 ∷ []))) }
+    ensures err { OnErr result (to.new ≡ to.old) }
+{
+    line.clear();
+    line.extend(b"worker ".as_slice())?;
+    write_u64(alloc, by, line)?;
+    line.extend(b"\n".as_slice())?;
+    to.extend(line.as_slice())
+}
+
+/// Adds the answer to a worker's command, behind the command, and ends the line.
+pub fn print_answered(alloc: Global, answer: &Answer, line: &mut Octets) -> Result<(), Memory>
+    requires { is_lease_answer answer.now ≡ true }
+    ensures { OnOk result (line.new ≡ line.old ++ (codes " = " ++ (answer_text false answer.now ++ 10 ∷ []))) }
+{
+    line.extend(b" = ".as_slice())?;
+    print_answer(alloc, answer, false, line)?;
+    line.extend(b"\n".as_slice())
 }

@@ -7,4 +7,4 @@ pub returns-in-Err-clause-breaks : goal.returns-in-Err-clause-breaks
 returns-in-Err-clause-breaks g c = breaks c.args.self.now _ c.args.text.now (seen c.in-Some.line) (sym c.in-Some.ensures) c.in-Err.ensures.breaks
 
 pub returns-in-Ok-clause-goes : goal.returns-in-Ok-clause-goes
-returns-in-Ok-clause-goes g c = λ more. takes c.args.self.now _ c.args.text.now (seen c.in-Some.line) c.args.to.now _ (sym c.in-Some.ensures) c.in-Ok.ensures.ran c.in-Ok.ensures.output
+returns-in-Ok-clause-goes g c = λ more. takes c.args.self.now _ c.args.text.now (seen c.in-Some.line) c.args.to.now _ (sym c.in-Some.ensures) c.in-Ok.ensures.goes

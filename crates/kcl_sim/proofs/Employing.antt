@@ -1,0 +1,121 @@
+-- The workers of a run, side by side with their records.
+use Rattle.std.proofs.Common.{◌≡◌, ℕ, zero, suc, ◌+◌, ◌-◌, ◌<◌, Bool, true, false, List, [], ◌∷◌, ◌++◌, length, Option, Some, None, refl, sym, ap, subst, ◌∙◌, arith}
+use Rattle.std.specs.Prelude.{IfSome, get_or, nat_le, nat_lt, if◌then◌else◌, slice_get, slice_set}
+use Rattle.std.specs.List.{AllByRecursion}
+use Rattle.std.proofs.lemmas.Bool.Decides.{nat_tests}
+use Rattle.kds_defs.specs.declared.limits.TheConstants.{MOST_ACTOR}
+use Rattle.kcl_sim.specs.Standing.{EmployAll, Employs, IsFree, Stepped, place_among}
+use Rattle.kcl_sim.specs.Workers.{Employed, employed_by, place_of}
+
+pub employ_length : (ws : List Stepped) (es : List Employed) → EmployAll ws es → length ws ≡ length es
+employ_length [] [] s = refl
+employ_length [] (e ∷ es) s = absurd s
+employ_length (w ∷ ws) [] s = absurd s
+employ_length (w ∷ ws) (e ∷ es) s = ap suc (employ_length ws es s.1)
+
+-- one more
+pub employ_more : (ws : List Stepped) (es : List Employed) (w : Stepped) (e : Employed) → EmployAll ws es → Employs w e → EmployAll (ws ++ w ∷ []) (es ++ e ∷ [])
+employ_more [] [] w e s h = (h, tt)
+employ_more [] (d ∷ es) w e s h = absurd s
+employ_more (v ∷ ws) [] w e s h = absurd s
+employ_more (v ∷ ws) (d ∷ es) w e s h = (s.0, employ_more ws es w e s.1 h)
+
+-- the one at a place
+pub employ_at : (ws : List Stepped) (es : List Employed) (place : ℕ) (w : Stepped) → EmployAll ws es → slice_get ws place ≡ Some w → (e : Employed) × (slice_get es place ≡ Some e) × Employs w e
+employ_at [] [] place w s is = absurd cc
+employ_at [] (e ∷ es) place w s is = absurd s
+employ_at (v ∷ ws) [] place w s is = absurd s
+employ_at (v ∷ ws) (e ∷ es) zero w s is = let same : v ≡ w = cc in (e, refl, subst (λ (u : Stepped). Employs u e) same s.0)
+employ_at (v ∷ ws) (e ∷ es) (suc place) w s is = employ_at ws es place w s.1 is
+
+-- and with another in its place
+pub employ_set : (ws : List Stepped) (es : List Employed) (place : ℕ) (w : Stepped) (e : Employed) → EmployAll ws es → Employs w e → EmployAll (slice_set ws place w) (slice_set es place e)
+employ_set [] [] place w e s h = tt
+employ_set [] (d ∷ es) place w e s h = absurd s
+employ_set (v ∷ ws) [] place w e s h = absurd s
+employ_set (v ∷ ws) (d ∷ es) zero w e s h = (h, s.1)
+employ_set (v ∷ ws) (d ∷ es) (suc place) w e s h = (s.0, employ_set ws es place w e s.1 h)
+
+pub free_set : (ws : List Stepped) (place : ℕ) (w : Stepped) → AllByRecursion IsFree ws → IsFree w → AllByRecursion IsFree (slice_set ws place w)
+free_set [] place w s h = tt
+free_set (v ∷ ws) zero w s h = (h, s.1)
+free_set (v ∷ ws) (suc place) w s h = (s.0, free_set ws place w s.1 h)
+
+-- ---- places
+
+none_past : (n : ℕ) (es : List Employed) → (n < length es → ⊥) → slice_get es n ≡ None
+none_past n [] h = refl
+none_past zero (e ∷ es) h = absurd (h (omega arith))
+none_past (suc n) (e ∷ es) h = none_past n es (λ lt. h (omega (arith, lt)))
+
+not_within : (n m : ℕ) → nat_lt n m ≡ false → n < m → ⊥
+not_within n m h g = grind (arith, nat_tests)
+
+nobody_by : (low within : Bool) (by count : ℕ) (es : List Employed) → count ≡ length es → nat_le by MOST_ACTOR ≡ low → nat_lt (place_of by) count ≡ within
+    → (if low then None else (if within then Some (place_of by) else None)) ≡ None → (if low then None else slice_get es (place_of by)) ≡ None
+nobody_by true within by count es same l w h = refl
+nobody_by false true by count es same l w h = absurd cc
+nobody_by false false by count es same l w h =
+    none_past (place_of by) es (λ lt. not_within (place_of by) count w (subst (λ n. place_of by < n) (sym same) lt))
+
+-- an actor without a place has no worker
+pub nobody : (by count : ℕ) (es : List Employed) → count ≡ length es → place_among by count ≡ None → employed_by by es ≡ None
+nobody by count es same h = nobody_by (nat_le by MOST_ACTOR) (nat_lt (place_of by) count) by count es same refl refl h
+
+somebody_by : (low within : Bool) (by count place : ℕ) (es : List Employed) → nat_le by MOST_ACTOR ≡ low → nat_lt (place_of by) count ≡ within
+    → (if low then None else (if within then Some (place_of by) else None)) ≡ Some place → (place_of by ≡ place) × ((if low then None else slice_get es (place_of by)) ≡ slice_get es place)
+somebody_by true within by count place es l w h = absurd cc
+somebody_by false false by count place es l w h = absurd cc
+somebody_by false true by count place es l w h = let same : place_of by ≡ place = cc in (same, ap (slice_get es) same)
+
+-- and one with a place has the one there
+pub somebody : (by count place : ℕ) (es : List Employed) → place_among by count ≡ Some place → (place_of by ≡ place) × (employed_by by es ≡ slice_get es place)
+somebody by count place es h = somebody_by (nat_le by MOST_ACTOR) (nat_lt (place_of by) count) by count place es refl refl h
+
+-- what stands at a place within
+pub got_there : (ws : List Stepped) (place : ℕ) (d w : Stepped) → place < length ws → w ≡ get_or ws place d → slice_get ws place ≡ Some w
+got_there [] place d w lt is = absurd (omega (arith, lt))
+got_there (v ∷ ws) zero d w lt is = ap Some (sym is)
+got_there (v ∷ ws) (suc place) d w lt is = got_there ws place d w (omega (arith, lt)) is
+
+within_by : (low within : Bool) (by count place : ℕ) → nat_le by MOST_ACTOR ≡ low → nat_lt (place_of by) count ≡ within
+    → (if low then None else (if within then Some (place_of by) else None)) ≡ Some place → place < count
+within_by true within by count place l w h = absurd cc
+within_by false false by count place l w h = absurd cc
+within_by false true by count place l w h =
+    let same : place_of by ≡ place = cc in
+    let lt : place_of by < count = grind (arith, nat_tests) in
+    subst (λ n. n < count) same lt
+
+-- a place lies within
+pub within : (by count place : ℕ) → place_among by count ≡ Some place → place < count
+within by count place h = within_by (nat_le by MOST_ACTOR) (nat_lt (place_of by) count) by count place refl refl h
+
+-- the worker at a place of workers that are all free
+pub free_at : (ws : List Stepped) (place : ℕ) → AllByRecursion IsFree ws → IfSome (slice_get ws place) IsFree
+free_at [] place h = tt
+free_at (v ∷ ws) zero h = h.0
+free_at (v ∷ ws) (suc place) h = free_at ws place h.1
+
+-- what was written at a place stands there
+pub got_set : (ws : List Stepped) (place : ℕ) (w : Stepped) → place < length ws → slice_get (slice_set ws place w) place ≡ Some w
+got_set [] place w lt = absurd (omega (arith, lt))
+got_set (v ∷ ws) zero w lt = refl
+got_set (v ∷ ws) (suc place) w lt = got_set ws place w (omega (arith, lt))
+
+-- and is written over
+pub set_again : (ws : List Stepped) (place : ℕ) (w v : Stepped) → slice_set (slice_set ws place w) place v ≡ slice_set ws place v
+set_again [] place w v = refl
+set_again (u ∷ ws) zero w v = refl
+set_again (u ∷ ws) (suc place) w v = ap (λ us. u ∷ us) (set_again ws place w v)
+
+pub length_set : (ws : List Stepped) (place : ℕ) (w : Stepped) → length (slice_set ws place w) ≡ length ws
+length_set [] place w = refl
+length_set (u ∷ ws) zero w = refl
+length_set (u ∷ ws) (suc place) w = ap suc (length_set ws place w)
+
+-- what a loan of a place gives, where something was written there before
+pub lent_again : (ws : List Stepped) (place : ℕ) (d w u : Stepped) → place < length ws → u ≡ get_or (slice_set ws place w) place d → u ≡ w
+lent_again [] place d w u lt is = absurd (omega (arith, lt))
+lent_again (v ∷ ws) zero d w u lt is = is
+lent_again (v ∷ ws) (suc place) d w u lt is = lent_again ws place d w u (omega (arith, lt)) is

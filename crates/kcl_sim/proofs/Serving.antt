@@ -1,0 +1,298 @@
+-- The workers of a schedule are told of their turns, so that their processors are called for what is given.
+use Rattle.std.proofs.Common.{◌≡◌, ℕ, zero, suc, pred, ◌+◌, ◌-◌, ◌<◌, ◌≤◌, Bool, true, false, List, [], ◌∷◌, ◌++◌, length, Option, Some, None, Result, Ok, Err, refl, sym, ap, subst, ◌∙◌, arith, ◌⊎◌, inl, inr}
+use Rattle.std.specs.Prelude.{◌==◌, if◌then◌else◌, nat_le, option_map, slice_get, slice_set}
+use Rattle.std.specs.List.{AllByRecursion}
+use Rattle.std.proofs.lemmas.Bool.Decides.{nat_tests}
+use Rattle.kds_defs.specs.declared.command.Command.{Command}
+use Rattle.kds_defs.specs.declared.command.Origin.{Origin}
+use Rattle.kds_defs.specs.declared.command.Turn.{Turn}
+use Rattle.kds_defs.specs.declared.limits.TheConstants.{MOST_ACTOR}
+use Rattle.kds_defs.specs.declared.reply.Refusal.{Refusal}
+use Rattle.kds_defs.specs.declared.reply.Reply.{Reply}
+use Rattle.kds_defs.specs.declared.reply.Reply.TheVariants as reply
+use Rattle.kds_defs.specs.Histories.{answer}
+use Rattle.kds_defs.specs.Requests.{request_turn}
+use Rattle.kds_json.specs.declared.problem.Fault.{Fault}
+use Rattle.kds_json.specs.Asked.{asked}
+use Rattle.kcl_defs.specs.declared.consumer.WorkerMade.{WorkerMade}
+use Rattle.kcl_defs.specs.declared.plans.Held.{Held}
+use Rattle.kcl_defs.specs.declared.plans.TakeStep.{TakeStep}
+use Rattle.kcl_defs.specs.Lives.{Deal, deals_of}
+use Rattle.kcl_defs.specs.WorkerLives.{AreServed, IsOrderly, IsToldIn}
+use Rattle.kcl_defs.specs.Workers.{Chore, Consuming, Finishing, Freeing, Got_answer, Gave_command, Known, Made_call, Pending, Renewing, Stopped, Surveying, Syncing, Taking, WorkerPast, WorkerState, absorbed, after_chore, after_renewal, after_survey, after_take, deals_after, is_due_known, is_idle, next_pending, phase_of_known, with_deal, worker_after}
+use Rattle.kcl_proc.specs.declared.stock.Kind.{Kind}
+use Rattle.kcl_script.specs.declared.line.Line.{Line}
+use Rattle.kcl_script.specs.declared.line.Line.TheVariants.{Api, Raw, Step, Stop, Worker}
+use Rattle.kcl_script.specs.Line.{IsLine}
+use Rattle.kcl_sim.specs.Output.{Ran, fresh, raw_turn, requested, with_command, with_line, with_schedule, with_step, with_stop}
+use Rattle.kcl_sim.specs.Serving.{AreAllServed}
+use Rattle.kcl_sim.specs.Workers.{Employed, actor_at, all_called, answered, ask_in, command_at, employed_by, hired, place_of, state_of, stopped, with_calls}
+
+-- the actor's turns are those of the worker's record, and no command of it waits
+record IsTold (h : List Turn) (by : ℕ) (e : Employed) : Type 0 where
+  orderly : IsOrderly e.made e.past
+  told : IsToldIn by h e.made e.past
+  free : (state_of e).waiting ≡ None
+
+-- so of each worker, and those to come made no turn
+record AreTold (ran : Ran) : Type 0 where
+  each : (place : ℕ) (e : Employed) → slice_get ran.workers place ≡ Some e → IsTold ran.history (actor_at place) e
+  later : (place : ℕ) → length ran.workers ≤ place → deals_of (actor_at place) ran.history ≡ []
+
+-- ---- what happens to one
+
+-- calls of processors are no turns
+record Follows (made : WorkerMade) (past later : WorkerPast) : Type 0 where
+  orderly : IsOrderly made later
+  deals : deals_after made later ≡ deals_after made past
+  free : (worker_after made later).waiting ≡ None
+
+either_follows : (b : Bool) (made : WorkerMade) (past p q : WorkerPast) → Follows made past p → Follows made past q → Follows made past (if b then p else q)
+either_follows true made past p q h g = h
+either_follows false made past p q h g = g
+
+calls_follow : (made : WorkerMade) (kind : Kind) (ks : List Known) (past : WorkerPast) → IsOrderly made past → (worker_after made past).waiting ≡ None → Follows made past (with_calls kind ks past)
+calls_follow made kind [] past orderly free = record { orderly = orderly; deals = refl; free = free }
+calls_follow made kind (k ∷ ks) past orderly free =
+    let due = calls_follow made kind ks (Made_call (ask_in kind (phase_of_known k)) ∷ past) (free, orderly) free in
+    either_follows (is_due_known k) made past _ _
+    (record { orderly = due.orderly; deals = due.deals; free = due.free })
+    (calls_follow made kind ks past orderly free)
+
+told_called : (h : List Turn) (by : ℕ) (e : Employed) → IsTold h by e → IsTold h by (all_called e)
+told_called h by e t =
+    let f = calls_follow e.made e.kind (state_of e).consumers e.past t.orderly t.free in
+    record { orderly = f.orderly; told = t.told ∙ sym f.deals; free = f.free }
+
+told_stopped : (h : List Turn) (by : ℕ) (e : Employed) → IsTold h by e → IsTold h by (stopped e)
+told_stopped h by e t = record { orderly = (t.free, t.orderly); told = t.told; free = t.free }
+
+-- ---- its turn
+
+survey_free : (made : WorkerMade) (now : ℕ) (a : Result Reply Refusal) (w : WorkerState) → w.waiting ≡ None → (after_survey made now a w).waiting ≡ None
+survey_free made now (Ok (reply.Survey shards rows)) w h = h
+survey_free made now (Ok _) w h = h
+survey_free made now (Err r) w h = h
+
+take_free : (made : WorkerMade) (now : ℕ) (step : TakeStep) (a : Result Reply Refusal) (w : WorkerState) → w.waiting ≡ None → (after_take made now step a w).waiting ≡ None
+take_free made now step (Ok (reply.Taken tenure counter start)) w h = h
+take_free made now step (Ok _) w h = h
+take_free made now step (Err r) w h = h
+
+renewal_free : (now : ℕ) (held : Held) (a : Result Reply Refusal) (w : WorkerState) → w.waiting ≡ None → (after_renewal now held a w).waiting ≡ None
+renewal_free now held (Ok (reply.Counter counter)) w h = h
+renewal_free now held (Ok _) w h = h
+renewal_free now held (Err r) w h = h
+
+chore_free : (made : WorkerMade) (now : ℕ) (a : Result Reply Refusal) (chore : Chore) (w : WorkerState) → w.waiting ≡ None → (after_chore made now a chore w).waiting ≡ None
+chore_free made now a Surveying w h = survey_free made now a w h
+chore_free made now a (Syncing step syncs takes) w h = h
+chore_free made now a (Taking step takes) w h = take_free made now step a _ h
+chore_free made now a (Renewing held) w h = renewal_free now held a _ h
+chore_free made now a (Consuming id) w h = h
+chore_free made now a (Finishing id) w h = h
+chore_free made now a (Freeing held) w h = h
+
+-- an answer that was waited for leaves none that is
+absorbed_free : (made : WorkerMade) (now : ℕ) (a : Result Reply Refusal) (w : WorkerState) (p : Pending) → w.waiting ≡ Some p → (absorbed made now a w w.waiting).waiting ≡ None
+absorbed_free made now a w p is =
+    ap (λ o. (absorbed made now a w o).waiting) is ∙ chore_free made now a p.chore (record w { waiting = None }) refl
+
+pending_by : (b : Bool) (o : Option Pending) (what : Command) → (if b then None else option_map (λ p. p.what) o) ≡ Some what → (p : Pending) × (o ≡ Some p) × (p.what ≡ what)
+pending_by true o what h = absurd cc
+pending_by false None what h = absurd cc
+pending_by false (Some p) what h = (p, refl, cc)
+
+same_actor : (by : ℕ) → (by == by) ≡ true
+same_actor by = grind (arith, nat_tests)
+
+told_answered : (h : List Turn) (at by : ℕ) (e : Employed) (what : Command) → command_at at e ≡ Some what → IsTold h by e
+    → IsTold (raw_turn at by what ∷ h) by (answered at (answer h (raw_turn at by what)) e)
+told_answered h at by e what next t =
+    let turn = raw_turn at by what in
+    let a = answer h turn in
+    let p = pending_by (is_idle (state_of e)) (next_pending e.made at (state_of e)) what next in
+    let own : deals_of by (turn ∷ h) ≡ record { what = what; answer = a } ∷ deals_of by h =
+    ap (λ b. if b then record { what = what; answer = a } ∷ deals_of by h else deals_of by h) (same_actor by) in
+    let dealt : deals_after e.made (answered at a e).past ≡ record { what = what; answer = a } ∷ deals_after e.made e.past =
+    ap (λ o. with_deal o a (deals_after e.made e.past)) p.1 ∙ ap (λ c. record { what = c; answer = a } ∷ deals_after e.made e.past) p.2 in
+    record {
+      orderly = (tt, (t.free, t.orderly));
+      told = own ∙ ap (λ deals. record { what = what; answer = a } ∷ deals) t.told ∙ sym dealt;
+      free = absorbed_free e.made at a (worker_after e.made (Gave_command at ∷ e.past)) p.0 p.1;
+    }
+
+-- ---- a turn of another
+
+not_by : (b : Bool) (turn : Turn) (a : Result Reply Refusal) (deals : List Deal) → b ≡ false → (if b then record { what = turn.what; answer = a } ∷ deals else deals) ≡ deals
+not_by b turn a deals is = ap (λ c. if c then record { what = turn.what; answer = a } ∷ deals else deals) is
+
+-- leaves his deals
+of_another : (by : ℕ) (turn : Turn) (h : List Turn) → (turn.by == by) ≡ false → deals_of by (turn ∷ h) ≡ deals_of by h
+of_another by turn h other = not_by (turn.by == by) turn (answer h turn) (deals_of by h) other
+
+told_on : (by : ℕ) (turn : Turn) (h : List Turn) (e : Employed) → (turn.by == by) ≡ false → IsTold h by e → IsTold (turn ∷ h) by e
+told_on by turn h e other t = record { orderly = t.orderly; told = of_another by turn h other ∙ t.told; free = t.free }
+
+below : (by place : ℕ) → by ≤ MOST_ACTOR → (by == actor_at place) ≡ false
+below by place low = grind (arith, nat_tests)
+
+apart : (p q : ℕ) → (p ≡ q → ⊥) → (actor_at p == actor_at q) ≡ false
+apart p q h = by_test (actor_at p == actor_at q) refl
+  where
+    by_test : (b : Bool) → (actor_at p == actor_at q) ≡ b → (actor_at p == actor_at q) ≡ false
+    by_test false is = is
+    by_test true is = absurd (h (grind (arith, nat_tests)))
+
+-- a turn of no worker
+outer : (ran : Ran) (turn : Turn) → turn.by ≤ MOST_ACTOR → AreTold ran → AreTold (record ran { history = turn ∷ ran.history })
+outer ran turn low t = record {
+  each = λ place e is. told_on (actor_at place) turn ran.history e (below turn.by place low) (t.each place e is);
+  later = λ place past. of_another (actor_at place) turn ran.history (below turn.by place low) ∙ t.later place past;
+}
+
+-- ---- one of them changes
+
+length_with : (es : List Employed) (place : ℕ) (e : Employed) → length (slice_set es place e) ≡ length es
+length_with [] place e = refl
+length_with (d ∷ es) zero e = refl
+length_with (d ∷ es) (suc place) e = ap suc (length_with es place e)
+
+within : (es : List Employed) (place : ℕ) (e : Employed) → slice_get es place ≡ Some e → place < length es
+within [] place e is = absurd cc
+within (d ∷ es) zero e is = omega arith
+within (d ∷ es) (suc place) e is = omega (arith, within es place e is)
+
+-- what stands at a place then
+got_with : (es : List Employed) (p q : ℕ) (x e : Employed) → slice_get (slice_set es p x) q ≡ Some e → ((p ≡ q) × (x ≡ e)) ⊎ ((p ≡ q → ⊥) × (slice_get es q ≡ Some e))
+got_with [] p q x e is = absurd cc
+got_with (d ∷ es) zero zero x e is = inl (refl, cc)
+got_with (d ∷ es) zero (suc q) x e is = inr ((λ h. absurd cc), is)
+got_with (d ∷ es) (suc p) zero x e is = inr ((λ h. absurd cc), is)
+got_with (d ∷ es) (suc p) (suc q) x e is = on (got_with es p q x e is)
+  where
+    on : ((p ≡ q) × (x ≡ e)) ⊎ ((p ≡ q → ⊥) × (slice_get es q ≡ Some e)) → ((suc p ≡ suc q) × (x ≡ e)) ⊎ ((suc p ≡ suc q → ⊥) × (slice_get es q ≡ Some e))
+    on (inl h) = inl (ap suc h.0, h.1)
+    on (inr h) = inr ((λ same. h.0 (ap pred same)), h.1)
+
+-- what holds of the one that changed, and of the others still
+changed : (h : List Turn) (es : List Employed) (p : ℕ) (x : Employed) → IsTold h (actor_at p) x → ((q : ℕ) (e : Employed) → (p ≡ q → ⊥) → slice_get es q ≡ Some e → IsTold h (actor_at q) e)
+    → (place : ℕ) (e : Employed) → slice_get (slice_set es p x) place ≡ Some e → IsTold h (actor_at place) e
+changed h es p x own others place e is = on (got_with es p place x e is)
+  where
+    on : ((p ≡ place) × (x ≡ e)) ⊎ ((p ≡ place → ⊥) × (slice_get es place ≡ Some e)) → IsTold h (actor_at place) e
+    on (inl same) = subst (IsTold h (actor_at place)) same.1 (subst (λ n. IsTold h (actor_at n) x) same.0 own)
+    on (inr other) = others place e other.0 other.1
+
+-- its record alone
+kept : (ran : Ran) (p : ℕ) (x : Employed) → AreTold ran → IsTold ran.history (actor_at p) x → AreTold (record ran { workers = slice_set ran.workers p x })
+kept ran p x t own = record {
+  each = changed ran.history ran.workers p x own (λ q e other is. t.each q e is);
+  later = λ place past. t.later place (omega (arith, past, length_with ran.workers p x));
+}
+
+-- and its turn ran
+turned : (ran : Ran) (turn : Turn) (p : ℕ) (x : Employed) → turn.by ≡ actor_at p → p < length ran.workers → AreTold ran → IsTold (turn ∷ ran.history) (actor_at p) x
+    → AreTold (record { history = turn ∷ ran.history; workers = slice_set ran.workers p x })
+turned ran turn p x by lt t own = record {
+  each = changed (turn ∷ ran.history) ran.workers p x own (λ q e other is. told_on (actor_at q) turn ran.history e (differs q other) (t.each q e is));
+  later = λ place past.
+      let beyond : length ran.workers ≤ place = omega (arith, past, length_with ran.workers p x) in
+      of_another (actor_at place) turn ran.history (differs place (λ same. absurd (omega (arith, same, lt, beyond)))) ∙ t.later place beyond;
+}
+  where
+    differs : (q : ℕ) → (p ≡ q → ⊥) → (turn.by == actor_at q) ≡ false
+    differs q other = ap (λ n. n == actor_at q) by ∙ apart p q other
+
+-- ---- lines
+
+-- the worker of an actor stands at his place
+placed_by : (low : Bool) (by : ℕ) (es : List Employed) (e : Employed) → nat_le by MOST_ACTOR ≡ low → (if low then None else slice_get es (place_of by)) ≡ Some e
+    → (by ≡ actor_at (place_of by)) × (slice_get es (place_of by) ≡ Some e)
+placed_by true by es e l is = absurd cc
+placed_by false by es e l is = (high by l, is)
+  where
+    high : (n : ℕ) → nat_le n MOST_ACTOR ≡ false → n ≡ actor_at (place_of n)
+    high n h = grind (arith, nat_tests)
+
+placed : (by : ℕ) (es : List Employed) (e : Employed) → employed_by by es ≡ Some e → (by ≡ actor_at (place_of by)) × (slice_get es (place_of by) ≡ Some e)
+placed by es e is = placed_by (nat_le by MOST_ACTOR) by es e refl is
+
+command_told : (ran : Ran) (at by : ℕ) (e : Employed) (o : Option Command) → command_at at e ≡ o → by ≡ actor_at (place_of by) → place_of by < length ran.workers → AreTold ran
+    → IsTold ran.history by e → AreTold (with_command ran at by e o)
+command_told ran at by e None next own lt t told = kept ran (place_of by) e t (subst (λ n. IsTold ran.history n e) own told)
+command_told ran at by e (Some what) next own lt t told =
+    let turn = raw_turn at by what in
+    turned ran turn (place_of by) (answered at (answer ran.history turn) e) own lt t
+    (subst (λ n. IsTold (turn ∷ ran.history) n (answered at (answer ran.history turn) e)) own (told_answered ran.history at by e what next told))
+
+step_told : (ran : Ran) (at by : ℕ) (o : Option Employed) → employed_by by ran.workers ≡ o → AreTold ran → AreTold (with_step ran at by o)
+step_told ran at by None is t = t
+step_told ran at by (Some e) is t =
+    let p = placed by ran.workers e is in
+    let told = subst (λ n. IsTold ran.history n e) (sym p.0) (t.each (place_of by) e p.1) in
+    command_told ran at by (all_called e) (command_at at (all_called e)) refl p.0 (within ran.workers (place_of by) e p.1) t (told_called ran.history by e told)
+
+stop_told : (ran : Ran) (by : ℕ) (o : Option Employed) → employed_by by ran.workers ≡ o → AreTold ran → AreTold (with_stop ran by o)
+stop_told ran by None is t = t
+stop_told ran by (Some e) is t =
+    let p = placed by ran.workers e is in
+    kept ran (place_of by) (stopped e) t (told_stopped ran.history (actor_at (place_of by)) e (t.each (place_of by) e p.1))
+
+-- what stands at a place with one more
+got_more : (es : List Employed) (x : Employed) (q : ℕ) (e : Employed) → slice_get (es ++ x ∷ []) q ≡ Some e → ((q ≡ length es) × (x ≡ e)) ⊎ (slice_get es q ≡ Some e)
+got_more [] x zero e is = inl (refl, cc)
+got_more [] x (suc q) e is = absurd cc
+got_more (d ∷ es) x zero e is = inr is
+got_more (d ∷ es) x (suc q) e is = on (got_more es x q e is)
+  where
+    on : ((q ≡ length es) × (x ≡ e)) ⊎ (slice_get es q ≡ Some e) → ((suc q ≡ suc (length es)) × (x ≡ e)) ⊎ (slice_get es q ≡ Some e)
+    on (inl h) = inl (ap suc h.0, h.1)
+    on (inr h) = inr h
+
+length_more : (es : List Employed) (x : Employed) → length (es ++ x ∷ []) ≡ length es + 1
+length_more [] x = refl
+length_more (d ∷ es) x = ap suc (length_more es x) ∙ omega arith
+
+-- a new worker made no turn
+hired_told : (ran : Ran) (name : ℕ) (kind : Kind) (from : Origin) → AreTold ran → AreTold (record ran { workers = ran.workers ++ hired name kind from ∷ [] })
+hired_told ran name kind from t = record {
+  each = λ place e is. on place e (got_more ran.workers (hired name kind from) place e is);
+  later = λ place past. t.later place (omega (arith, past, length_more ran.workers (hired name kind from)));
+}
+  where
+    none : (place : ℕ) → place ≡ length ran.workers → IsTold ran.history (actor_at place) (hired name kind from)
+    none place is = record { orderly = tt; told = t.later place (omega (arith, is)); free = refl }
+
+    on : (place : ℕ) (e : Employed) → ((place ≡ length ran.workers) × (hired name kind from ≡ e)) ⊎ (slice_get ran.workers place ≡ Some e) → IsTold ran.history (actor_at place) e
+    on place e (inl h) = subst (IsTold ran.history (actor_at place)) h.1 (none place h.0)
+    on place e (inr h) = t.each place e h
+
+request_told : (ran : Ran) (at : ℕ) (r : Result Command Fault) → AreTold ran → AreTold (record ran { history = requested ran.history at r })
+request_told ran at (Ok what) t = outer ran (request_turn at what) (omega arith) t
+request_told ran at (Err f) t = t
+
+line_told : (ran : Ran) (l : Line) → IsLine l → AreTold ran → AreTold (with_line ran l)
+line_told ran (Api at operation body) is t = request_told ran at (asked operation body) t
+line_told ran (Raw at by what long) is t = outer ran (raw_turn at by what) is.1.0.1 t
+line_told ran (Worker at name kind from) is t = hired_told ran name kind from t
+line_told ran (Step at by) is t = step_told ran at by (employed_by by ran.workers) refl t
+line_told ran (Stop at by) is t = stop_told ran by (employed_by by ran.workers) refl t
+
+schedule_told : (ran : Ran) (ls : List Line) → AllByRecursion IsLine ls → AreTold ran → AreTold (with_schedule ran ls)
+schedule_told ran [] are t = t
+schedule_told ran (l ∷ ls) are t = schedule_told (with_line ran l) ls are.1 (line_told ran l are.0 t)
+
+-- what is known of one worker
+abbrev pub Serves : Type 0
+Serves = (by : ℕ) (h : List Turn) (made : WorkerMade) (past : WorkerPast) → IsOrderly made past → IsToldIn by h made past → AreServed by h made past
+
+-- holds of all of a schedule
+pub all_served : Serves → (ls : List Line) → AllByRecursion IsLine ls → AreAllServed (with_schedule fresh ls)
+all_served serves ls are =
+    let none : AreTold fresh = record { each = λ place e is. absurd (nothing place e is); later = λ place past. refl } in
+    let t = schedule_told fresh ls are none in
+    λ place e is. serves (actor_at place) (with_schedule fresh ls).history e.made e.past (t.each place e is).orderly (t.each place e is).told
+  where
+    nothing : (place : ℕ) (e : Employed) → slice_get fresh.workers place ≡ Some e → ⊥
+    nothing place e is = absurd cc

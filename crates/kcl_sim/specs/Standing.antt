@@ -1,0 +1,115 @@
+-- A run as callers see it, and what it stands for.
+use Rattle.std.specs.Prelude.{◌≡◌, ◌⊎◌, ℕ, nat_le, nat_lt, if◌then◌else◌, List, [], ◌∷◌, ◌++◌, length, slice_get, slice_set, Bool, false, Option, Some, None, IfSome}
+use Rattle.std.specs.List.{AllByRecursion}
+use Rattle.kds_defs.specs.declared.command.Turn.{Turn}
+use Rattle.kds_defs.specs.declared.reply.Stored.{Stored}
+use Rattle.kcl_proc.specs.declared.stock.Kind.{Kind}
+use Rattle.kcl_proc.specs.declared.stock.Stock.{Stock}
+use Rattle.kcl_proc.specs.Stocks.{StandsFor as Calls, asked_of}
+use Rattle.kcl_worker.specs.Standing.{StandsFor, WorkerStanding}
+use Rattle.kds_defs.specs.declared.limits.TheConstants.{MOST_ACTOR}
+use Rattle.kcl_defs.specs.Workers.{Gave_command}
+use Rattle.kcl_script.specs.declared.line.Line.{Line}
+use Rattle.kds_defs.specs.declared.command.Command.{Command}
+use Rattle.kds_defs.specs.Histories.{answer}
+use Rattle.kcl_sim.specs.Output.{Ran, command_output, output_of, raw_turn, with_line}
+use Rattle.kcl_sim.specs.Workers.{Employed, all_called, answered, command_at, place_of}
+
+-- a worker whose processors are of the kinds in stock
+abbrev pub Stepped : Type 0
+Stepped = WorkerStanding Stock Kind
+
+-- the turns that ran, the newest first, the workers, and whether memory ran out in a step of one
+pub record SimValue : Type 0 where
+  pub history : List Turn
+  pub workers : List Stepped
+  pub over : Bool
+
+abbrev pub turned : SimValue → Turn → SimValue
+turned s turn = record s { history = turn ∷ s.history }
+
+-- no command of it waits for its answer
+abbrev pub IsFree : Stepped → Type 0
+IsFree w = w.waiting ≡ None
+
+-- the worker is that of this record
+pub record Employs (w : Stepped) (e : Employed) : Type 0 where
+  pub made : w.made ≡ e.made
+  pub kind : (batch : List Stored) → asked_of w.maker batch ≡ asked_of e.kind batch
+  pub stands : StandsFor Calls w e.past
+
+-- each of them is that of its own
+abbrev pub EmployAll : List Stepped → List Employed → Type 0
+EmployAll [] [] = Unit {0}
+EmployAll (w ∷ ws) (e ∷ es) = Employs w e × EmployAll ws es
+EmployAll [] (e ∷ es) = ⊥
+EmployAll (w ∷ ws) [] = ⊥
+
+-- the turns are those of the run, and so are the workers, unless memory ran out in a step
+pub record RunsSo (s : SimValue) (ran : Ran) : Type 0 where
+  pub history : s.history ≡ ran.history
+  pub workers : s.over ≡ false → EmployAll s.workers ran.workers
+
+-- ---- what a line does
+
+-- the line was run after this run: its output was added, and the run is that with the line
+pub record GoesOn (s : SimValue) (ran : Ran) (line : Line) (before after : List ℕ) : Type 0 where
+  pub made : RunsSo s (with_line ran line)
+  pub wrote : after ≡ before ++ output_of ran line
+
+-- memory ran out: the line was run or not
+abbrev pub MayHaveRun : SimValue → Ran → Line → Type 0
+MayHaveRun s ran line = RunsSo s ran ⊎ RunsSo s (with_line ran line)
+
+-- ---- steps
+
+-- the place of an actor's worker, among so many
+abbrev pub place_among : ℕ → ℕ → Option ℕ
+place_among by count = if nat_le by MOST_ACTOR then None else (if nat_lt (place_of by) count then Some (place_of by) else None)
+
+-- the worker of this record was asked for a command at this moment, and waits for the answer
+pub record HasAsked (at : ℕ) (w : Stepped) (e : Employed) : Type 0 where
+  pub made : w.made ≡ e.made
+  pub kind : (batch : List Stored) → asked_of w.maker batch ≡ asked_of e.kind batch
+  pub stands : StandsFor Calls w (Gave_command at ∷ e.past)
+
+-- the worker that was asked for this command at this moment, after this history, took its answer
+abbrev pub TookAnswer : ℕ → ℕ → Command → List Turn → Stepped → Stepped → Type 0
+TookAnswer at by what h w v = IsFree v × ((e : Employed) → HasAsked at w e → Employs v (answered at (answer h (raw_turn at by what)) e))
+
+-- the worker at a place became another, which has this to do with it
+pub record ChangedAt (place : ℕ) (R : Stepped → Stepped → Type 0) (old new : List Stepped) : Type 0 where
+  pub was : Stepped
+  pub stood : slice_get old place ≡ Some was
+  pub is : Stepped
+  pub stands : new ≡ slice_set old place is
+  pub related : R was is
+
+-- the history after a step that gave this command, or none
+abbrev pub history_after : List Turn → ℕ → ℕ → Option Command → List Turn
+history_after h at by None = h
+history_after h at by (Some what) = raw_turn at by what ∷ h
+
+-- and its worker
+abbrev pub employed_after : List Turn → ℕ → ℕ → Option Command → Employed → Employed
+employed_after h at by None e = all_called e
+employed_after h at by (Some what) e = answered at (answer h (raw_turn at by what)) (all_called e)
+
+-- all calls that were due were made, this command came next, or none, and its answer was taken
+abbrev pub MadeStep : ℕ → ℕ → Option Command → List Turn → Stepped → Stepped → Type 0
+MadeStep at by what h w v = IsFree v × ((e : Employed) → Employs w e → (command_at at (all_called e) ≡ what) × Employs v (employed_after h at by what e))
+
+-- a step of the worker at a place, which gave the command that comes next, where one does
+pub record StepsAt (at by place : ℕ) (old new : SimValue) (before after : List ℕ) : Type 0 where
+  pub what : Option Command
+  pub history : new.history ≡ history_after old.history at by what
+  pub workers : ChangedAt place (MadeStep at by what old.history) old.workers new.workers
+  pub wrote : after ≡ before ++ command_output old.history at by what
+
+-- memory ran out after its turn ran
+pub record TurnRan (at by place : ℕ) (old new : SimValue) : Type 0 where
+  pub was : Stepped
+  pub stood : slice_get old.workers place ≡ Some was
+  pub what : Command
+  pub next : (e : Employed) → Employs was e → command_at at (all_called e) ≡ Some what
+  pub history : new.history ≡ (raw_turn at by what ∷ old.history)
