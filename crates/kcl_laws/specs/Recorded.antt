@@ -1,5 +1,9 @@
 -- The records of a shard, and how far a checkpoint may lie among them.
-use Rattle.std.specs.Prelude.{ℕ, ◌+◌, ◌≡◌, ◌≤◌, ◌⊎◌, List, [], ◌∷◌, length}
+use Rattle.std.specs.Prelude.{ℕ, ◌+◌, ◌≡◌, ◌≤◌, ◌⊎◌, List, [], ◌∷◌, length, Some}
+use Rattle.kds_base.specs.declared.lease_key.ShardRef.{ShardRef}
+use Rattle.kds_defs.specs.declared.command.Origin.TheVariants.{TrimHorizon}
+use Rattle.kds_defs.specs.declared.reply.Row.{Row}
+use Rattle.kds_defs.specs.Leases.{origin_of, row}
 use Rattle.kds_defs.specs.declared.limits.TheConstants.{BATCH_BYTES}
 use Rattle.kds_defs.specs.Journal.{Journal}
 use Rattle.kds_defs.specs.Records.{Logged, records, next_number}
@@ -22,3 +26,7 @@ IsSized r = (r.bytes ≡ length r.payload + length r.key) × (r.bytes ≤ BATCH_
 abbrev pub HasFrom : ℕ → List Logged → Type 0
 HasFrom q [] = ⊥
 HasFrom q (r ∷ rs) = (q ≤ r.seq) ⊎ HasFrom q rs
+
+-- the row of the key, which begins at the trim horizon
+abbrev pub IsFromHorizon : Journal → ShardRef → Row → Type 0
+IsFromHorizon log key r = (row log key ≡ Some r) × (origin_of log key ≡ Some TrimHorizon)

@@ -6,13 +6,12 @@ ghost use Rattle.std.specs.List.{AllByRecursion};
 ghost use Rattle.kcl_laws.specs.Acting.{acting, row_tenure, ActsBy, HasLost};
 ghost use Rattle.kcl_laws.specs.Deliveries.{AreReadOn, AreWhole};
 ghost use Rattle.kcl_laws.specs.Makings.{times_made};
-ghost use Rattle.kcl_laws.specs.Recorded.{AreDrawn, HasFrom, IsSized};
+ghost use Rattle.kcl_laws.specs.Recorded.{AreDrawn, HasFrom, IsFromHorizon, IsSized};
 ghost use Rattle.kcl_laws.specs.RowLines.{Making, IsToldRow, last_bound, making};
 ghost use Rattle.kcl_laws.specs.ShownLines.{shown_journal};
 ghost use Rattle.kcl_laws.specs.TenureLines.{IsToldTenure, Told, taking};
 ghost use Rattle.kds_base.specs.declared.lease_key.Checkpoint.TheVariants.{At};
 ghost use Rattle.kds_base.specs.declared.lease_key.ShardRef.{ShardRef};
-ghost use Rattle.kds_defs.specs.declared.command.Origin.TheVariants.{TrimHorizon};
 ghost use Rattle.kds_defs.specs.declared.command.Turn.{Turn};
 ghost use Rattle.kds_defs.specs.declared.reply.Refusal.{Refusal};
 ghost use Rattle.kds_defs.specs.declared.reply.Refusal.TheVariants as refusal;
@@ -20,7 +19,7 @@ ghost use Rattle.kds_defs.specs.declared.reply.Row.{Row};
 ghost use Rattle.kds_defs.specs.Histories.{journal, clock, answer};
 ghost use Rattle.kds_defs.specs.Journal.{Line, Journal};
 ghost use Rattle.kds_defs.specs.Lawful.{IsHistory};
-ghost use Rattle.kds_defs.specs.Leases.{TenureState, origin_of, row, tenure};
+ghost use Rattle.kds_defs.specs.Leases.{TenureState, row, tenure};
 ghost use Rattle.kds_defs.specs.Legal.{IsGood, IsLegal, IsReached};
 ghost use Rattle.kds_defs.specs.Records.{next_number, records};
 ghost use Rattle.kds_defs.specs.Safe.{HasPartitions, ArePlaced, AreCovered, AreInLine, HoldsRow, AreFenced, IsSafe};
@@ -124,10 +123,10 @@ pub fn shard_records()
 /// A row from the trim horizon has its shard's starting number as its floor, and where its checkpoint is a number,
 /// a record of its shard has that number or a greater one.
 pub fn checkpoints()
-    ensures floor { (h : List Turn) → IsHistory h → (key : ShardRef) (r : Row) → row (journal h) key ≡ Some r
-        → origin_of (journal h) key ≡ Some TrimHorizon → r.floor ≡ start_of (shard_at (journal h) key.stream key.shard) }
-    ensures reached { (h : List Turn) → IsHistory h → (key : ShardRef) (r : Row) (q : ℕ) → row (journal h) key ≡ Some r
-        → origin_of (journal h) key ≡ Some TrimHorizon → r.checkpoint ≡ At q → HasFrom q (records (journal h) key.stream key.shard) }
+    ensures floor { (h : List Turn) → IsHistory h → (key : ShardRef) (r : Row) → IsFromHorizon (journal h) key r
+        → r.floor ≡ start_of (shard_at (journal h) key.stream key.shard) }
+    ensures reached { (h : List Turn) → IsHistory h → (key : ShardRef) (r : Row) (q : ℕ) → IsFromHorizon (journal h) key r
+        → r.checkpoint ≡ At q → HasFrom q (records (journal h) key.stream key.shard) }
 {}
 
 /// What the text of a journal doesn't show, the bytes of keys and of payloads, decides nothing: where a journal is legal
