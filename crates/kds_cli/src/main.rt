@@ -1,14 +1,11 @@
-//! The program: its words, its runs, and the real ends.
+//! The program: its runs over the real ends.
 #![tactic(auto)]
 
-mod errors;
-mod runs;
-mod schedule;
 #[cfg(test)]
 mod tests;
-mod words;
 
 use kds_ends::{StdSink, StdSource, SystemClock, TcpDoor};
+use kds_runs::run;
 use std::env;
 use std::process::ExitCode;
 
@@ -33,7 +30,7 @@ fn main(rt: HostRuntime) -> ExitCode {
     let mut err = StdSink::new(rt.stderr());
     let clock = SystemClock::new(rt);
     let mut door = TcpDoor::new(rt);
-    ExitCode::from(runs::run(
+    ExitCode::from(run(
         &rt,
         rt.alloc(),
         &words,

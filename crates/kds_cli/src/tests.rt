@@ -6,10 +6,11 @@ mod faults;
 mod leases;
 mod schedules;
 mod streams;
+mod workers;
 
-use crate::runs::run;
 use kds_base::{Items, Moment, Octets};
 use kds_ends::{MemClock, MemDoor, MemSink, MemSource};
+use kds_runs::run;
 use std::alloc::Global;
 use std::sync::Wait;
 use std::test::Fail;

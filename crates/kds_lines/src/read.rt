@@ -84,6 +84,7 @@ pub fn read_lines<T: Taker, S: Source, K: Sink>(
         Told result (T.took taker.new) T.refuses T.output bytes (S.left input.new) (K.held out.old) (K.held out.new)) }
     ensures read { result ≡ Outcome.Read → Rose (S.faults input.old) (S.faults input.new) }
     ensures write { result ≡ Outcome.Write → Rose (K.faults out.old) (K.faults out.new) }
+    ensures later { K.faults out.old ≤ K.faults out.new }
 {
     let mut room = [0u8; PIECE_BYTES];
     let mut reading = Reading::new(alloc);

@@ -1,8 +1,8 @@
 //! Connections, and what is written to each.
-use crate::runs::run;
 use crate::tests::run_on;
 use kds_base::{Items, Octets};
 use kds_ends::{Clock, MemDoor, MemSink, MemSource, SystemClock};
+use kds_runs::run;
 use std::alloc::Global;
 use std::sync::Wait;
 use std::test::Fail;

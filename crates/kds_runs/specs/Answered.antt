@@ -1,0 +1,53 @@
+-- Which lines of a schedule were answered where a run of it ended so.
+use Rattle.std.specs.Prelude.{◌≡◌, ℕ, List, [], ◌++◌}
+use Rattle.std.specs.declared.option.Option.{Option}
+use Rattle.std.specs.Io.KnownBytes.{Appends}
+use Rattle.kds_defs.specs.Histories.{journal, clock}
+use Rattle.kds_defs.specs.Safe.{IsSafe}
+use Rattle.kds_ends.specs.declared.status.Status.{Status}
+use Rattle.kds_ends.specs.declared.status.Status.TheVariants.{Done, BadLine, Read, Write, Memory, TooLong}
+use Rattle.kds_lines.specs.declared.outcome.Outcome.{Outcome}
+use Rattle.kds_lines.specs.declared.outcome.Outcome.TheVariants as outcome
+use Rattle.kcl_script.specs.declared.line.Line.{Line}
+use Rattle.kcl_sim.specs.Output.{fresh, with_schedule, outputs}
+use Rattle.kcl_sim.specs.Schedule.{judged}
+use Rattle.kcl_sim.specs.Serving.{AreAllServed}
+use Rattle.kcl_sim.specs.Standing.{RunsSo, SimValue}
+
+-- the end of a run by that of the reading of its input
+abbrev pub status_of : Outcome → Status
+status_of outcome.Whole = Done
+status_of (outcome.Unfinished n) = BadLine n
+status_of (outcome.Stopped n) = BadLine n
+status_of outcome.TooLong = TooLong
+status_of outcome.Read = Read
+status_of outcome.Write = Write
+status_of outcome.Memory = Memory
+
+-- What is left of the lines and of the output of those that were answered: nothing where the bytes decide the end.
+-- After a read fault all that was answered was written.
+abbrev pub Remains : Status → List Line → List ℕ → Type 0
+Remains Write later back = Unit {0}
+Remains Memory later back = Unit {0}
+Remains Read later back = back ≡ []
+Remains s later back = (later ≡ []) × (back ≡ [])
+
+-- The first lines of the schedule were answered, before the first that decides: their turns ran, the workers are theirs,
+-- and a front of their output was written.
+pub record RanSo (status : Status) (bytes : List ℕ) (before after : Option (List ℕ)) (s : SimValue) : Type 0 where
+  pub lines : List Line
+  pub later : List Line
+  pub parts : (judged bytes).lines ≡ lines ++ later
+  pub made : RunsSo s (with_schedule fresh lines)
+  pub front : List ℕ
+  pub back : List ℕ
+  pub output : outputs fresh lines ≡ front ++ back
+  pub written : Appends before after front
+  pub remains : Remains status later back
+
+-- and the state of these turns is safe, at their clock, and the processors of these workers were called for what is given
+pub record RanSafely (status : Status) (bytes : List ℕ) (before after : Option (List ℕ)) : Type 0 where
+  pub sim : SimValue
+  pub so : RanSo status bytes before after sim
+  pub safe : IsSafe (journal sim.history) (clock sim.history)
+  pub served : AreAllServed (with_schedule fresh so.lines)

@@ -1,0 +1,225 @@
+//! The runs of the program.
+ghost use Rattle.std.specs.Prelude.{◌≡◌, ◌≤◌, ◌↔◌, [], None, Some, List, ℕ, IfSome};
+ghost use Rattle.kds_defs.specs.declared.command.Turn.{Turn};
+ghost use Rattle.kds_defs.specs.Histories.{clock as clock_of, journal};
+ghost use Rattle.kds_defs.specs.Lawful.{IsHistory};
+ghost use Rattle.kds_defs.specs.Safe.{IsSafe};
+ghost use Rattle.kds_ends.specs.Causes.{Rose};
+ghost use Rattle.kcl_sim.specs.Schedule.{history, ran};
+ghost use Rattle.kcl_sim.specs.Serving.{AreAllServed};
+ghost use Rattle.kds_server.specs.Texts.{IsAnswerStatus, IsCrewStatus};
+ghost use Rattle.kds_server.specs.Serving.{Served};
+ghost use Rattle.kds_runs.specs.Answered.{RanSafely};
+ghost use Rattle.kds_runs.specs.Told.{Tells, IsReplayStatus, Answers, ServeTells, EndsSo};
+ghost use Rattle.kds_runs.specs.Words.{task_of, texts_of};
+
+use crate::errors::tell;
+use crate::schedule::run_schedule;
+use crate::words::{Task, find_task};
+use kcl_laws::step;
+use kcl_sim::{lawful, served};
+use kcl_world::World;
+use kds_ends::{Clock, Door, Sink, Source, Status, write_all};
+use kds_server::{crew, serve_lone};
+use kds_turn::Hall;
+use std::alloc::Global;
+use std::sync::{Mutex, Wait};
+use std::thread::Threads;
+
+/// The state of every lawful history is safe, at its clock.
+fn safety()
+    ensures { (h : List Turn) → IsHistory h → IsSafe (journal h) (clock_of h) }
+{
+    step();
+}
+
+/// Runs a schedule from its bytes, and writes its output. Done: it was read to its end. BadLine: exactly at
+/// the first line that is none. TooLong: exactly where a line or the input is longer than the limits; these three
+/// unless an end failed or memory ran out before. Read, Write: the source or the sink failed. Memory: want of memory.
+pub fn run_replay<S: Source, K: Sink>(alloc: Global, input: &mut S, out: &mut K) -> Status
+    // Over a source that tells its bytes, the output of the schedule and its end are these.
+    ensures told { IfSome (S.left input.old) (λ bytes.
+        Tells result bytes (S.left input.new) (K.held out.old) (K.held out.new)) }
+
+    // The turns that ran are those of the schedule's lines that were answered, their state is safe, at their clock, and
+    // their workers' processors were called for what is given.
+    ensures ran { IfSome (S.left input.old) (λ bytes. RanSafely result bytes (K.held out.old) (K.held out.new)) }
+
+    // So it is of all of the schedule's turns and workers.
+    ensures safe { IfSome (S.left input.old) (λ bytes. IsSafe (journal (history bytes)) (clock_of (history bytes))) }
+    ensures served { IfSome (S.left input.old) (λ bytes. AreAllServed (ran bytes)) }
+    ensures read { result ≡ Status.Read → Rose (S.faults input.old) (S.faults input.new) }
+    ensures write { result ≡ Status.Write → Rose (K.faults out.old) (K.faults out.new) }
+    ensures kinds { IsReplayStatus result }
+{
+    lawful();
+    safety();
+    served();
+    run_schedule(alloc, World::new(alloc), input, out).status
+}
+
+/// Serves one connection from its bytes, on a machine without turns, and writes the responses. Done: the bytes ended
+/// at the boundary of two requests, or after one that closes the connection. Cut: exactly where they ended inside a
+/// request. Refused: exactly where a head was refused. Read, Write: the source or the sink failed. Memory: want of
+/// memory.
+pub fn run_answer<S: Source, K: Sink, C: Clock>(
+    alloc: Global,
+    input: &mut S,
+    out: &mut K,
+    clock: &mut C,
+) -> Status
+    // The turns are those of the commands, each at its moment from the clock. Over a source that tells its bytes, the
+    // commands, the responses and the end are those of these bytes.
+    ensures served { Served [] (S.left input.old) (S.left input.new) (C.moments clock.old) (C.moments clock.new) (K.held out.old) (K.held out.new) result }
+    ensures read { result ≡ Status.Read → Rose (S.faults input.old) (S.faults input.new) }
+    ensures write { result ≡ Status.Write → Rose (K.faults out.old) (K.faults out.new) }
+    ensures kinds { IsAnswerStatus result }
+{
+    let mut machine = World::new(alloc);
+    serve_lone(alloc, &mut machine, input, out, clock)
+}
+
+/// Serves the connections of a door on a machine without turns, by so many passes, each in a thread of its own.
+fn serve_door<R, C, D>(rt: &R, alloc: Global, passes: u32, clock: C, door: &mut D) -> Status
+where
+    R: Threads + Wait + Sync,
+    C: Clock + Send + Drop,
+    D: Door,
+    D::Input: Send,
+    D::Output: Send,
+    requires { 1 ≤ passes }
+    ensures door { result ≡ Status.Door → Rose (D.faults door.old) (D.faults door.new) }
+    ensures kinds { IsCrewStatus result }
+{
+    let clock = Mutex::new(clock);
+    match Hall::new(alloc, World::new(alloc), passes) {
+        Ok((hall, passes)) => crew(rt, alloc, &hall, passes, door, &clock),
+        Err(_) => Status::Memory,
+    }
+}
+
+/// Listens at a port, says so, and serves the connections that come. Door: the door failed. Write: the sink failed.
+/// Memory: want of memory.
+fn run_serve<R, K, C, D>(
+    rt: &R,
+    alloc: Global,
+    port: u16,
+    passes: u32,
+    out: &mut K,
+    clock: C,
+    door: &mut D,
+) -> Status
+where
+    R: Threads + Wait + Sync,
+    K: Sink,
+    C: Clock + Send + Drop,
+    D: Door,
+    D::Input: Send,
+    D::Output: Send,
+    requires { 1 ≤ passes }
+    ensures told { ServeTells result (K.held out.old) (K.held out.new) }
+    ensures write { result ≡ Status.Write → Rose (K.faults out.old) (K.faults out.new) }
+    ensures door { result ≡ Status.Door → Rose (D.faults door.old) (D.faults door.new) }
+{
+    if door.listen(port).is_err() {
+        return Status::Door;
+    }
+    match write_all(out, b"listening\n".as_slice()) {
+        Ok(()) => serve_door(rt, alloc, passes, clock, door),
+        Err(_) => Status::Write,
+    }
+}
+
+/// Does what the words ask for, and gives the end.
+fn perform<R, S, K, C, D>(
+    rt: &R,
+    alloc: Global,
+    words: &Vec<String>,
+    input: &mut S,
+    out: &mut K,
+    clock: C,
+    door: &mut D,
+) -> Status
+where
+    R: Threads + Wait + Sync,
+    S: Source,
+    K: Sink,
+    C: Clock + Send + Drop,
+    D: Door,
+    D::Input: Send,
+    D::Output: Send,
+    ensures usage { task_of (texts_of words.now.items) ≡ None → result ≡ Status.Usage }
+    ensures untouched { task_of (texts_of words.now.items) ≡ None → (input.new ≡ input.old) × (out.new ≡ out.old) }
+    ensures kinds { task_of (texts_of words.now.items) ≡ Some Task.Replay → IsReplayStatus result }
+    ensures told { task_of (texts_of words.now.items) ≡ Some Task.Replay → IfSome (S.left input.old) (λ bytes.
+        Tells result bytes (S.left input.new) (K.held out.old) (K.held out.new)) }
+    ensures ran { task_of (texts_of words.now.items) ≡ Some Task.Replay → IfSome (S.left input.old) (λ bytes.
+        RanSafely result bytes (K.held out.old) (K.held out.new)) }
+    ensures safe { task_of (texts_of words.now.items) ≡ Some Task.Replay
+        → IfSome (S.left input.old) (λ bytes. IsSafe (journal (history bytes)) (clock_of (history bytes))) }
+    ensures served { task_of (texts_of words.now.items) ≡ Some Task.Replay → IfSome (S.left input.old) (λ bytes. AreAllServed (ran bytes)) }
+    ensures answers { task_of (texts_of words.now.items) ≡ Some Task.Answer
+        → Answers (S.left input.old) (S.left input.new) (C.moments clock) (K.held out.old) (K.held out.new) result }
+    ensures serves { (port passes : ℕ) → task_of (texts_of words.now.items) ≡ Some (Task.Serve port passes)
+        → ServeTells result (K.held out.old) (K.held out.new) }
+    ensures read { result ≡ Status.Read → Rose (S.faults input.old) (S.faults input.new) }
+    ensures write { result ≡ Status.Write → Rose (K.faults out.old) (K.faults out.new) }
+    ensures door { result ≡ Status.Door → Rose (D.faults door.old) (D.faults door.new) }
+{
+    match find_task(words) {
+        Some(Task::Replay) => run_replay(alloc, input, out),
+        Some(Task::Answer) => {
+            let mut clock = clock;
+            run_answer(alloc, input, out, &mut clock)
+        }
+        Some(Task::Serve { port, passes }) => {
+            run_serve(rt, alloc, port, passes, out, clock, door)
+        }
+        None => Status::Usage,
+    }
+}
+
+/// The whole program: its words, its input, its output, its error output, its clock and its door. The answer is the exit
+/// status.
+pub fn run<R, S, K, E, C, D>(
+    rt: &R,
+    alloc: Global,
+    words: &Vec<String>,
+    input: &mut S,
+    out: &mut K,
+    err: &mut E,
+    clock: C,
+    door: &mut D,
+) -> u8
+where
+    R: Threads + Wait + Sync,
+    S: Source,
+    K: Sink,
+    E: Sink,
+    C: Clock + Send + Drop,
+    D: Door,
+    D::Input: Send,
+    D::Output: Send,
+    // 2 exactly where the words are no command.
+    ensures usage { (result ≡ 2) ↔ (task_of (texts_of words.now.items) ≡ None) }
+
+    // Then the input and the output are as they were.
+    ensures untouched { task_of (texts_of words.now.items) ≡ None → (input.new ≡ input.old) × (out.new ≡ out.old) }
+
+    // A replay, a connection and a door that is served end as told, and the error output is told this very end.
+    ensures ended { EndsSo result (task_of (texts_of words.now.items)) (S.left input.old) (S.left input.new) (C.moments clock)
+        (K.held out.old) (K.held out.new) (E.held err.old) (E.held err.new) (Rose (E.faults err.old) (E.faults err.new)) }
+
+    // The state of the schedule's turns is safe, at their clock, and its workers' processors are called for the given reads
+    // of their tenures.
+    ensures safe { task_of (texts_of words.now.items) ≡ Some Task.Replay
+        → IfSome (S.left input.old) (λ bytes. IsSafe (journal (history bytes)) (clock_of (history bytes))) }
+    ensures served { task_of (texts_of words.now.items) ≡ Some Task.Replay → IfSome (S.left input.old) (λ bytes. AreAllServed (ran bytes)) }
+    ensures read { result ≡ 4 → Rose (S.faults input.old) (S.faults input.new) }
+    ensures write { result ≡ 5 → Rose (K.faults out.old) (K.faults out.new) }
+    ensures door { result ≡ 8 → Rose (D.faults door.old) (D.faults door.new) }
+{
+    let status = perform(rt, alloc, words, input, out, clock, door);
+    tell(err, status);
+    status.code()
+}
