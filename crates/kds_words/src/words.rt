@@ -1,0 +1,201 @@
+//! The task of the words.
+ghost use Rattle.std.specs.Prelude.{◌≡◌, ◌≤◌, ℕ, true, Some, IfOk, IfSome, length, string_bytes};
+ghost use Rattle.std.specs.List.{list_all};
+ghost use Rattle.clap.specs.Words.{first_value, found_of, subcommand_rows_of};
+ghost use Rattle.kds_words.specs.declared.words.TheConstants.{MOST_MEMBERS, MOST_PORT, MOST_RECORDS};
+ghost use Rattle.kds_words.specs.Words.{IsWithin, drill_of, has_hyphen, is_word, number_in, serve_of, task_of, texts_of, told, told_with};
+
+use crate::command::kds_command;
+use crate::task::Task;
+use clap::ArgMatches;
+use clap::error::ErrorKind;
+use kds_base::{Memory, read_u64};
+use std::alloc::Global;
+
+/// The greatest port (RFC 9293, section 3.1).
+pub const MOST_PORT: u64 = 65_535;
+
+/// How many connections are served at once, or how many workers a drill has, at most.
+pub const MOST_MEMBERS: u64 = 64;
+
+/// How many records a drill has, at most.
+pub const MOST_RECORDS: u64 = 1_000_000;
+
+/// The limits of the words, in numbers: the definitions name them by their constants.
+pub fn limits()
+    ensures port { MOST_PORT ≡ 65535 }
+    ensures members { MOST_MEMBERS ≡ 64 }
+    ensures records { MOST_RECORDS ≡ 1000000 }
+{}
+
+fn has_leading_hyphen(word: &str) -> bool
+    ensures { result ≡ has_hyphen word.now }
+{
+    match word.as_bytes().first() {
+        Some(byte) => *byte == b'-',
+        None => false,
+    }
+}
+
+/// No leading hyphen, or the one flag.
+fn is_word_text(word: &str) -> bool
+    ensures { result ≡ is_word word.now }
+{
+    word == "--journal" || !has_leading_hyphen(word)
+}
+
+/// All words are such.
+fn are_words(words: &Vec<String>) -> bool
+    ensures { result ≡ list_all (λ w. is_word (string_bytes w)) words.now.items }
+{
+    words.iter().all(|word| is_word_text(word.as_str()))
+}
+
+/// The number of a text, between two others.
+fn number_between(low: u64, high: u64, text: &str) -> Option<u64>
+    ensures value { result ≡ number_in low high text.now }
+    ensures within { IfSome result (λ n. (low ≤ n) × (n ≤ high)) }
+{
+    let n = read_u64(text.as_bytes())?;
+    if low <= n && n <= high { Some(n) } else { None }
+}
+
+fn serve_task(port: &str, members: &str) -> Option<Task>
+    ensures task { result ≡ serve_of port.now members.now }
+    ensures within { IfSome result IsWithin }
+{
+    let port = number_between(1, MOST_PORT, port)?;
+    let members = number_between(1, MOST_MEMBERS, members)?;
+    Some(Task::Serve {
+        port: port as u16,
+        passes: members as u32,
+    })
+}
+
+fn drill_task(number: &str, workers: &str, records: &str) -> Option<Task>
+    ensures task { result ≡ drill_of number.now workers.now records.now }
+    ensures within { IfSome result IsWithin }
+{
+    let number = read_u64(number.as_bytes())?;
+    let workers = number_between(1, MOST_MEMBERS, workers)?;
+    let records = number_between(0, MOST_RECORDS, records)?;
+    Some(Task::Drill {
+        number,
+        workers: workers as u32,
+        records,
+    })
+}
+
+/// The task of a subcommand's name and its values.
+fn told_by(name: &str, found: &ArgMatches) -> Option<Task>
+    ensures task { result ≡ told_with name.now (first_value (found_of found.now)) }
+    ensures within { IfSome result IsWithin }
+{
+    if name == "replay" {
+        Some(Task::Replay {
+            journal: found.get_str("journal") == Some("true"),
+        })
+    } else if name == "answer" {
+        Some(Task::Answer)
+    } else if name == "audit" {
+        Some(Task::Audit)
+    } else if name == "serve" {
+        serve_task(found.get_str("port")?, found.get_str("members")?)
+    } else if name == "drill" {
+        drill_task(
+            found.get_str("number")?,
+            found.get_str("workers")?,
+            found.get_str("records")?,
+        )
+    } else {
+        None
+    }
+}
+
+/// The task that a parse met.
+fn read_task(matches: &ArgMatches) -> Option<Task>
+    ensures task { result ≡ told (subcommand_rows_of matches.now) }
+    ensures within { IfSome result IsWithin }
+{
+    let (name, found) = matches.subcommand()?;
+    told_by(name, found)
+}
+
+/// The task of words that `clap` may see.
+fn parse_task(alloc: Global, words: &Vec<String>) -> Result<Option<Task>, Memory>
+    requires few { length words.now.items ≤ 4 }
+    requires words { list_all (λ w. is_word (string_bytes w)) words.now.items ≡ true }
+    ensures task { IfOk result (λ task. task ≡ task_of (texts_of words.now.items)) }
+    ensures within { IfOk result (λ task. IfSome task IsWithin) }
+{
+    let command = kds_command(alloc)?;
+    match command.try_get_matches_from(words.as_slice()) {
+        Ok(matches) => Ok(read_task(&matches)),
+        Err(error) => match error.kind() {
+            ErrorKind::OutOfMemory => Err(Memory),
+            _ => Ok(None),
+        },
+    }
+}
+
+/// The task of the words after the program's name; None where they are usage. The one error is want of memory.
+pub fn find_task(alloc: Global, words: &Vec<String>) -> Result<Option<Task>, Memory>
+    ensures task { IfOk result (λ task. task ≡ task_of (texts_of words.now.items)) }
+    ensures within { IfOk result (λ task. IfSome task IsWithin) }
+{
+    if words.len() > 4 {
+        return Ok(None);
+    }
+    if !are_words(words) {
+        return Ok(None);
+    }
+    parse_task(alloc, words)
+}
+
+#[cfg(test)]
+mod tests {
+    use super::*;
+    use std::test::Fail;
+
+    #[test]
+    fn words_of_the_table(rt: HostRuntime) -> Result<(), Fail> {
+        let alloc = rt.alloc();
+        let cases: [(&str, Option<Task>); 14] = [
+            ("replay", Some(Task::Replay { journal: false })),
+            ("replay --journal", Some(Task::Replay { journal: true })),
+            ("answer", Some(Task::Answer)),
+            ("audit", Some(Task::Audit)),
+            (
+                "serve 4567 3",
+                Some(Task::Serve {
+                    port: 4567,
+                    passes: 3,
+                }),
+            ),
+            (
+                "drill 1 2 0",
+                Some(Task::Drill {
+                    number: 1,
+                    workers: 2,
+                    records: 0,
+                }),
+            ),
+            ("drill 1 65 0", None),
+            ("drill 01 2 0", None),
+            ("drill 1 2", None),
+            ("replay x", None),
+            ("replay --journal --journal", None),
+            ("--journal replay", None),
+            ("help", None),
+            ("drill 1 2 0 0", None),
+        ];
+        for (text, task) in cases {
+            let mut words = Vec::new(alloc);
+            for word in text.split(' ') {
+                words.push(word.to_string(alloc)?)?;
+            }
+            assert_eq!(rt; find_task(alloc, &words)?, task, "{text}");
+        }
+        Ok(())
+    }
+}
