@@ -1,0 +1,10 @@
+mod Undated
+mod Readings
+mod ApartLemmas
+mod Inner
+mod SummedLemmas
+mod LiveLemmas
+mod FedLemmas
+mod Commands
+mod LawfulLemmas
+mod Examples

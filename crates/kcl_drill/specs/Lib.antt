@@ -1,0 +1,5 @@
+pub mod Generated
+pub mod Coming
+pub mod Apart
+pub mod Fed
+pub mod Summed

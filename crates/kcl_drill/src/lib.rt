@@ -1,0 +1,18 @@
+//! A drill: a large valid input from a number, and the laws on which its text rests.
+#![tactic(auto)]
+
+mod generator;
+mod laws;
+mod limits;
+mod opens;
+mod plan;
+mod records;
+mod state;
+
+pub use generator::{Generator, generate};
+pub use laws::{apart, one_order, one_text};
+pub use limits::drill_limits;
+pub use records::stream_name;
+
+#[cfg(test)]
+mod tests;

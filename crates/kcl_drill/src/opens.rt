@@ -1,0 +1,157 @@
+//! The open shards of a drill's stream, as its own commands make them.
+ghost use Rattle.std.specs.Prelude.{◌≡◌, ◌+◌, ◌-◌, true, ◌==◌, ◌<◌, IfOk, OnOk, OnErr, [], ◌^◌, Some};
+ghost use Rattle.kds_base.specs.Span.{follows, is_inside};
+ghost use Rattle.kcl_drill.specs.Generated.{first_open, is_lowest, lowest, next_to, without, after_split, after_merge};
+
+use crate::limits::FIRST_SHARDS;
+use kds_base::{Memory, Range};
+use std::alloc::Global;
+use std::marker::Model;
+
+/// An open shard: its number and its range of hash keys.
+#[derive(Clone, Copy)]
+pub struct OpenShard {
+    pub no: u64,
+    pub range: Range,
+}
+
+/// The open shards in the order of their numbers, and the number of the next one.
+#[derive(Drop)]
+pub struct OpenShards {
+    all: Vec<OpenShard>,
+    next: u64,
+}
+
+impl Model for OpenShards {
+    ghost use Rattle.kcl_drill.specs.Generated.{Opens};
+
+    ghost Value = { Opens };
+
+    ghost view = { λ o. record { all = o.all.items; next = o.next } };
+}
+
+/// No range starts before that of this shard.
+fn is_lowest_of(all: &[OpenShard], x: &OpenShard) -> bool
+    ensures { result ≡ is_lowest all.now x.now }
+{
+    all.iter().all(|y| x.range.start <= y.range.start)
+}
+
+/// The second range starts right after the first one ends.
+fn is_next(r: &Range, s: &Range) -> bool
+    ensures { result ≡ follows r.now s.now }
+{
+    r.end < s.start && s.start - r.end == 1
+}
+
+/// Those of another number.
+fn all_but(alloc: Global, all: &[OpenShard], no: u64) -> Result<Vec<OpenShard>, Memory>
+    ensures { IfOk result (λ others. others.items ≡ without no all.now) }
+{
+    let mut others = Vec::new(alloc);
+    for x in all {
+        if x.no != no {
+            others.push(*x)?;
+        }
+    }
+    Ok(others)
+}
+
+impl OpenShards {
+    /// None.
+    pub fn none(alloc: Global) -> OpenShards
+        ensures none { result.all ≡ [] }
+        ensures next { result.next ≡ 0 }
+    {
+        OpenShards {
+            all: Vec::new(alloc),
+            next: 0,
+        }
+    }
+
+    /// Those of the new stream.
+    pub fn first(alloc: Global) -> Result<OpenShards, Memory>
+        ensures { IfOk result (λ o. o ≡ first_open) }
+    {
+        let ranges = Range::uniform(alloc, FIRST_SHARDS)?;
+        let mut all = Vec::new(alloc);
+        let mut next = 0;
+        for range in ranges.as_slice() {
+            all.push(OpenShard {
+                no: next,
+                range: *range,
+            })?;
+            next += 1;
+        }
+        Ok(OpenShards { all, next })
+    }
+
+    pub fn as_slice(&self) -> &[OpenShard]
+        ensures { result.now ≡ self.now.all }
+    {
+        self.all.as_slice()
+    }
+
+    /// The one whose range starts first.
+    pub fn lowest(&self) -> Option<OpenShard>
+        ensures { result ≡ lowest self.now.all }
+    {
+        let all = self.all.as_slice();
+        all.iter().copied().find(|x| is_lowest_of(all, x))
+    }
+
+    /// The one whose range is next to a range.
+    pub fn next_to(&self, range: &Range) -> Option<OpenShard>
+        ensures { result ≡ next_to range.now self.now.all }
+    {
+        self.all.iter().copied().find(|y| is_next(range, &y.range))
+    }
+}
+
+impl OpenShards {
+    /// A split of one at a key: it is closed, and its two parts are open. After `Memory` nothing is changed.
+    pub fn split(&mut self, alloc: Global, x: OpenShard, at: u128) -> Result<(), Memory>
+        requires inside { is_inside x.range at ≡ true }
+        requires room { self.old.next + 1 < 2 ^ 64 - 1 }
+        ensures ok { OnOk result (self.new ≡ after_split self.old x at) }
+        ensures err { OnErr result (self.new ≡ self.old) }
+    {
+        let Some((lower, upper)) = x.range.split(at) else {
+            unreachable!()
+        };
+        let lower = OpenShard {
+            no: self.next,
+            range: lower,
+        };
+        let upper = OpenShard {
+            no: self.next + 1,
+            range: upper,
+        };
+        let mut all = all_but(alloc, self.all.as_slice(), x.no)?;
+        all.extend_from_slice(&[lower, upper])?;
+        self.all = all;
+        self.next += 2;
+        Ok(())
+    }
+
+    /// A merge of one with another: both are closed, and their range is open. After `Memory` nothing is changed.
+    pub fn merge(&mut self, alloc: Global, x: OpenShard, y: OpenShard) -> Result<(), Memory>
+        requires adjacent { follows x.range y.range ≡ true }
+        requires room { self.old.next < 2 ^ 64 - 1 }
+        ensures ok { OnOk result (self.new ≡ after_merge self.old x y) }
+        ensures err { OnErr result (self.new ≡ self.old) }
+    {
+        let Some(range) = x.range.join(&y.range) else {
+            unreachable!()
+        };
+        let others = all_but(alloc, self.all.as_slice(), x.no)?;
+        let mut all = all_but(alloc, others.as_slice(), y.no)?;
+        all.push(OpenShard {
+            no: self.next,
+            range,
+        })?;
+        self.all = all;
+        self.next += 1;
+        Ok(())
+    }
+}

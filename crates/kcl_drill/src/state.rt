@@ -1,0 +1,111 @@
+//! Where a generator stands.
+ghost use Rattle.std.specs.Prelude.{◌≡◌, ◌∷◌, IfOk, IfSome, OnErr};
+ghost use Rattle.kds_defs.specs.Lawful.{IsLawfulCommand};
+ghost use Rattle.kcl_drill.specs.declared.state.Stage.TheVariants as stage;
+ghost use Rattle.kcl_drill.specs.Generated.{generated};
+ghost use Rattle.kcl_drill.specs.Coming.{coming, GivesNext, GivesPlan, IsSound};
+
+use crate::limits::FIRST_SHARDS;
+use crate::opens::OpenShards;
+use crate::plan::{Plan, find_plan, middle_of};
+use crate::records::{drawn_after, record, stream_name};
+use kds_base::Memory;
+use kds_defs::Command;
+use std::alloc::Global;
+
+/// What comes next: CreateStream, a record, or a split or merge before the next record.
+#[derive(Clone, Copy)]
+pub enum Stage {
+    Create,
+    Put,
+    Reshard,
+}
+
+/// What comes next, how many records there were and are left, the number that was drawn last, and the open shards.
+#[derive(Drop)]
+pub struct State {
+    pub alloc: Global,
+    pub stage: Stage,
+    pub count: u64,
+    pub left: u64,
+    pub drawn: u64,
+    pub opens: OpenShards,
+}
+
+impl State {
+    pub fn new(alloc: Global, number: u64, records: u64) -> State
+        ensures is { coming result ≡ generated number records }
+        ensures sound { IsSound result }
+    {
+        State {
+            alloc,
+            stage: Stage::Create,
+            count: 0,
+            left: records,
+            drawn: number,
+            opens: OpenShards::none(alloc),
+        }
+    }
+
+    /// CreateStream.
+    pub fn create(&mut self) -> Result<Command, Memory>
+        requires sound { IsSound self.old }
+        requires stage { self.old.stage ≡ stage.Create }
+        ensures ok { IfOk result (λ c. coming self.old ≡ c ∷ coming self.new) }
+        ensures lawful { IfOk result IsLawfulCommand }
+        ensures err { OnErr result (coming self.new ≡ coming self.old) }
+        ensures sound { IsSound self.new }
+    {
+        let name = stream_name(self.alloc)?;
+        self.opens = OpenShards::first(self.alloc)?;
+        self.stage = Stage::Put;
+        Ok(Command::Create {
+            name,
+            shards: FIRST_SHARDS,
+        })
+    }
+
+    /// The next record, if one is left.
+    pub fn put(&mut self) -> Result<Option<Command>, Memory>
+        requires sound { IsSound self.old }
+        requires stage { self.old.stage ≡ stage.Put }
+        ensures ok { IfOk result (λ next. GivesNext next (coming self.old) (coming self.new)) }
+        ensures lawful { IfOk result (λ next. IfSome next IsLawfulCommand) }
+        ensures err { OnErr result (coming self.new ≡ coming self.old) }
+        ensures sound { IsSound self.new }
+    {
+        if self.left == 0 {
+            return Ok(None);
+        }
+        let drawn = drawn_after(self.drawn);
+        let name = stream_name(self.alloc)?;
+        let item = record(self.alloc, self.count, drawn)?;
+        self.drawn = drawn;
+        self.count += 1;
+        self.left -= 1;
+        self.stage = Stage::Reshard;
+        Ok(Some(Command::Put { name, item }))
+    }
+
+    /// The split or merge that is due, if one is.
+    pub fn reshard(&mut self) -> Result<Option<Command>, Memory>
+        requires sound { IsSound self.old }
+        requires stage { self.old.stage ≡ stage.Reshard }
+        ensures ok { IfOk result (λ next. GivesPlan next (coming self.old) (coming self.new) self.new.stage) }
+        ensures lawful { IfOk result (λ next. IfSome next IsLawfulCommand) }
+        ensures err { OnErr result (coming self.new ≡ coming self.old) }
+        ensures sound { IsSound self.new }
+    {
+        let Some(plan) = find_plan(self.count, self.drawn, &self.opens) else {
+            self.stage = Stage::Put;
+            return Ok(None);
+        };
+        let command = plan.command(self.alloc)?;
+        match plan {
+            Plan::Split(x) => self.opens.split(self.alloc, x, middle_of(&x.range))?,
+            Plan::Merge(x, y) => self.opens.merge(self.alloc, x, y)?,
+        }
+        self.stage = Stage::Put;
+        Ok(Some(command))
+    }
+}

@@ -1,0 +1,11 @@
+//! The summary of a drill, read from a machine.
+#![tactic(auto)]
+
+mod asking;
+mod counting;
+mod report;
+mod rows;
+mod summing;
+mod text;
+
+pub use report::summary;

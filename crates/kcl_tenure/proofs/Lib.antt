@@ -1,0 +1,5 @@
+mod Answered
+mod Come
+mod Leased
+mod Counts
+mod Parents

@@ -1,0 +1,22 @@
+-- Turns on leases after a history.
+use Rattle.std.specs.Prelude.{ℕ, ◌≡◌, false, List}
+use Rattle.std.specs.List.{AllByRecursion}
+use Rattle.kds_defs.specs.declared.command.Turn.{Turn}
+use Rattle.kds_defs.specs.Journal.{Journal}
+use Rattle.kds_defs.specs.Kinds.{is_service}
+use Rattle.kds_defs.specs.Records.{next_number, records}
+use Rattle.kds_defs.specs.Shards.{shards}
+use Rattle.kds_defs.specs.Streams.{hours, live_streams, stream_named}
+
+-- none of these turns asks the stream service
+abbrev pub AreOnLeases : List Turn → Type 0
+AreOnLeases more = AllByRecursion (λ turn. is_service turn.what ≡ false) more
+
+-- two journals have the same streams, with the same shards, records, numbers and retention
+pub record HasSameStreams (log log' : Journal) : Type 0 where
+  pub live : live_streams log ≡ live_streams log'
+  pub named : (name : List ℕ) → stream_named log name ≡ stream_named log' name
+  pub shards : (s : ℕ) → shards log s ≡ shards log' s
+  pub records : (s sh : ℕ) → records log s sh ≡ records log' s sh
+  pub next : (s : ℕ) → next_number log s ≡ next_number log' s
+  pub hours : (s : ℕ) → hours log s ≡ hours log' s

@@ -1,0 +1,3 @@
+pub mod Holding
+pub mod Leasing
+pub mod Parents

@@ -1,0 +1,23 @@
+-- The parents of shards, and how often rows were written.
+use Rattle.std.specs.Prelude.{ℕ, ◌≡◌, ◌<◌, ◌≤◌, true, List, length, slice_get, Option, Some, None}
+use Rattle.std.specs.List.{AllByRecursion}
+use Rattle.kds_base.specs.declared.lease_key.ShardRef.{ShardRef}
+use Rattle.kds_defs.specs.declared.command.Turn.{Turn}
+use Rattle.kds_defs.specs.Histories.{journal}
+use Rattle.kds_defs.specs.Leases.{counter_in, row, taken_count}
+use Rattle.kds_defs.specs.Listings.{is_closed_at}
+use Rattle.kds_defs.specs.Shards.{ShardState}
+
+-- the parent of a shard of this number, if there is one, has a smaller number and is closed
+abbrev pub IsParentClosed : List ShardState → ℕ → Option ℕ → Type 0
+IsParentClosed xs n None = Unit {0}
+IsParentClosed xs n (Some p) = (p < n) × (is_closed_at (slice_get xs p) ≡ true)
+
+-- so it is for both parents of each of these shards
+abbrev pub AreParentsClosed : List ShardState → Type 0
+AreParentsClosed xs = AllByRecursion (λ (x : ShardState). IsParentClosed xs x.no x.parent × IsParentClosed xs x.no x.adjacent) xs
+
+-- no row's counter, and no tenure's number, is above the number of turns
+pub record AreCounted (h : List Turn) : Type 0 where
+  pub counters : (key : ShardRef) → counter_in (row (journal h) key) ≤ length h
+  pub tenures : taken_count (journal h) ≤ length h
