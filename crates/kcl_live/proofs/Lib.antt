@@ -1,0 +1,9 @@
+pub mod Histories
+pub mod Driven
+pub mod Bounds
+pub mod Stopping
+pub mod Ending
+pub mod Rounds
+pub mod Results
+pub mod Moments
+pub mod Served

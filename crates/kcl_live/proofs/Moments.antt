@@ -1,0 +1,42 @@
+-- The moments of turns, one tick after the other.
+use Rattle.std.proofs.Common.{◌≡◌, ℕ, ◌+◌, ◌*◌, ◌^◌, ◌<◌, ◌≤◌, List, [], length, sym, ap, subst, ◌∙◌, arith, ◌⊎◌, inl, inr}
+use Rattle.std.proofs.lemmas.Nat.{mul-le}
+use Rattle.kds_defs.specs.declared.command.Turn.{Turn}
+use Rattle.kcl_live.specs.Records.{AreOnLeasesAt, HasAdded}
+
+one_more : (n tick : ℕ) → n * tick + tick ≡ (n + 1) * tick
+one_more n tick = omega arith
+
+pub next_at : (n tick at : ℕ) → at ≡ n * tick → at + tick ≡ (n + 1) * tick
+next_at n tick at e = ap (λ m. m + tick) e ∙ one_more n tick
+
+below : (n m tick : ℕ) → n ≤ m → m * tick < 2 ^ 62 → n * tick < 2 ^ 62
+below n m tick le low = let h : n * tick ≤ m * tick = mul-le n tick m tick le (omega arith) in omega (arith, h, low)
+
+-- where a turn is left, its moment is one
+pub moment_left : (n m tick at : ℕ) → at ≡ n * tick → n + 1 ≤ m → m * tick < 2 ^ 62 → at + tick < 2 ^ 62
+moment_left n m tick at e le low = subst (λ x. x < 2 ^ 62) (sym (next_at n tick at e)) (below (n + 1) m tick le low)
+
+pub moment_of : (k turns tick : ℕ) → k < turns → 3 * turns * tick < 2 ^ 62 → (k + 1) * tick < 2 ^ 62
+moment_of k turns tick lt low = below (k + 1) (3 * turns) tick (omega (arith, lt)) low
+
+pub first_moments : (turns tick : ℕ) → 3 * turns * tick < 2 ^ 62 → turns * tick < 2 ^ 62
+first_moments turns tick low = below turns (3 * turns) tick (omega arith) low
+
+pub length_added : (at : ℕ) (own more : List Turn) → HasAdded at own more → length more ≡ length own + 1
+length_added at own more a = ap length a.1 ∙ omega arith
+
+pub moments_added : (tick now at n : ℕ) (own more : List Turn) → HasAdded now own more → now ≡ at → n ≡ length own → at ≡ (n + 1) * tick → AreOnLeasesAt tick own → AreOnLeasesAt tick more
+moments_added tick now at n own more a is count next moments =
+    subst (AreOnLeasesAt tick) (sym a.1) ((a.2 ∙ is ∙ next ∙ ap (λ k. (k + 1) * tick) count, a.3), moments)
+
+pub moments_may : (tick now at n : ℕ) (own more : List Turn) → (more ≡ own) ⊎ HasAdded now own more → now ≡ at → n ≡ length own → at ≡ (n + 1) * tick → AreOnLeasesAt tick own → AreOnLeasesAt tick more
+moments_may tick now at n own more (inl same) is count next moments = subst (AreOnLeasesAt tick) (sym same) moments
+moments_may tick now at n own more (inr a) is count next moments = moments_added tick now at n own more a is count next moments
+
+pub most_may : (now m : ℕ) (own more : List Turn) → (more ≡ own) ⊎ HasAdded now own more → length own + 1 ≤ m → length more ≤ m
+most_may now m own more (inl same) le = omega (arith, ap length same, le)
+most_may now m own more (inr a) le = omega (arith, length_added now own more a, le)
+
+pub none_moments : (tick : ℕ) (own : List Turn) → own ≡ [] → AreOnLeasesAt tick own
+none_moments tick own none = subst (AreOnLeasesAt tick) (sym none) tt

@@ -1,0 +1,30 @@
+-- The processors of a driven worker are called for what is given.
+use Rattle.std.proofs.Common.{ℕ, List, ◌∷◌, inl, inr}
+use Rattle.kds_defs.specs.declared.command.Turn.{Turn}
+use Rattle.kcl_defs.specs.declared.consumer.Call.{Call}
+use Rattle.kcl_defs.specs.WorkerLives.{IsToldIn}
+use Rattle.kcl_defs.specs.Workers.{Gave_command, WorkerPast}
+use Rattle.kcl_worker.specs.Standing.{AreServedIn, StandsFor, WorkerStanding}
+use Rattle.kds_turn.specs.declared.pass.TurnErr.{TurnErr}
+use Rattle.kds_turn.specs.Passes.{Standing}
+use Rattle.kcl_live.specs.Records.{AreServedLater, IsDriven}
+use Rattle.kcl_live.specs.Runs.{AreServedSoFar, HasRun, WasCut}
+
+module _ {P F : Type 0} (stands : P → List Call → Type 0) (w : WorkerStanding P F) (law : (by : ℕ) (h : List Turn) (past : WorkerPast) → StandsFor stands w past → IsToldIn by h w.made past → AreServedIn stands by h w) where
+  driven_served : (by : ℕ) (seen own : List Turn) (past : WorkerPast) → IsDriven stands by seen own w past → AreServedLater stands by seen own w
+  driven_served by seen own past d = λ h c same. law by h past d.stood (d.told h c same)
+
+  pub run_served : (p : Standing) → HasRun stands w p → AreServedLater stands p.by p.seen p.own w
+  run_served p r = driven_served p.by p.seen p.own r.past r.driven
+
+  pub cut_served : (p : Standing) (e : TurnErr) → WasCut stands w p e → AreServedSoFar stands w p
+  cut_served p e (inl f) = inl (run_served p f.run)
+  cut_served p e (inr (inl f)) = inl (driven_served p.by p.seen p.own (Gave_command f.at ∷ f.past) f.driven)
+  cut_served p e (inr (inr f)) = inr (record {
+    last = f.last;
+    place = f.place;
+    before = f.before;
+    seen = f.seen;
+    own = f.own;
+    served = driven_served p.by f.place f.before (Gave_command f.at ∷ f.past) f.driven;
+  })

@@ -1,0 +1,11 @@
+use Rattle.kcl_live.proofs.Results.{err_to, ok_so}
+use Rattle.kcl_live.proofs.Served.{cut_served, run_served}
+use Rattle.kcl_live.proofs.driver.run_worker.Goals as goal
+
+pub returns-clause-served : goal.returns-clause-served
+returns-clause-served g c =
+    ok_so c.drive-result.result _ _ (run_served g.P.Processor.stands_for c.drive-result.new.worker c.served.ensures c.drive-result.new.pass) c.drive-result.ensures.ok
+
+pub returns-clause-served_so_far : goal.returns-clause-served_so_far
+returns-clause-served_so_far g c =
+    err_to c.drive-result.result _ _ (cut_served g.P.Processor.stands_for c.drive-result.new.worker c.served.ensures c.drive-result.new.pass) c.drive-result.ensures.err

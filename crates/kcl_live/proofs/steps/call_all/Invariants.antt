@@ -1,0 +1,18 @@
+use Rattle.std.proofs.Common.{◌≡◌, List, None}
+use Rattle.kcl_defs.specs.declared.consumer.Ask.{Ask}
+use Rattle.kcl_defs.specs.Workers.{WorkerPast}
+use Rattle.kcl_round.specs.Lists.{due_count}
+use Rattle.kcl_worker.specs.Standing.{StandsFor}
+use Rattle.kcl_live.specs.Records.{with_calls}
+use Rattle.kcl_live.proofs.steps.call_all.Given as goal
+
+-- calls were made, and nothing else
+abbrev pub invariant-loop-due : goal.invariant-loop-due
+invariant-loop-due g l = record {
+  made : l.worker.made ≡ l.fn.worker.made;
+  free : l.worker.waiting ≡ None;
+  called : (past : WorkerPast) → StandsFor g.P.Processor.stands_for l.fn.worker past → (asked : List Ask) × StandsFor g.P.Processor.stands_for l.worker (with_calls asked past);
+}
+
+abbrev pub decreases-loop-due : goal.decreases-loop-due
+decreases-loop-due g l = due_count l.worker.consumers

@@ -1,0 +1,64 @@
+-- How the run of a worker on its pass went.
+use Rattle.std.specs.Prelude.{◌≡◌, ◌↔◌, ◌⊎◌, ℕ, ◌+◌, ◌^◌, ◌<◌, List, ◌∷◌, length, IsSome}
+use Rattle.kds_defs.specs.declared.command.Turn.{Turn}
+use Rattle.kcl_defs.specs.declared.consumer.Call.{Call}
+use Rattle.kcl_defs.specs.Workers.{Gave_command, WorkerPast, worker_after}
+use Rattle.kcl_round.specs.Lists.{due_in}
+use Rattle.kcl_worker.specs.Standing.{WorkerStanding}
+use Rattle.kds_turn.specs.Known.{turns_by}
+use Rattle.kds_turn.specs.declared.pass.TurnErr.{TurnErr}
+use Rattle.kds_turn.specs.declared.pass.TurnErr.TheVariants as failed
+use Rattle.kds_turn.specs.Passes.{Standing}
+use Rattle.kcl_live.specs.Records.{AreServedLater, IsDriven, with_turn}
+
+module _ {P F : Type 0} (stands : P → List Call → Type 0) (w : WorkerStanding P F) (p : Standing) where
+  -- each command became a turn, and its answer was taken
+  pub record HasRun : Type 0 where
+    pub past : WorkerPast
+    pub driven : IsDriven stands p.by p.seen p.own w past
+    pub alone : 0 < length p.own → turns_by p.by p.seen ≡ p.own
+
+  -- memory ran out in a processor's call, which is still due
+  pub record CallFailed (e : TurnErr) : Type 0 where
+    pub error : e ≡ failed.Memory
+    pub due : IsSome (due_in w.consumers)
+    pub run : HasRun
+
+  -- the last command became no turn
+  pub record TurnFailed (e : TurnErr) : Type 0 where
+    pub spent : (e ≡ failed.Spent) ↔ (length p.seen + 1 ≡ 2 ^ 64)
+    pub waits : IsSome w.waiting
+    pub past : WorkerPast
+    pub at : ℕ
+    pub driven : IsDriven stands p.by p.seen p.own w (Gave_command at ∷ past)
+
+  -- the last command became a turn, and memory ran out when its answer was taken: of the turns before, all is as ever
+  pub record AnswerFailed (e : TurnErr) : Type 0 where
+    pub error : e ≡ failed.Memory
+    pub waits : IsSome w.waiting
+    pub past : WorkerPast
+    pub at : ℕ
+    pub last : Turn
+    pub place : List Turn
+    pub before : List Turn
+    pub seen : p.seen ≡ last ∷ place
+    pub own : p.own ≡ last ∷ before
+    pub alone : turns_by p.by place ≡ before
+    pub is_last : with_turn p.by at (worker_after w.made (Gave_command at ∷ past)).waiting before ≡ last ∷ before
+    pub driven : IsDriven stands p.by place before w (Gave_command at ∷ past)
+
+  abbrev pub WasCut : TurnErr → Type 0
+  WasCut e = CallFailed e ⊎ TurnFailed e ⊎ AnswerFailed e
+
+  -- its processors are called for the given reads of their tenures, by all its turns but the last
+  pub record AreServedBeforeLast : Type 0 where
+    pub last : Turn
+    pub place : List Turn
+    pub before : List Turn
+    pub seen : p.seen ≡ last ∷ place
+    pub own : p.own ≡ last ∷ before
+    pub served : AreServedLater stands p.by place before w
+
+  -- by all its turns, or by all but the last
+  abbrev pub AreServedSoFar : Type 0
+  AreServedSoFar = AreServedLater stands p.by p.seen p.own w ⊎ AreServedBeforeLast

@@ -1,0 +1,86 @@
+//! One step of a worker: the processor calls that are due, then one turn.
+ghost use Rattle.std.specs.Prelude.{◌≡◌, ◌⊎◌, ℕ, ◌∷◌, List, None, IfErr, IsSome, OnErr, OnOk, false};
+ghost use Rattle.kcl_defs.specs.declared.consumer.Ask.{Ask};
+ghost use Rattle.kcl_defs.specs.Workers.{WorkerPast};
+ghost use Rattle.kcl_round.specs.Lists.{due_in};
+ghost use Rattle.kcl_worker.specs.Standing.{StandsFor, is_idle_in};
+ghost use Rattle.kds_turn.specs.Known.{Continues};
+ghost use Rattle.kcl_live.specs.Records.{HasAdded, IsDriven, with_calls};
+ghost use Rattle.kcl_live.specs.Runs.{WasCut};
+ghost use Rattle.kcl_live.specs.Steps.{HasTurned};
+
+use crate::gate::Gate;
+use kcl_consumer::{Maker, Processor};
+use kcl_worker::{NoRoom, Worker};
+use kds_base::{Memory, Moment};
+use kds_defs::Machine;
+use kds_turn::{Hall, Pass, TurnErr};
+use std::sync::Wait;
+
+/// Makes all processor calls that are due, each between the gate's two. Memory: a processor's want of memory; then its call is
+/// still due.
+pub(crate) fn call_all<P: Processor, F: Maker<P>, G: Gate>(
+    worker: &mut Worker<P, F>,
+    gate: &mut G,
+) -> Result<(), TurnErr>
+    requires { worker.old.waiting ≡ None }
+    ensures made { worker.new.made ≡ worker.old.made }
+    ensures free { worker.new.waiting ≡ None }
+    ensures called { (past : WorkerPast) → StandsFor P.stands_for worker.old past → (asked : List Ask) × StandsFor P.stands_for worker.new (with_calls asked past) }
+    ensures none_due { OnOk result (due_in worker.new.consumers ≡ None) }
+    ensures error { IfErr result (λ e. e ≡ TurnErr.Memory) }
+    ensures left { OnErr result ((past : WorkerPast) → StandsFor P.stands_for worker.old past → IsSome (due_in worker.new.consumers)) }
+{
+    while let Some((_, due)) = worker.due() {
+        let name = worker.name();
+        gate.before(name, due);
+        let called = worker.call();
+        gate.after(name, due);
+        match called {
+            Ok(()) => {}
+            Err(Memory) => return Err(TurnErr::Memory),
+        }
+    }
+    Ok(())
+}
+
+/// The answer that wasn't taken isn't needed any more.
+fn without(_left: NoRoom) -> TurnErr
+    ensures { result ≡ TurnErr.Memory }
+{
+    TurnErr::Memory
+}
+
+/// The worker's next command as a turn of the pass at this moment, whose answer it takes. Memory: want of memory for the
+/// turn or for its answer. Spent: the hall's history is full.
+pub(crate) fn turn<M: Machine, P: Processor + Drop, F: Maker<P>, R: Wait>(
+    rt: &R,
+    hall: &Hall<M>,
+    pass: &mut Pass<M>,
+    worker: &mut Worker<P, F>,
+    now: Moment,
+) -> Result<(), TurnErr>
+    requires hall { pass.old.hall ≡ hall.now.id }
+    requires free { worker.old.waiting ≡ None }
+    requires none_due { due_in worker.old.consumers ≡ None }
+    requires busy { is_idle_in worker.old ≡ false }
+    ensures kept { (pass.new.hall ≡ pass.old.hall) × (pass.new.by ≡ pass.old.by) × (pass.new.joined ≡ pass.old.joined) }
+    ensures made { worker.new.made ≡ worker.old.made }
+    ensures seen { Continues pass.new.seen pass.old.seen }
+    ensures free { OnOk result (worker.new.waiting ≡ None) }
+    ensures added { OnOk result (HasAdded now pass.old.own pass.new.own) }
+    ensures added_or_not { OnErr result ((pass.new.own ≡ pass.old.own) ⊎ HasAdded now pass.old.own pass.new.own) }
+    ensures ok { OnOk result ((past : WorkerPast) → IsDriven P.stands_for pass.old.by pass.old.seen pass.old.own worker.old past
+        → HasTurned P.stands_for pass.new worker.new now past) }
+    ensures err { IfErr result (λ e. (past : WorkerPast) → IsDriven P.stands_for pass.old.by pass.old.seen pass.old.own worker.old past
+        → WasCut P.stands_for worker.new pass.new e) }
+{
+    let what = worker.next(now);
+    match hall.turn(rt, pass, now, what) {
+        Ok(answer) => match worker.absorb(now, answer) {
+            Ok(()) => Ok(()),
+            Err(left) => Err(without(left)),
+        },
+        Err(error) => Err(error),
+    }
+}
