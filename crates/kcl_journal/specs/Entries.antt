@@ -1,0 +1,254 @@
+-- The lines of a journal as text, in its first version and in the second.
+use Rattle.std.specs.Prelude.{◌≡◌, ◌⊎◌, ℕ, ◌+◌, ◌-◌, ◌^◌, List, [], ◌∷◌, ◌++◌, codes, decimal, flat_map, Bool, true, false, ◌&&◌, ◌==◌, nat_le, if◌then◌else◌, Option, Some, None, option_map, option_and_then}
+use Rattle.std.specs.List.{slice_split}
+use Rattle.std.specs.Str.{bytes_eq}
+use Rattle.kds_base.specs.Names.{name_of}
+use Rattle.kds_base.specs.NumberText.{number_of}
+use Rattle.kds_defs.specs.declared.entry.Entry.{Entry}
+use Rattle.kds_defs.specs.declared.entry.Entry.TheVariants as entry
+use Rattle.kds_defs.specs.declared.limits.TheConstants.{MOST, LEAST_SHARDS, MOST_SHARDS, LEAST_HOURS, MOST_HOURS, RECORD_BYTES}
+use Rattle.kcl_script.specs.Commands.{row_of, target_of, target_text}
+use Rattle.kcl_script.specs.Fields.{◌>>=◌, field, two, moment_of, number, greatest32, worker_of, worker_text, key_of, key_text}
+use Rattle.kcl_script.specs.Origins.{origin_text}
+use Rattle.kcl_journal.specs.declared.line.EntryLine.{EntryLine}
+use Rattle.kcl_journal.specs.declared.line.TheConstants.{FIRST_RECORD_BYTES, FIRST_VERSION, KEY_BYTES, VERSION}
+use Rattle.kcl_journal.specs.Ranges.{is_first}
+
+-- the versions that there are
+abbrev pub IsVersion : ℕ → Type 0
+IsVersion version = (version ≡ FIRST_VERSION) ⊎ (version ≡ VERSION)
+
+-- the first line of a text of the second version, without its line feed; the first version has none
+abbrev pub heading : List ℕ
+heading = codes "journal 2"
+
+-- ---- numbers in a range, and the number of a hash key
+
+abbrev pub within : ℕ → ℕ → ℕ → Option ℕ
+within least most n = if nat_le least n && nat_le n most then Some n else None
+
+-- a number that lies between these, both included
+abbrev pub within_of : ℕ → ℕ → List ℕ → Option ℕ
+within_of least most text = option_and_then (within least most) (number text)
+
+abbrev pub greatest64 : ℕ
+greatest64 = 2 ^ 64 - 1
+
+-- a row's counter after it was written
+abbrev pub counter_of : List ℕ → Option ℕ
+counter_of text = within_of 1 greatest64 text
+
+abbrev pub hash_of : List ℕ → Option ℕ
+hash_of text = number_of 128 text
+
+-- ---- the sizes of a put: `BYTES` in the first version, `BYTES KEYBYTES` in the second
+
+abbrev pub fitting : ℕ × ℕ → Option (ℕ × ℕ)
+fitting p = if nat_le (p.0 + p.1) RECORD_BYTES then Some p else None
+
+abbrev pub sizes_by : Bool → List ℕ → Option (ℕ × ℕ)
+sizes_by true text = option_map (λ n. (n, 0)) (within_of 0 FIRST_RECORD_BYTES text)
+sizes_by false text = option_and_then fitting (two 32 (within_of 0 RECORD_BYTES) (within_of 1 KEY_BYTES) text)
+
+abbrev pub sizes_of : ℕ → List ℕ → Option (ℕ × ℕ)
+sizes_of version text = sizes_by (is_first version) text
+
+abbrev pub sizes_text_by : Bool → ℕ × ℕ → List ℕ
+sizes_text_by true p = decimal p.0
+sizes_text_by false p = decimal p.0 ++ 32 ∷ decimal p.1
+
+abbrev pub sizes_text : ℕ → ℕ × ℕ → List ℕ
+sizes_text version p = sizes_text_by (is_first version) p
+
+-- ---- whether limits are on
+
+abbrev pub switch_of : List ℕ → Option Bool
+switch_of text =
+    if bytes_eq text (codes "on") then Some true
+    else if bytes_eq text (codes "off") then Some false
+    else None
+
+abbrev pub switch_text : Bool → List ℕ
+switch_text on = if on then codes "on" else codes "off"
+
+-- ---- the batch of a read: `more` or `end`, and each number of a record
+
+abbrev pub is_space : ℕ → Bool
+is_space b = b == 32
+
+abbrev pub words : List ℕ → List (List ℕ)
+words text = slice_split is_space text
+
+abbrev pub numbers_of : List (List ℕ) → Option (List ℕ)
+numbers_of [] = Some []
+numbers_of (w ∷ ws) = number w >>= λ n. option_map (λ ns. n ∷ ns) (numbers_of ws)
+
+abbrev pub ended_of : List ℕ → Option Bool
+ended_of text =
+    if bytes_eq text (codes "end") then Some true
+    else if bytes_eq text (codes "more") then Some false
+    else None
+
+abbrev pub batch_from : List (List ℕ) → Option (Bool × List ℕ)
+batch_from [] = None
+batch_from (w ∷ ws) = ended_of w >>= λ ended. option_map (λ ns. (ended, ns)) (numbers_of ws)
+
+abbrev pub batch_of : List ℕ → Option (Bool × List ℕ)
+batch_of text = batch_from (words text)
+
+abbrev pub ended_text : Bool → List ℕ
+ended_text ended = if ended then codes "end" else codes "more"
+
+abbrev pub numbers_text : List ℕ → List ℕ
+numbers_text ns = flat_map (λ n. 32 ∷ decimal n) ns
+
+-- ---- entries
+
+-- `made STREAM NAME SHARDS`
+abbrev pub made_of : List ℕ → Option Entry
+made_of text = option_map (λ a. entry.Made a.0 a.1.0 a.1.1) (two 32 number (two 32 name_of (within_of LEAST_SHARDS MOST_SHARDS)) text)
+
+-- `gone STREAM`
+abbrev pub gone_of : List ℕ → Option Entry
+gone_of text = option_map (λ s. entry.Gone s) (number text)
+
+-- `put STREAM SHARD SEQ HASH BYTES`, and KEYBYTES from the second version on
+abbrev pub put_of : ℕ → List ℕ → Option Entry
+put_of version text =
+    option_map (λ a. entry.Put a.0 a.1.0 a.1.1.0 a.1.1.1.0 a.1.1.1.1.0 a.1.1.1.1.1)
+    (two 32 number (two 32 number (two 32 number (two 32 hash_of (sizes_of version)))) text)
+
+-- `split STREAM SHARD AT SEQ LOW HIGH`
+abbrev pub split_of : List ℕ → Option Entry
+split_of text =
+    option_map (λ a. entry.Split a.0 a.1.0 a.1.1.0 a.1.1.1.0 a.1.1.1.1.0 a.1.1.1.1.1)
+    (two 32 number (two 32 number (two 32 hash_of (two 32 number (two 32 number number)))) text)
+
+-- `merged STREAM SHARD OTHER SEQ CHILD`
+abbrev pub merged_of : List ℕ → Option Entry
+merged_of text =
+    option_map (λ a. entry.Merged a.0 a.1.0 a.1.1.0 a.1.1.1.0 a.1.1.1.1)
+    (two 32 number (two 32 number (two 32 number (two 32 number number))) text)
+
+-- `kept STREAM HOURS`
+abbrev pub kept_of : List ℕ → Option Entry
+kept_of text = option_map (λ a. entry.Kept a.0 a.1) (two 32 number (within_of LEAST_HOURS MOST_HOURS) text)
+
+-- `enforced STREAM on` or `enforced STREAM off`
+abbrev pub enforced_of : List ℕ → Option Entry
+enforced_of text = option_map (λ a. entry.Enforced a.0 a.1) (two 32 number switch_of text)
+
+-- `lease KEY`, `lease KEY latest` or `lease KEY time M`
+abbrev pub lease_of : List ℕ → Option Entry
+lease_of text = option_map (λ a. entry.LeaseMade a.0 a.1) (row_of text)
+
+-- `taken KEY TENURE COUNTER wN`
+abbrev pub taken_of : List ℕ → Option Entry
+taken_of text =
+    option_map (λ a. entry.Taken a.0 a.1.0 a.1.1.0 a.1.1.1) (two 32 key_of (two 32 number (two 32 counter_of worker_of)) text)
+
+-- `renewed T C`
+abbrev pub renewed_of : List ℕ → Option Entry
+renewed_of text = option_map (λ a. entry.Renewed a.0 a.1) (two 32 number counter_of text)
+
+-- `freed T C`
+abbrev pub freed_of : List ℕ → Option Entry
+freed_of text = option_map (λ a. entry.Freed a.0 a.1) (two 32 number counter_of text)
+
+-- `opened T`
+abbrev pub opened_of : List ℕ → Option Entry
+opened_of text = option_map (λ t. entry.Opened t) (number text)
+
+-- `read T LIMIT more` or `read T LIMIT end`, then each number
+abbrev pub read_of : List ℕ → Option Entry
+read_of text =
+    option_map (λ a. entry.Read a.0 a.1.0 a.1.1.0 a.1.1.1) (two 32 number (two 32 (within_of 1 MOST) batch_of) text)
+
+-- `given T`
+abbrev pub given_of : List ℕ → Option Entry
+given_of text = option_map (λ t. entry.Given t) (number text)
+
+-- `marked T C Q` or `marked T C end`
+abbrev pub marked_of : List ℕ → Option Entry
+marked_of text = option_map (λ a. entry.Marked a.0 a.1.0 a.1.1) (two 32 number (two 32 counter_of target_of) text)
+
+-- `cut KEY COUNTER`
+abbrev pub cut_of : List ℕ → Option Entry
+cut_of text = option_map (λ a. entry.LeaseCut a.0 a.1) (two 32 key_of number text)
+
+-- an entry of a lease by its word, and what follows it
+abbrev pub lease_by : List ℕ → List ℕ → Option Entry
+lease_by word text =
+    if bytes_eq word (codes "lease") then lease_of text
+    else if bytes_eq word (codes "taken") then taken_of text
+    else if bytes_eq word (codes "renewed") then renewed_of text
+    else if bytes_eq word (codes "freed") then freed_of text
+    else if bytes_eq word (codes "opened") then opened_of text
+    else if bytes_eq word (codes "read") then read_of text
+    else if bytes_eq word (codes "given") then given_of text
+    else if bytes_eq word (codes "marked") then marked_of text
+    else if bytes_eq word (codes "cut") then cut_of text
+    else None
+
+-- an entry by its word, and what follows it
+abbrev pub entry_by : ℕ → List ℕ → List ℕ → Option Entry
+entry_by version word text =
+    if bytes_eq word (codes "made") then made_of text
+    else if bytes_eq word (codes "gone") then gone_of text
+    else if bytes_eq word (codes "put") then put_of version text
+    else if bytes_eq word (codes "split") then split_of text
+    else if bytes_eq word (codes "merged") then merged_of text
+    else if bytes_eq word (codes "kept") then kept_of text
+    else if bytes_eq word (codes "enforced") then enforced_of text
+    else lease_by word text
+
+-- the one text of an entry
+abbrev pub entry_text : ℕ → Entry → List ℕ
+entry_text version (entry.Made s name count) = codes "made " ++ (decimal s ++ 32 ∷ (name ++ 32 ∷ decimal count))
+entry_text version (entry.Gone s) = codes "gone " ++ decimal s
+entry_text version (entry.Put s sh number hash bytes key_bytes) =
+    codes "put " ++ (decimal s ++ 32 ∷ (decimal sh ++ 32 ∷ (decimal number ++ 32 ∷ (decimal hash ++ 32 ∷ sizes_text version (bytes, key_bytes)))))
+entry_text version (entry.Split s sh at number low high) =
+    codes "split " ++ (decimal s ++ 32 ∷ (decimal sh ++ 32 ∷ (decimal at ++ 32 ∷ (decimal number ++ 32 ∷ (decimal low ++ 32 ∷ decimal high)))))
+entry_text version (entry.Merged s sh other number child) =
+    codes "merged " ++ (decimal s ++ 32 ∷ (decimal sh ++ 32 ∷ (decimal other ++ 32 ∷ (decimal number ++ 32 ∷ decimal child))))
+entry_text version (entry.Kept s hours) = codes "kept " ++ (decimal s ++ 32 ∷ decimal hours)
+entry_text version (entry.Enforced s on) = codes "enforced " ++ (decimal s ++ 32 ∷ switch_text on)
+entry_text version (entry.LeaseMade key from) = codes "lease " ++ (key_text key ++ origin_text from)
+entry_text version (entry.Taken key t counter owner) =
+    codes "taken " ++ (key_text key ++ 32 ∷ (decimal t ++ 32 ∷ (decimal counter ++ 32 ∷ worker_text owner)))
+entry_text version (entry.Renewed t counter) = codes "renewed " ++ (decimal t ++ 32 ∷ decimal counter)
+entry_text version (entry.Freed t counter) = codes "freed " ++ (decimal t ++ 32 ∷ decimal counter)
+entry_text version (entry.Opened t) = codes "opened " ++ decimal t
+entry_text version (entry.Read t limit ended numbers) =
+    codes "read " ++ (decimal t ++ 32 ∷ (decimal limit ++ 32 ∷ (ended_text ended ++ numbers_text numbers)))
+entry_text version (entry.Given t) = codes "given " ++ decimal t
+entry_text version (entry.Marked t counter to) = codes "marked " ++ (decimal t ++ 32 ∷ (decimal counter ++ 32 ∷ target_text to))
+entry_text version (entry.LeaseCut key counter) = codes "cut " ++ (key_text key ++ 32 ∷ decimal counter)
+
+-- ---- lines
+
+-- the line of a journal that a text of this version is, if it is one: `CLOCK BY ENTRY`
+unfoldable pub entry_of : ℕ → List ℕ → Option EntryLine
+entry_of version text = do
+  first ← field text
+  clock ← moment_of first.0
+  second ← field first.1
+  by ← within_of 0 greatest32 second.0
+  third ← field second.1
+  what ← entry_by version third.0 third.1
+  Some (record { clock = clock; by = by; what = what })
+
+-- its one text in this version
+abbrev pub entry_spelling : ℕ → EntryLine → List ℕ
+entry_spelling version line = decimal line.clock ++ 32 ∷ (decimal line.by ++ 32 ∷ entry_text version line.what)
+
+-- ---- the last line: `end CLOCK`
+
+unfoldable pub end_of : List ℕ → Option ℕ
+end_of text = do
+  p ← field text
+  if bytes_eq p.0 (codes "end") then moment_of p.1 else None
+
+abbrev pub end_spelling : ℕ → List ℕ
+end_spelling clock = codes "end " ++ decimal clock

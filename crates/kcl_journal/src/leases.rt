@@ -1,0 +1,160 @@
+//! Entries of leases, each read from what follows its word.
+ghost use Rattle.std.specs.Prelude.{◌≡◌, IfOk};
+ghost use Rattle.kcl_script.specs.Fields.{two, number};
+ghost use Rattle.kcl_journal.specs.Entries.{counter_of, cut_of, freed_of, given_of, lease_by, lease_of, marked_of, opened_of, read_of, renewed_of, taken_of};
+
+use crate::numbers::{batch, counter, within32};
+use kcl_script::{field, key, row, target, worker};
+use kds_base::{Memory, TenureNo, read_u64};
+use kds_defs::Entry;
+use kds_defs::limits::MOST;
+use std::alloc::Global;
+
+fn made(text: &[u8]) -> Option<Entry>
+    ensures { result ≡ lease_of text.now }
+{
+    let (key, from) = row(text)?;
+    Some(Entry::LeaseMade { key, from })
+}
+
+#[tactic(auto, unfolding(kcl_script::specs::Fields::two))]
+fn taken(text: &[u8]) -> Option<Entry>
+    ensures { result ≡ taken_of text.now }
+{
+    let (first, rest) = field(text)?;
+    let key = key(first)?;
+    let (second, rest) = field(rest)?;
+    let tenure = read_u64(second)?;
+    let (third, fourth) = field(rest)?;
+    let counter = counter(third)?;
+    let owner = worker(fourth)?;
+    Some(Entry::Taken {
+        key,
+        tenure: TenureNo(tenure),
+        counter,
+        owner,
+    })
+}
+
+/// A tenure, and a row's counter after it was written.
+#[tactic(auto, unfolding(kcl_script::specs::Fields::two))]
+fn written(text: &[u8]) -> Option<(TenureNo, u64)>
+    ensures { result ≡ two 32 number counter_of text.now }
+{
+    let (first, second) = field(text)?;
+    let tenure = read_u64(first)?;
+    let counter = counter(second)?;
+    Some((TenureNo(tenure), counter))
+}
+
+fn renewed(text: &[u8]) -> Option<Entry>
+    ensures { result ≡ renewed_of text.now }
+{
+    let (tenure, counter) = written(text)?;
+    Some(Entry::Renewed { tenure, counter })
+}
+
+fn freed(text: &[u8]) -> Option<Entry>
+    ensures { result ≡ freed_of text.now }
+{
+    let (tenure, counter) = written(text)?;
+    Some(Entry::Freed { tenure, counter })
+}
+
+fn opened(text: &[u8]) -> Option<Entry>
+    ensures { result ≡ opened_of text.now }
+{
+    let tenure = read_u64(text)?;
+    Some(Entry::Opened {
+        tenure: TenureNo(tenure),
+    })
+}
+
+#[tactic(auto, unfolding(kcl_script::specs::Fields::two))]
+fn read(alloc: Global, text: &[u8]) -> Result<Option<Entry>, Memory>
+    ensures { IfOk result (λ o. o ≡ read_of text.now) }
+{
+    let Some((first, rest)) = field(text) else {
+        return Ok(None);
+    };
+    let Some(tenure) = read_u64(first) else {
+        return Ok(None);
+    };
+    let Some((second, third)) = field(rest) else {
+        return Ok(None);
+    };
+    let Some(limit) = within32(second, 1, MOST) else {
+        return Ok(None);
+    };
+    let Some((end, numbers)) = batch(alloc, third)? else {
+        return Ok(None);
+    };
+    Ok(Some(Entry::Read {
+        tenure: TenureNo(tenure),
+        limit,
+        end,
+        numbers,
+    }))
+}
+
+fn given(text: &[u8]) -> Option<Entry>
+    ensures { result ≡ given_of text.now }
+{
+    let tenure = read_u64(text)?;
+    Some(Entry::Given {
+        tenure: TenureNo(tenure),
+    })
+}
+
+#[tactic(auto, unfolding(kcl_script::specs::Fields::two))]
+fn marked(text: &[u8]) -> Option<Entry>
+    ensures { result ≡ marked_of text.now }
+{
+    let (first, rest) = field(text)?;
+    let tenure = read_u64(first)?;
+    let (second, third) = field(rest)?;
+    let counter = counter(second)?;
+    let to = target(third)?;
+    Some(Entry::Marked {
+        tenure: TenureNo(tenure),
+        counter,
+        to,
+    })
+}
+
+#[tactic(auto, unfolding(kcl_script::specs::Fields::two))]
+fn cut(text: &[u8]) -> Option<Entry>
+    ensures { result ≡ cut_of text.now }
+{
+    let (first, second) = field(text)?;
+    let key = key(first)?;
+    let counter = read_u64(second)?;
+    Some(Entry::LeaseCut { key, counter })
+}
+
+/// The entry of a lease, by its word and what follows it.
+pub fn lease_entry(alloc: Global, word: &[u8], text: &[u8]) -> Result<Option<Entry>, Memory>
+    ensures { IfOk result (λ o. o ≡ lease_by word.now text.now) }
+{
+    if word == b"lease".as_slice() {
+        Ok(made(text))
+    } else if word == b"taken".as_slice() {
+        Ok(taken(text))
+    } else if word == b"renewed".as_slice() {
+        Ok(renewed(text))
+    } else if word == b"freed".as_slice() {
+        Ok(freed(text))
+    } else if word == b"opened".as_slice() {
+        Ok(opened(text))
+    } else if word == b"read".as_slice() {
+        read(alloc, text)
+    } else if word == b"given".as_slice() {
+        Ok(given(text))
+    } else if word == b"marked".as_slice() {
+        Ok(marked(text))
+    } else if word == b"cut".as_slice() {
+        Ok(cut(text))
+    } else {
+        Ok(None)
+    }
+}

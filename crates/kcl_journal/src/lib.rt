@@ -1,0 +1,15 @@
+//! Lines of a journal as text: read in both versions, printed in the second.
+#![tactic(auto)]
+
+mod laws;
+mod leases;
+mod line;
+mod numbers;
+mod print;
+mod read;
+mod streams;
+
+pub use laws::{journal_limits, one_entry};
+pub use line::{EntryLine, FIRST_RECORD_BYTES, FIRST_VERSION, KEY_BYTES, VERSION};
+pub use print::{print_end, print_entry, print_heading};
+pub use read::{read_end, read_entry};

@@ -1,0 +1,217 @@
+//! Lines of a journal as text of the second version, each made in a room of its own and added whole.
+ghost use Rattle.std.specs.Prelude.{◌≡◌, ◌∷◌, ◌++◌, decimal, true, OnOk, OnErr};
+ghost use Rattle.kcl_journal.specs.Entries.{end_spelling, ended_text, entry_spelling, entry_text, heading, numbers_text, switch_text};
+ghost use Rattle.kcl_journal.specs.Ranges.{is_lease_entry};
+
+use crate::line::EntryLine;
+use kcl_script::{
+    number_field, origin_field, owner_field, target_field, with_key, with_number, with_numbers,
+};
+use kds_base::{Memory, Moment, Octets, Seq, write_u64, write_u128};
+use kds_defs::Entry;
+use std::alloc::Global;
+
+/// Adds a space and the number of a hash key.
+fn hash_field(alloc: Global, hash: u128, to: &mut Octets) -> Result<(), Memory>
+    ensures { OnOk result (to.new ≡ to.old ++ 32 ∷ decimal hash) }
+{
+    to.extend(b" ".as_slice())?;
+    write_u128(alloc, hash, to)
+}
+
+/// Adds three numbers, each after a space.
+fn three_numbers(alloc: Global, n: u64, m: u64, l: u64, to: &mut Octets) -> Result<(), Memory>
+    ensures { OnOk result (to.new ≡ to.old ++ 32 ∷ (decimal n ++ 32 ∷ (decimal m ++ 32 ∷ decimal l))) }
+{
+    number_field(alloc, n, to)?;
+    number_field(alloc, m, to)?;
+    number_field(alloc, l, to)
+}
+
+/// Adds a space, and whether limits are on.
+fn switch_field(on: bool, to: &mut Octets) -> Result<(), Memory>
+    ensures { OnOk result (to.new ≡ to.old ++ 32 ∷ switch_text on) }
+{
+    if on {
+        to.extend(b" on".as_slice())
+    } else {
+        to.extend(b" off".as_slice())
+    }
+}
+
+/// Adds a space, and whether a read ended the shard.
+fn ended_field(end: bool, to: &mut Octets) -> Result<(), Memory>
+    ensures { OnOk result (to.new ≡ to.old ++ 32 ∷ ended_text end) }
+{
+    if end {
+        to.extend(b" end".as_slice())
+    } else {
+        to.extend(b" more".as_slice())
+    }
+}
+
+/// Adds each number after a space.
+fn number_fields(alloc: Global, numbers: &[Seq], to: &mut Octets) -> Result<(), Memory>
+    ensures { OnOk result (to.new ≡ to.old ++ numbers_text numbers.now) }
+{
+    for number in numbers {
+        number_field(alloc, number.0, to)?;
+    }
+    Ok(())
+}
+
+/// Adds the text of an entry of a lease.
+fn fill_lease(alloc: Global, what: &Entry, to: &mut Octets) -> Result<(), Memory>
+    requires { is_lease_entry what.now ≡ true }
+    ensures { OnOk result (to.new ≡ to.old ++ entry_text 2 what.now) }
+{
+    match what {
+        Entry::LeaseMade { key, from } => {
+            with_key(alloc, b"lease".as_slice(), *key, to)?;
+            origin_field(alloc, *from, to)
+        }
+        Entry::Taken {
+            key,
+            tenure,
+            counter,
+            owner,
+        } => {
+            with_key(alloc, b"taken".as_slice(), *key, to)?;
+            number_field(alloc, tenure.0, to)?;
+            number_field(alloc, *counter, to)?;
+            owner_field(alloc, *owner, to)
+        }
+        Entry::Renewed { tenure, counter } => {
+            with_numbers(alloc, b"renewed".as_slice(), tenure.0, *counter, to)
+        }
+        Entry::Freed { tenure, counter } => {
+            with_numbers(alloc, b"freed".as_slice(), tenure.0, *counter, to)
+        }
+        Entry::Opened { tenure } => with_number(alloc, b"opened".as_slice(), tenure.0, to),
+        Entry::Read {
+            tenure,
+            limit,
+            end,
+            numbers,
+        } => {
+            with_numbers(alloc, b"read".as_slice(), tenure.0, *limit as u64, to)?;
+            ended_field(*end, to)?;
+            number_fields(alloc, numbers.as_slice(), to)
+        }
+        Entry::Given { tenure } => with_number(alloc, b"given".as_slice(), tenure.0, to),
+        Entry::Marked {
+            tenure,
+            counter,
+            to: target,
+        } => {
+            with_numbers(alloc, b"marked".as_slice(), tenure.0, *counter, to)?;
+            target_field(alloc, *target, to)
+        }
+        Entry::LeaseCut { key, counter } => {
+            with_key(alloc, b"cut".as_slice(), *key, to)?;
+            number_field(alloc, *counter, to)
+        }
+        _ => unreachable!(),
+    }
+}
+
+/// Adds the text of an entry.
+fn fill_entry(alloc: Global, what: &Entry, to: &mut Octets) -> Result<(), Memory>
+    ensures { OnOk result (to.new ≡ to.old ++ entry_text 2 what.now) }
+{
+    match what {
+        Entry::Made {
+            stream,
+            name,
+            shards,
+        } => {
+            with_number(alloc, b"made".as_slice(), stream.0, to)?;
+            to.extend(b" ".as_slice())?;
+            to.extend(name.bytes())?;
+            number_field(alloc, *shards as u64, to)
+        }
+        Entry::Gone { stream } => with_number(alloc, b"gone".as_slice(), stream.0, to),
+        Entry::Put {
+            stream,
+            shard,
+            seq,
+            hash,
+            bytes,
+            key_bytes,
+        } => {
+            to.extend(b"put".as_slice())?;
+            three_numbers(alloc, stream.0, shard.0, seq.0, to)?;
+            hash_field(alloc, *hash, to)?;
+            number_field(alloc, *bytes, to)?;
+            number_field(alloc, *key_bytes, to)
+        }
+        Entry::Split {
+            stream,
+            shard,
+            at,
+            seq,
+            low,
+            high,
+        } => {
+            with_numbers(alloc, b"split".as_slice(), stream.0, shard.0, to)?;
+            hash_field(alloc, *at, to)?;
+            three_numbers(alloc, seq.0, low.0, high.0, to)
+        }
+        Entry::Merged {
+            stream,
+            shard,
+            other,
+            seq,
+            child,
+        } => {
+            with_numbers(alloc, b"merged".as_slice(), stream.0, shard.0, to)?;
+            three_numbers(alloc, other.0, seq.0, child.0, to)
+        }
+        Entry::Kept { stream, hours } => {
+            with_numbers(alloc, b"kept".as_slice(), stream.0, *hours as u64, to)
+        }
+        Entry::Enforced { stream, on } => {
+            with_number(alloc, b"enforced".as_slice(), stream.0, to)?;
+            switch_field(*on, to)
+        }
+        _ => fill_lease(alloc, what, to),
+    }
+}
+
+/// Adds the text of a line. After `Memory` a front of it may have been added.
+fn fill_line(alloc: Global, line: &EntryLine, to: &mut Octets) -> Result<(), Memory>
+    ensures { OnOk result (to.new ≡ to.old ++ entry_spelling 2 line.now) }
+{
+    write_u64(alloc, line.clock.ms(), to)?;
+    number_field(alloc, line.by as u64, to)?;
+    to.extend(b" ".as_slice())?;
+    fill_entry(alloc, &line.what, to)
+}
+
+/// Adds the first line of a journal's text, without its line feed. After `Memory` nothing was added.
+pub fn print_heading(to: &mut Octets) -> Result<(), Memory>
+    ensures ok { OnOk result (to.new ≡ to.old ++ heading) }
+    ensures err { OnErr result (to.new ≡ to.old) }
+{
+    to.extend(b"journal 2".as_slice())
+}
+
+/// Adds the one text of a line of a journal, without its line feed. After `Memory` nothing was added.
+pub fn print_entry(alloc: Global, line: &EntryLine, to: &mut Octets) -> Result<(), Memory>
+    ensures ok { OnOk result (to.new ≡ to.old ++ entry_spelling 2 line.now) }
+    ensures err { OnErr result (to.new ≡ to.old) }
+{
+    let mut text = Octets::new(alloc);
+    fill_line(alloc, line, &mut text)?;
+    to.extend(text.as_slice())
+}
+
+/// Adds the last line of a journal, without its line feed. After `Memory` nothing was added.
+pub fn print_end(alloc: Global, clock: Moment, to: &mut Octets) -> Result<(), Memory>
+    ensures ok { OnOk result (to.new ≡ to.old ++ end_spelling clock) }
+    ensures err { OnErr result (to.new ≡ to.old) }
+{
+    let mut text = Octets::new(alloc);
+    with_number(alloc, b"end".as_slice(), clock.ms(), &mut text)?;
+    to.extend(text.as_slice())
+}
