@@ -1,0 +1,60 @@
+//! The audit of entries, one after another.
+ghost use Rattle.std.specs.Prelude.{ℕ, ◌≡◌, ◌∷◌, [], IfOk, OnErr, OnOk};
+ghost use Rattle.kds_defs.specs.Journal.{Journal};
+ghost use Rattle.kcl_journal.specs.Ranges.{IsTellable};
+ghost use Rattle.kcl_judge.specs.Standing.{Stands};
+ghost use Rattle.kcl_judge.specs.Verdict.{end_verdict, verdict};
+ghost use Rattle.kcl_audit.specs.Progress.{line_of};
+
+use kcl_journal::EntryLine;
+use kcl_judge::{Judge, Rule};
+use kds_base::{Memory, Moment};
+use std::alloc::Global;
+use std::marker::Model;
+
+/// What is known after the entries of a journal that were good. Contracts see it as its judge.
+#[derive(Drop)]
+pub struct Audit {
+    judge: Judge,
+}
+
+impl Model for Audit {
+    ghost use Rattle.kcl_judge.specs.Standing.{JudgeValue};
+
+    ghost Value = { JudgeValue };
+
+    ghost view = { λ a. a.judge };
+}
+
+impl Audit {
+    /// No entry was judged.
+    pub fn new(alloc: Global) -> Audit
+        ensures { Stands result [] }
+    {
+        Audit {
+            judge: Judge::new(alloc),
+        }
+    }
+
+    /// Judges the next entry of a journal, and keeps it where it is good: `Clock` where its clock is below that of the
+    /// entry before, `By` where the command that it tells is refused, `Entry` where that gives another entry. After a
+    /// rule, and after `Memory`, the entries are as before. Condition: a text can tell the entry.
+    pub fn entry(&mut self, alloc: Global, line: EntryLine) -> Result<Result<(), Rule>, Memory>
+        requires told { (version : ℕ) × IsTellable version line.what }
+        requires stands { (log : Journal) × Stands self.old log }
+        ensures value { (log : Journal) → Stands self.old log → IfOk result (λ r. r ≡ verdict log (line_of line)) }
+        ensures good { (log : Journal) → Stands self.old log → IfOk result (λ r. OnOk r (Stands self.new (line_of line ∷ log))) }
+        ensures bad { (log : Journal) → Stands self.old log → IfOk result (λ r. OnErr r (Stands self.new log)) }
+        ensures kept { (log : Journal) → Stands self.old log → OnErr result (Stands self.new log) }
+    {
+        let EntryLine { clock, by, what } = line;
+        self.judge.entry(alloc, clock, by, what)
+    }
+
+    /// Judges the clock of the journal's last line: `Clock` exactly where it is below that of the last entry.
+    pub fn finish(&self, clock: Moment) -> Result<(), Rule>
+        ensures { (log : Journal) → Stands self.now log → result ≡ end_verdict log clock }
+    {
+        self.judge.finish(clock)
+    }
+}

@@ -1,0 +1,28 @@
+//! What is true of every verdict, and of every audit.
+ghost use Rattle.std.specs.Prelude.{ℕ, List, ◌≡◌, Ok};
+ghost use Rattle.kds_defs.specs.Journal.{Journal, Line};
+ghost use Rattle.kds_defs.specs.Legal.{IsGood};
+ghost use Rattle.kcl_journal.specs.declared.line.EntryLine.{EntryLine};
+ghost use Rattle.kcl_journal.specs.Ranges.{IsTellable};
+ghost use Rattle.kcl_judge.specs.Verdict.{verdict};
+ghost use Rattle.kcl_audit.specs.Progress.{audit_of, line_of, sound};
+ghost use Rattle.kcl_audit.specs.Text.{IsJournal};
+
+use kcl_journal::one_entry;
+use kcl_judge::exact as exact_verdicts;
+
+/// A good line meets no rule; and of the entries that a text can tell, one that meets no rule is good.
+pub fn exact()
+    ensures good { (log : Journal) (line : Line) → IsGood log line → verdict log line ≡ Ok tt }
+    ensures ok { (log : Journal) (v : ℕ) (e : EntryLine) → IsTellable v e.what → verdict log (line_of e) ≡ Ok tt → IsGood log (line_of e) }
+{
+    exact_verdicts();
+}
+
+/// Bytes whose audit is sound are the text of a legal journal of so many entries, and its last line.
+pub fn legal()
+    ensures { (bytes : List ℕ) (n : ℕ) → audit_of bytes ≡ sound n → IsJournal bytes n }
+{
+    exact_verdicts();
+    one_entry();
+}

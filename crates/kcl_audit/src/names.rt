@@ -1,0 +1,90 @@
+//! The names of rules, and the lines that tell what an audit found.
+ghost use Rattle.std.specs.Prelude.{◌≡◌, ◌++◌, OnErr, OnOk};
+ghost use Rattle.kcl_script.specs.Answers.{refusal_name as name_of};
+ghost use Rattle.kcl_audit.specs.Text.{named_text, rule_name as name_of_rule, sound_text};
+
+use kcl_judge::Rule;
+use kcl_script::with_number;
+use kds_base::{Memory, Octets};
+use kds_defs::Refusal;
+use std::alloc::Global;
+
+/// The name of a refusal, without its value.
+fn refusal_name(refusal: &Refusal) -> &'static str
+    ensures { result.now ≡ name_of refusal.now }
+{
+    match refusal {
+        Refusal::NoStream => "NoStream",
+        Refusal::StreamThere => "StreamThere",
+        Refusal::NoShard => "NoShard",
+        Refusal::ShardClosed => "ShardClosed",
+        Refusal::NotAdjacent => "NotAdjacent",
+        Refusal::BadSplit => "BadSplit",
+        Refusal::BadNumber => "BadNumber",
+        Refusal::BadRetention => "BadRetention",
+        Refusal::Expired => "Expired",
+        Refusal::PageExpired => "PageExpired",
+        Refusal::Full => "Full",
+        Refusal::Spent => "Spent",
+        Refusal::Throttled(_) => "Throttled",
+        Refusal::NoLease => "NoLease",
+        Refusal::NoTenure => "NoTenure",
+        Refusal::NotYours => "NotYours",
+        Refusal::Lost(_) => "Lost",
+        Refusal::Moved(_) => "Moved",
+        Refusal::Ended => "Ended",
+        Refusal::Beyond(_) => "Beyond",
+        Refusal::Below(_) => "Below",
+        Refusal::NotAtEnd => "NotAtEnd",
+        Refusal::ParentsOpen(_) => "ParentsOpen",
+        Refusal::NotOpened => "NotOpened",
+        Refusal::OpenedBefore => "OpenedBefore",
+        Refusal::NothingPending => "NothingPending",
+        Refusal::TooManyPending => "TooManyPending",
+        Refusal::OutOfPlace(_) => "OutOfPlace",
+        Refusal::ShardGone => "ShardGone",
+        Refusal::LeaseThere => "LeaseThere",
+        Refusal::ShardListed => "ShardListed",
+    }
+}
+
+/// The name of a rule as an audit tells it; of a refusal, without its value.
+pub fn rule_name(rule: &Rule) -> &'static str
+    ensures { result.now ≡ name_of_rule rule.now }
+{
+    match rule {
+        Rule::Form => "Form",
+        Rule::Clock => "Clock",
+        Rule::Entry => "Entry",
+        Rule::By(refusal) => refusal_name(refusal),
+    }
+}
+
+/// Adds the line that tells a bad entry. After `Memory` a front of it may have been added.
+fn fill_unsound(alloc: Global, number: u64, name: &str, to: &mut Octets) -> Result<(), Memory>
+    ensures { OnOk result (to.new ≡ to.old ++ named_text number name.now) }
+{
+    with_number(alloc, b"entry".as_slice(), number, to)?;
+    to.extend(b" ".as_slice())?;
+    to.extend(name.as_bytes())?;
+    to.extend(b"\n".as_slice())
+}
+
+/// Adds the line that tells the number of a bad entry, from 1, and the name of its rule. After `Memory` nothing was
+/// added.
+pub fn print_unsound(alloc: Global, number: u64, name: &str, to: &mut Octets) -> Result<(), Memory>
+    ensures ok { OnOk result (to.new ≡ to.old ++ named_text number name.now) }
+    ensures err { OnErr result (to.new ≡ to.old) }
+{
+    let mut line = Octets::new(alloc);
+    fill_unsound(alloc, number, name, &mut line)?;
+    to.extend(line.as_slice())
+}
+
+/// Adds the line that tells that so many entries are sound. After `Memory` a front of it may have been added.
+pub fn print_sound(alloc: Global, number: u64, to: &mut Octets) -> Result<(), Memory>
+    ensures { OnOk result (to.new ≡ to.old ++ sound_text number) }
+{
+    with_number(alloc, b"sound".as_slice(), number, to)?;
+    to.extend(b"\n".as_slice())
+}
