@@ -6,8 +6,6 @@ mod ahead;
 pub mod consumer;
 pub mod processor;
 mod stage;
-#[cfg(test)]
-mod tests;
 
 pub use ahead::Ahead;
 pub use consumer::{Consumer, life};

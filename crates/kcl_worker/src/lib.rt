@@ -5,8 +5,6 @@ mod answers;
 mod laws;
 mod nexts;
 mod round;
-#[cfg(test)]
-mod tests;
 mod worker;
 
 pub use kcl_defs::Settings;

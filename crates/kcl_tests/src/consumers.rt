@@ -1,5 +1,5 @@
 //! A processor whose calls are refused memory once: the same call is due until it is granted.
-use crate::{Ahead, Consumer, Due, Processor};
+use kcl_consumer::{Ahead, Consumer, Due, Processor};
 use kcl_defs::Ask;
 use kds_base::{
     Checkpoint, Items, Memory, Moment, Octets, Seq, ShardNo, ShardRef, StreamNo, TenureNo,

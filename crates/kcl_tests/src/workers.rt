@@ -1,9 +1,9 @@
 //! Want of memory hands the answer back, and the worker takes it again; then a stop to its end.
 ghost use Rattle.std.specs.Prelude.{◌≡◌, None, IsSome};
 
-use crate::{NoRoom, Worker};
 use kcl_consumer::{Maker, Processor};
 use kcl_defs::{Ask, Due, Settings, Why};
+use kcl_worker::{NoRoom, Worker};
 use kds_base::{
     Checkpoint, Items, Memory, Moment, Seq, ShardNo, ShardRef, StreamNo, TenureNo, WorkerNo,
 };

@@ -1,0 +1,119 @@
+//! Journals as text, against worked rows.
+ghost use Rattle.kcl_journal.specs.Entries.{IsVersion};
+
+use kcl_journal::{
+    FIRST_VERSION, VERSION, one_entry, print_end, print_entry, print_heading, read_end, read_entry,
+};
+use kds_base::{Memory, Octets};
+use std::alloc::Global;
+use std::test::Fail;
+
+/// A lease that is robbed, and each other entry.
+const LINES: [&str; 22] = [
+    "1000 0 made 1 s 1",
+    "2000 0 put 1 0 1 16955237001963240173058271559858726497 2 1",
+    "2000 0 put 1 0 2 16955237001963240173058271559858726497 2 1",
+    "3000 1 lease 1/0",
+    "3000 1 taken 1/0 1 1 w1",
+    "3000 1 opened 1",
+    "3000 1 read 1 10 more 1 2",
+    "3000 2 taken 1/0 2 2 w2",
+    "3000 1 given 1",
+    "1000 0 put 1 0 1 340282366920938463463374607431768211455 10485759 1",
+    "2000 0 split 2 0 340282366920938463463374607431768211455 18446744073709551615 1 2",
+    "2000 0 merged 2 1 2 3 4",
+    "2000 0 kept 2 8760",
+    "2000 0 enforced 2 on",
+    "2000 0 enforced 2 off",
+    "3000 999 lease 1/0 latest",
+    "3000 1000 lease 1/0 time 4611686018427387903",
+    "3000 4294967295 renewed 1 18446744073709551615",
+    "3000 1 freed 1 5",
+    "3000 1 marked 1 3 end",
+    "3000 1 read 2 10000 end",
+    "4611686018427387903 1 cut 1/0 5",
+];
+
+/// Texts that are no entry of the second version.
+const OTHERS: [&str; 13] = [
+    "journal 2",
+    "end 3000",
+    "1000 0 put 1 0 1 5 2",
+    "1000 0 put 1 0 1 5 2 0",
+    "1000 0 put 1 0 1 5 2 1025",
+    "1000 0 put 1 0 1 5 10485760 1",
+    "1000 0 made 1 s 501",
+    "1000 0 kept 1 23",
+    "1000 1 renewed 1 0",
+    "1000 1 taken 1/0 1 1 w0",
+    "1000 1 read 1 10 1 2",
+    "01000 0 gone 1",
+    "1000 0 gone 1 ",
+];
+
+/// The text of the line that a text is.
+fn again(alloc: Global, text: &[u8], version: u8) -> Result<Option<Octets>, Memory>
+    requires { IsVersion version }
+{
+    match read_entry(alloc, text, version)? {
+        Some(line) => {
+            let mut to = Octets::new(alloc);
+            print_entry(alloc, &line, &mut to)?;
+            Ok(Some(to))
+        }
+        None => Ok(None),
+    }
+}
+
+#[test]
+fn entries(rt: HostRuntime) -> Result<(), Fail> {
+    one_entry();
+    for text in LINES {
+        match again(rt.alloc(), text.as_bytes(), VERSION)? {
+            Some(to) => assert!(rt; to.as_slice() == text.as_bytes(), "of {text}"),
+            None => assert!(rt; false, "of {text}"),
+        }
+    }
+    for text in OTHERS {
+        let none = again(rt.alloc(), text.as_bytes(), VERSION)?.is_none();
+        assert!(rt; none, "of {text}");
+    }
+    Ok(())
+}
+
+#[test]
+fn versions(rt: HostRuntime) -> Result<(), Fail> {
+    let first = b"1000 0 put 1 0 1 5 1048576".as_slice();
+    match again(rt.alloc(), first, FIRST_VERSION)? {
+        Some(to) => assert!(rt; to.as_slice() == b"1000 0 put 1 0 1 5 1048576 0".as_slice()),
+        None => assert!(rt; false),
+    }
+    let more = again(
+        rt.alloc(),
+        b"1000 0 put 1 0 1 5 1048577".as_slice(),
+        FIRST_VERSION,
+    )?;
+    assert!(rt; more.is_none());
+    let second = again(
+        rt.alloc(),
+        b"1000 0 put 1 0 1 5 2 1".as_slice(),
+        FIRST_VERSION,
+    )?;
+    assert!(rt; second.is_none());
+    Ok(())
+}
+
+#[test]
+fn ends(rt: HostRuntime) -> Result<(), Fail> {
+    let mut to = Octets::new(rt.alloc());
+    print_heading(&mut to)?;
+    assert!(rt; to.as_slice() == b"journal 2".as_slice());
+    match read_end(b"end 3000".as_slice()) {
+        Some(clock) => print_end(rt.alloc(), clock, &mut to)?,
+        None => assert!(rt; false),
+    }
+    assert!(rt; to.as_slice() == b"journal 2end 3000".as_slice());
+    assert!(rt; read_end(b"end 03000".as_slice()).is_none());
+    assert!(rt; read_end(b"journal 2".as_slice()).is_none());
+    Ok(())
+}
