@@ -1,0 +1,4 @@
+mod Ends
+mod Telling
+mod Outcomes
+mod Safely
