@@ -7,6 +7,7 @@ pub mod Floors
 pub mod Keys
 pub mod LeaseLines
 pub mod LiveStreams
+pub mod OrderSteps
 pub mod Others
 pub mod RateSteps
 pub mod ReadTold

@@ -1,5 +1,6 @@
 //! The records of a stream, as a judge keeps them.
-ghost use Rattle.std.specs.Prelude.{◌≡◌, ◌==◌, ◌&&◌, IfOk};
+ghost use Rattle.std.specs.Prelude.{ℕ, ◌≡◌, ◌==◌, ◌&&◌, IfOk};
+ghost use Rattle.std.specs.List.Sorted.{IsNonDecreasingBy};
 ghost use Rattle.kds_defs.specs.Rates.{is_same_second, is_throttled, is_too_much};
 ghost use Rattle.kds_defs.specs.declared.limits.TheConstants.{BATCH_BYTES};
 ghost use Rattle.kds_defs.specs.Listings.{are_none};
@@ -24,6 +25,15 @@ fn is_left(item: &Sized, shard: ShardNo, floor: u64, position: u64) -> bool
     ensures { result ≡ (item.now.shard == shard && is_left floor position (logged item.now)) }
 {
     item.shard == shard && item.arrival.ms() >= floor && item.seq.0 >= position
+}
+
+/// The records from the first whose number is at or above the position on. Their numbers don't fall.
+pub fn from_position(records: &[Sized], position: u64) -> &[Sized]
+    requires { IsNonDecreasingBy (λ r. r.seq) records.now }
+    ensures { (shard floor : ℕ) → left_among floor position (records_in result.now shard) ≡ left_among floor position (records_in records.now shard) }
+{
+    let start = records.partition_point(|item| item.seq.0 < position);
+    &records[start..]
 }
 
 /// The numbers of a batch of a shard at a position (Kinesis API Reference, GetRecords).

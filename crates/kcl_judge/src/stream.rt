@@ -13,7 +13,7 @@ ghost use Rattle.kcl_judge.specs.declared.rule.Rule.TheVariants as rule;
 ghost use Rattle.kcl_judge.specs.Judging.{agrees, is_spent, merge_verdict, new_stream, position_in, put_verdict, refused, split_verdict, with_gone, with_hours, with_limits, with_merge, with_put, with_split};
 ghost use Rattle.kcl_judge.specs.Standing.{floor_in, is_listed_in, records_in};
 
-use crate::records::{Sized, batch, first_since, is_throttled, none_left};
+use crate::records::{Sized, batch, first_since, from_position, is_throttled, none_left};
 use crate::rule::Rule;
 use kds_base::{Items, Memory, Moment, Name, Seq, ShardNo};
 use kds_defs::limits::{FIRST_HOURS, HOUR};
@@ -42,11 +42,12 @@ pub struct Stream {
 impl Model for Stream {
     ghost use Rattle.std.specs.Prelude.{◌-◌, ◌<◌, ◌≤◌, ◌^◌};
     ghost use Rattle.std.specs.List.{AllByRecursion};
+    ghost use Rattle.kcl_judge.specs.Order.{AreNumbered};
     ghost use Rattle.kcl_judge.specs.Standing.{StreamValue};
 
     ghost Value = { StreamValue };
 
-    ghost invariant = { λ s. (s.floor ≤ 2 ^ 62) × AllByRecursion (λ r. r.seq < 2 ^ 64 - 1) s.records.items };
+    ghost invariant = { λ s. (s.floor ≤ 2 ^ 62) × (AllByRecursion (λ r. r.seq < 2 ^ 64 - 1) s.records.items × AreNumbered s.next s.records.items) };
 
     ghost view = { λ s. record { name = s.name; live = s.live; enforced = s.enforced; hours = s.hours; floor = s.floor; next = s.next; tree = s.tree.shards; records = s.records.items } };
 }
@@ -247,13 +248,14 @@ impl Stream {
         ensures end { IfOk result (λ r. r.1 ≡ (is_closed_at (slice_get self.now.tree shard) && are_none (left_among (floor_in self.now clock) (place_after position r.0) (records_in self.now.records shard)))) }
     {
         let floor = self.floor(clock);
-        let numbers = batch(alloc, &self.records, shard, floor, position, limit)?;
+        let ahead = from_position(&self.records, position);
+        let numbers = batch(alloc, ahead, shard, floor, position, limit)?;
         let place = place_after(position, numbers.as_slice());
         let closed = match self.tree.shard(shard) {
             Some(shown) => shown.end.is_some(),
             None => false,
         };
-        let end = closed && none_left(&self.records, shard, floor, place);
+        let end = closed && none_left(from_position(&self.records, place), shard, floor, place);
         Ok((numbers, end))
     }
 
