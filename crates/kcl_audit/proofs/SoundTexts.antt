@@ -83,13 +83,14 @@ closed_so count (t ∷ ts) n h = absurd (found_stays (next (next count)) rule.Fo
 record AreSound (v : ℕ) (log : Journal) (count : ℕ) (texts : List (List ℕ)) (n : ℕ) : Type 0 where
   entries : List EntryLine
   end : ℕ
+  in_time : end < 2 ^ 62
   text : lines_text texts ≡ flat_map (λ e. with_feed (entry_spelling v e)) entries ++ with_feed (end_spelling end)
   many : n ≡ counted count entries
   good : AllByRecursion (IsEntryLine v) entries
   legal : IsLegal (with_lines (map line_of entries) log)
   order : last_clock (with_lines (map line_of entries) log) ≤ end
 
-lines_are : (xs : List Line) (log : Journal) → with_lines xs log ≡ reverse xs ++ log
+pub lines_are : (xs : List Line) (log : Journal) → with_lines xs log ≡ reverse xs ++ log
 lines_are [] log = refl
 lines_are (x ∷ xs) log = lines_are xs (x ∷ log) ∙ sym (append_assoc (reverse xs) (x ∷ []) log) ∙ ap (λ ys. ys ++ log) (sym (reverse-append (x ∷ []) xs))
 
@@ -110,6 +111,7 @@ module _ (reads : (v : ℕ) (text : List ℕ) (line : EntryLine) → entry_of v 
             ∙ ap (λ r. with_feed (entry_spelling v e) ++ r) s.text
             ∙ sym (append_assoc (with_feed (entry_spelling v e)) (flat_map (λ x. with_feed (entry_spelling v x)) s.entries) (with_feed (end_spelling s.end)));
         many = s.many;
+        in_time = s.in_time;
         good = (its.0, s.good);
         legal = s.legal;
         order = s.order;
@@ -126,6 +128,7 @@ module _ (reads : (v : ℕ) (text : List ℕ) (line : EntryLine) → entry_of v 
         end = c;
         text = ap (λ ts. with_feed text ++ lines_text ts) so.0 ∙ append-nil (with_feed text) ∙ ap with_feed (end_reads text c read).1;
         many = so.1;
+        in_time = (end_reads text c read).0;
         good = tt;
         legal = legal;
         order = below c (last_clock log) is;
@@ -158,6 +161,7 @@ module _ (reads : (v : ℕ) (text : List ℕ) (line : EntryLine) → entry_of v 
         entries = s.entries;
         end = s.end;
         is_version = version;
+        in_time = s.in_time;
         lines = s.good;
         legal = subst IsLegal its s.legal;
         order = subst (λ log. last_clock log ≤ s.end) its s.order;

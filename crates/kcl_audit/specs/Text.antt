@@ -1,5 +1,5 @@
 -- The text of a journal, and what is written of an audit.
-use Rattle.std.specs.Prelude.{ℕ, ◌≤◌, ◌≡◌, List, [], ◌∷◌, ◌++◌, map, reverse, flat_map, codes, decimal, if◌then◌else◌}
+use Rattle.std.specs.Prelude.{ℕ, ◌≤◌, ◌<◌, ◌^◌, ◌≡◌, List, [], ◌∷◌, ◌++◌, map, reverse, flat_map, codes, decimal, if◌then◌else◌}
 use Rattle.std.specs.List.{AllByRecursion}
 use Rattle.kds_defs.specs.Journal.{Journal}
 use Rattle.kds_defs.specs.Legal.{IsLegal, last_clock}
@@ -38,6 +38,7 @@ pub record IsJournal (bytes : List ℕ) (count : ℕ) : Type 0 where
   pub entries : List EntryLine
   pub end : ℕ
   pub is_version : IsVersion version
+  pub in_time : end < 2 ^ 62
   pub lines : AllByRecursion (IsEntryLine version) entries
   pub legal : IsLegal (journal_of entries)
   pub order : last_clock (journal_of entries) ≤ end

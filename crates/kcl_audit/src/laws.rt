@@ -1,11 +1,12 @@
 //! What is true of every verdict, and of every audit.
-ghost use Rattle.std.specs.Prelude.{ℕ, List, ◌≡◌, Ok};
+ghost use Rattle.std.specs.Prelude.{ℕ, List, ◌≡◌, ◌≢◌, Ok};
 ghost use Rattle.kds_defs.specs.Journal.{Journal, Line};
 ghost use Rattle.kds_defs.specs.Legal.{IsGood};
 ghost use Rattle.kcl_journal.specs.declared.line.EntryLine.{EntryLine};
 ghost use Rattle.kcl_journal.specs.Ranges.{IsTellable};
 ghost use Rattle.kcl_judge.specs.Verdict.{verdict};
-ghost use Rattle.kcl_audit.specs.Progress.{audit_of, line_of, sound};
+ghost use Rattle.kds_lines.specs.Lines.{lined, too_long};
+ghost use Rattle.kcl_audit.specs.Progress.{audit_of, line_of, over, sound};
 ghost use Rattle.kcl_audit.specs.Text.{IsJournal};
 
 use kcl_journal::one_entry;
@@ -22,6 +23,15 @@ pub fn exact()
 /// Bytes whose audit is sound are the text of a legal journal of so many entries, and its last line.
 pub fn legal()
     ensures { (bytes : List ℕ) (n : ℕ) → audit_of bytes ≡ sound n → IsJournal bytes n }
+{
+    exact_verdicts();
+    one_entry();
+}
+
+/// The text of a legal journal, and its last line, is found sound, unless a line or the input is too long.
+pub fn complete()
+    ensures sounds { (bytes : List ℕ) (n : ℕ) → IsJournal bytes n → audit_of bytes ≢ over → audit_of bytes ≡ sound n }
+    ensures lengths { (bytes : List ℕ) → audit_of bytes ≡ over → (lined bytes).end ≡ too_long }
 {
     exact_verdicts();
     one_entry();

@@ -8,5 +8,5 @@ mod names;
 
 pub use audit::Audit;
 pub use kcl_judge::Rule;
-pub use laws::{exact, legal};
+pub use laws::{complete, exact, legal};
 pub use names::{print_sound, print_unsound, rule_name};
