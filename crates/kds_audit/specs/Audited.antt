@@ -39,6 +39,10 @@ pub record IsSafely (bytes : List ℕ) : Type 0 where
   pub journal : IsJournal bytes count
   pub safe : IsSafe (journal_of journal.entries) journal.end
 
+-- they are the text of no legal journal and its last line
+abbrev pub IsNoJournal : List ℕ → Type 0
+IsNoJournal bytes = (n : ℕ) → IsJournal bytes n → ⊥
+
 -- Where the lines end and an audit ends so, behind what was written along them: with Done and Unsound the rest of what
 -- it says was written, with Write a front of that, with Memory nothing.
 abbrev pub TellsEnd : Status → AuditEnd → List ℕ → Option (List ℕ) → Option (List ℕ) → Type 0

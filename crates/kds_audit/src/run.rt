@@ -6,9 +6,9 @@ ghost use Rattle.kds_lines.specs.Telling.{Told};
 ghost use Rattle.kcl_audit.specs.Progress.{finish, progress};
 ghost use Rattle.kcl_audit.specs.Text.{report};
 ghost use Rattle.kcl_auditor.specs.Standing.{IsOver, Took, end_by, texts_report};
-ghost use Rattle.kds_audit.specs.Audited.{IsAuditStatus, IsSafely, TellsAudit, TellsEnd};
+ghost use Rattle.kds_audit.specs.Audited.{IsAuditStatus, IsNoJournal, IsSafely, TellsAudit, TellsEnd};
 
-use kcl_audit::legal;
+use kcl_audit::{complete, legal};
 use kcl_auditor::AuditTaker;
 use kcl_laws::step;
 use kds_base::Octets;
@@ -76,13 +76,16 @@ fn end_audit<K: Sink>(alloc: Global, taker: &AuditTaker, outcome: Outcome, out: 
 pub fn run_audit<S: Source, K: Sink>(alloc: Global, input: &mut S, out: &mut K) -> Status
     ensures told { IfSome (S.left input.old) (λ bytes. TellsAudit result bytes (K.held out.old) (K.held out.new)) }
 
-    // A sound text is that of a legal journal, and the state that it tells is safe, at its last line's clock.
+    // A sound text is that of a legal journal, and the state that it tells is safe, at its last line's clock. The text of a
+    // legal journal isn't found unsound.
     ensures safe { result ≡ Status.Done → IfSome (S.left input.old) IsSafely }
+    ensures legal { result ≡ Status.Unsound → IfSome (S.left input.old) IsNoJournal }
     ensures read { result ≡ Status.Read → Rose (S.faults input.old) (S.faults input.new) }
     ensures write { result ≡ Status.Write → Rose (K.faults out.old) (K.faults out.new) }
     ensures kinds { IsAuditStatus result }
 {
     legal();
+    complete();
     step();
     let mut taker = AuditTaker::new(alloc);
     let outcome = read_lines(alloc, &mut taker, input, out);
