@@ -80,6 +80,13 @@ impl<M: Machine> Sim<M> {
         self.clock
     }
 
+    /// The machine, which stands for the turns that ran.
+    pub fn machine(&self) -> &M
+        ensures { M.stands_for result.now self.now.history }
+    {
+        &self.machine
+    }
+
     /// Applies a turn, and adds it to those that ran. After `Memory` neither was done.
     pub(crate) fn run(&mut self, alloc: Global, turn: Turn) -> Result<Answer, Memory>
         requires { IsLawful turn }
