@@ -2,7 +2,7 @@
 use Rattle.std.specs.Prelude.{◌≡◌, ℕ, ◌+◌, List, [], ◌∷◌, ◌++◌, length}
 use Rattle.std.specs.declared.option.Option.{Option}
 use Rattle.std.specs.Io.KnownBytes.{Consumes}
-use Rattle.kds_lines.specs.Lines.{Fed, Begins, IsTooLong, lined}
+use Rattle.kds_lines.specs.Lines.{Fed, Begins, IsTooLong, NoFeed, lined}
 use Rattle.kds_lines.specs.Telling.{Unwritten}
 use Rattle.kds_lines.specs.Writing.{Wrote}
 use Rattle.kds_lines.specs.declared.outcome.Outcome.{Outcome}
@@ -42,6 +42,36 @@ pub record FedLines (took : List (List ℕ) → Type 0) (output : List (List ℕ
   pub parts : piece ≡ front ++ rest
   pub stands : Stands took output (fed ++ front) reading start now
 
+-- ---- one step of a reading, whatever was fed before it, from what the taker took and the sink held to what they do now
+
+module _ (took took_now : List (List ℕ) → Type 0) (output : List (List ℕ) → List ℕ) (before after : Reading) (held now : Option (List ℕ)) where
+  -- these bytes are fed too
+  abbrev pub Feeds : List ℕ → Type 0
+  Feeds piece = (fed : List ℕ) (start : Option (List ℕ)) → Stands took output fed before start held → Stands took_now output (fed ++ piece) after start now
+
+  -- a front of the piece is fed too, and this is its rest
+  abbrev pub FeedsFront : List ℕ → List ℕ → Type 0
+  FeedsFront piece rest = (fed : List ℕ) (start : Option (List ℕ)) → Stands took output fed before start held → FedLines took_now output fed piece rest after start now
+
+  -- the line that is held comes to its end by these bytes and a line feed
+  abbrev pub EndsLine : List ℕ → Type 0
+  EndsLine tail =
+      (fed : List ℕ) (start : Option (List ℕ)) → Stands took output fed before start held → NoFeed tail
+      → Stands took_now output (fed ++ (tail ++ 10 ∷ [])) after start now
+
+  module _ (refuses : List (List ℕ) → List ℕ → Type 0) where
+    -- it stops so in this piece
+    abbrev pub StopsIn : Outcome → List ℕ → Type 0
+    StopsIn outcome piece =
+        (fed : List ℕ) (start : Option (List ℕ)) → Stands took output fed before start held
+        → Halted outcome took_now refuses output (fed ++ piece) after.output start now
+
+    -- it stops so in this line
+    abbrev pub StopsInLine : Outcome → List ℕ → Type 0
+    StopsInLine outcome tail =
+        (fed : List ℕ) (start : Option (List ℕ)) → Stands took output fed before start held → NoFeed tail
+        → Halted outcome took_now refuses output (fed ++ (tail ++ 10 ∷ [])) after.output start now
+
 -- how many bytes were fed
 abbrev pub fed_count : Reading → ℕ
 fed_count reading = reading.used + length reading.held
@@ -58,6 +88,16 @@ pub record HaltedAfter (outcome : Outcome) (took : List (List ℕ) → Type 0) (
   pub fed : List ℕ
   pub consumed : Consumes all left fed
   pub halted : Halted outcome took refuses output fed [] start now
+
+-- ---- a read and all that follows from it, from what was left of the source to what is left now
+
+module _ (took took_now : List (List ℕ) → Type 0) (output : List (List ℕ) → List ℕ) (left left_now held now : Option (List ℕ)) where
+  abbrev pub RunsOn : Reading → Reading → Type 0
+  RunsOn before after = (all start : Option (List ℕ)) → Running took output all left before start held → Running took_now output all left_now after start now
+
+  abbrev pub StopsRunning : (List (List ℕ) → List ℕ → Type 0) → Outcome → Reading → Type 0
+  StopsRunning refuses outcome before =
+      (all start : Option (List ℕ)) → Running took output all left before start held → HaltedAfter outcome took_now refuses output all left_now start now
 
 -- why bytes that end no line are not held
 abbrev pub HoldStops : Outcome → List ℕ → List (List ℕ) → Type 0

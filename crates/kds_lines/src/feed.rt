@@ -4,7 +4,7 @@ ghost use Rattle.std.specs.declared.option.Option.{Option};
 ghost use Rattle.kds_ends.specs.Causes.{Rose};
 ghost use Rattle.kds_defs.specs.declared.limits.TheConstants.{LINE_BYTES};
 ghost use Rattle.kds_lines.specs.Lines.{NoFeed, HasFeedAt, Fed, is_over};
-ghost use Rattle.kds_lines.specs.Reading.{Stands, Halted, FedLines, HoldStops, IsOwnStop, IsFeedStop, fed_count};
+ghost use Rattle.kds_lines.specs.Reading.{EndsLine, Feeds, FeedsFront, HoldStops, IsOwnStop, IsFeedStop, StopsIn, StopsInLine, fed_count};
 ghost use Rattle.kds_lines.specs.Taking.{Goes, Breaks};
 
 use crate::outcome::Outcome;
@@ -70,10 +70,10 @@ fn end_line<T: Taker>(
     reading: &mut Reading,
     tail: &[u8],
 ) -> Result<(), Outcome>
-    ensures ok { OnOk result ((fed : List ℕ) (start now : Option (List ℕ)) → Stands (T.took taker.old) T.output fed reading.old start now
-        → NoFeed tail.now → Stands (T.took taker.new) T.output (fed ++ (tail.now ++ 10 ∷ [])) reading.new start now) }
-    ensures err { IfErr result (λ o. (fed : List ℕ) (start now : Option (List ℕ)) → Stands (T.took taker.old) T.output fed reading.old start now
-        → NoFeed tail.now → Halted o (T.took taker.new) T.refuses T.output (fed ++ (tail.now ++ 10 ∷ [])) reading.new.output start now) }
+    ensures ok { OnOk result ((held : Option (List ℕ)) →
+        EndsLine (T.took taker.old) (T.took taker.new) T.output reading.old reading.new held held tail.now) }
+    ensures err { IfErr result (λ o. (held : Option (List ℕ)) →
+        StopsInLine (T.took taker.old) (T.took taker.new) T.output reading.old reading.new held held T.refuses o tail.now) }
     ensures count { OnOk result (fed_count reading.new ≡ fed_count reading.old + length tail.now + 1) }
     ensures kinds { IfErr result IsOwnStop }
 {
@@ -103,10 +103,10 @@ fn next_line<T: Taker, K: Sink>(
     tail: &[u8],
     out: &mut K,
 ) -> Result<(), Outcome>
-    ensures ok { OnOk result ((fed : List ℕ) (start : Option (List ℕ)) → Stands (T.took taker.old) T.output fed reading.old start (K.held out.old)
-        → NoFeed tail.now → Stands (T.took taker.new) T.output (fed ++ (tail.now ++ 10 ∷ [])) reading.new start (K.held out.new)) }
-    ensures err { IfErr result (λ o. (fed : List ℕ) (start : Option (List ℕ)) → Stands (T.took taker.old) T.output fed reading.old start (K.held out.old)
-        → NoFeed tail.now → Halted o (T.took taker.new) T.refuses T.output (fed ++ (tail.now ++ 10 ∷ [])) reading.new.output start (K.held out.new)) }
+    ensures ok { OnOk result
+        (EndsLine (T.took taker.old) (T.took taker.new) T.output reading.old reading.new (K.held out.old) (K.held out.new) tail.now) }
+    ensures err { IfErr result (λ o.
+        StopsInLine (T.took taker.old) (T.took taker.new) T.output reading.old reading.new (K.held out.old) (K.held out.new) T.refuses o tail.now) }
     ensures count { OnOk result (fed_count reading.new ≡ fed_count reading.old + length tail.now + 1) }
     ensures later { K.faults out.old ≤ K.faults out.new }
     ensures write { IsErrOf result Outcome.Write → Rose (K.faults out.old) (K.faults out.new) }
@@ -127,12 +127,12 @@ fn feed_lines<'a, T: Taker, K: Sink>(
     piece: &'a [u8],
     out: &mut K,
 ) -> Result<&'a [u8], Outcome>
-    ensures ok { IfOk result (λ rest. (fed : List ℕ) (start : Option (List ℕ)) → Stands (T.took taker.old) T.output fed reading.old start (K.held out.old)
-        → FedLines (T.took taker.new) T.output fed piece.entry.now rest.now reading.new start (K.held out.new)) }
+    ensures ok { IfOk result (λ rest.
+        FeedsFront (T.took taker.old) (T.took taker.new) T.output reading.old reading.new (K.held out.old) (K.held out.new) piece.entry.now rest.now) }
     ensures rest { IfOk result (λ rest. NoFeed rest.now) }
     ensures count { IfOk result (λ rest. fed_count reading.new + length rest.now ≡ fed_count reading.old + length piece.entry.now) }
-    ensures err { IfErr result (λ o. (fed : List ℕ) (start : Option (List ℕ)) → Stands (T.took taker.old) T.output fed reading.old start (K.held out.old)
-        → Halted o (T.took taker.new) T.refuses T.output (fed ++ piece.entry.now) reading.new.output start (K.held out.new)) }
+    ensures err { IfErr result (λ o.
+        StopsIn (T.took taker.old) (T.took taker.new) T.output reading.old reading.new (K.held out.old) (K.held out.new) T.refuses o piece.entry.now) }
     ensures later { K.faults out.old ≤ K.faults out.new }
     ensures write { IsErrOf result Outcome.Write → Rose (K.faults out.old) (K.faults out.new) }
     ensures kinds { IfErr result IsFeedStop }
@@ -178,11 +178,11 @@ pub fn feed<T: Taker, K: Sink>(
     piece: &[u8],
     out: &mut K,
 ) -> Result<(), Outcome>
-    ensures ok { OnOk result ((fed : List ℕ) (start : Option (List ℕ)) → Stands (T.took taker.old) T.output fed reading.old start (K.held out.old)
-        → Stands (T.took taker.new) T.output (fed ++ piece.now) reading.new start (K.held out.new)) }
+    ensures ok { OnOk result
+        (Feeds (T.took taker.old) (T.took taker.new) T.output reading.old reading.new (K.held out.old) (K.held out.new) piece.now) }
     ensures count { OnOk result (fed_count reading.new ≡ fed_count reading.old + length piece.now) }
-    ensures err { IfErr result (λ o. (fed : List ℕ) (start : Option (List ℕ)) → Stands (T.took taker.old) T.output fed reading.old start (K.held out.old)
-        → Halted o (T.took taker.new) T.refuses T.output (fed ++ piece.now) reading.new.output start (K.held out.new)) }
+    ensures err { IfErr result (λ o.
+        StopsIn (T.took taker.old) (T.took taker.new) T.output reading.old reading.new (K.held out.old) (K.held out.new) T.refuses o piece.now) }
     ensures later { K.faults out.old ≤ K.faults out.new }
     ensures write { IsErrOf result Outcome.Write → Rose (K.faults out.old) (K.faults out.new) }
     ensures kinds { IfErr result IsFeedStop }

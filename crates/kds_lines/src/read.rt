@@ -3,7 +3,7 @@ ghost use Rattle.std.specs.Prelude.{◌≡◌, ◌<◌, ◌≤◌, [], List, ℕ
 ghost use Rattle.std.specs.declared.option.Option.{Option};
 ghost use Rattle.std.specs.Io.KnownBytes.{IsAtEnd};
 ghost use Rattle.kds_ends.specs.Causes.{Rose};
-ghost use Rattle.kds_lines.specs.Reading.{Running, HaltedAfter, IsStop, fed_count};
+ghost use Rattle.kds_lines.specs.Reading.{RunsOn, StopsRunning, IsStop, fed_count};
 ghost use Rattle.kds_lines.specs.Telling.{Told};
 
 use crate::feed::feed;
@@ -26,14 +26,12 @@ fn step<T: Taker, S: Source, K: Sink>(
     out: &mut K,
 ) -> Result<bool, Outcome>
     requires { 0 < length room.old }
-    ensures goes_on { IfOk result (λ more. (all start : Option (List ℕ))
-        → Running (T.took taker.old) T.output all (S.left input.old) reading.old start (K.held out.old)
-        → Running (T.took taker.new) T.output all (S.left input.new) reading.new start (K.held out.new)) }
+    ensures goes_on { IfOk result (λ more. RunsOn (T.took taker.old) (T.took taker.new) T.output
+        (S.left input.old) (S.left input.new) (K.held out.old) (K.held out.new) reading.old reading.new) }
     ensures grows { IfOk result (λ more. more ≡ true → fed_count reading.old < fed_count reading.new) }
     ensures ends { IfOk result (λ more. more ≡ false → IsAtEnd (S.left input.new)) }
-    ensures err { IfErr result (λ o. (all start : Option (List ℕ))
-        → Running (T.took taker.old) T.output all (S.left input.old) reading.old start (K.held out.old)
-        → HaltedAfter o (T.took taker.new) T.refuses T.output all (S.left input.new) start (K.held out.new)) }
+    ensures err { IfErr result (λ o. StopsRunning (T.took taker.old) (T.took taker.new) T.output
+        (S.left input.old) (S.left input.new) (K.held out.old) (K.held out.new) T.refuses o reading.old) }
     ensures source_later { S.faults input.old ≤ S.faults input.new }
     ensures sink_later { K.faults out.old ≤ K.faults out.new }
     ensures read { IsErrOf result Outcome.Read → Rose (S.faults input.old) (S.faults input.new) }

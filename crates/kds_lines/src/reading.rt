@@ -3,7 +3,7 @@ ghost use Rattle.std.specs.Prelude.{◌≡◌, ℕ, List, [], ◌≤◌, ◌+◌
 ghost use Rattle.std.specs.declared.option.Option.{Option};
 ghost use Rattle.kds_defs.specs.declared.limits.TheConstants.{LINE_BYTES, INPUT_BYTES};
 ghost use Rattle.kds_ends.specs.Causes.{HasCause};
-ghost use Rattle.kds_lines.specs.Writing.{Wrote, Loses};
+ghost use Rattle.kds_lines.specs.Writing.{LosesRest, WritesOn};
 
 use kds_base::Octets;
 use kds_ends::{Failed, Sink, write_all};
@@ -47,10 +47,8 @@ impl Reading {
         ensures output { self.new.output ≡ [] }
         ensures count { self.new.count ≡ self.old.count }
         ensures used { self.new.used ≡ self.old.used }
-        ensures ok { OnOk result ((start : Option (List ℕ)) (whole missing : List ℕ)
-            → Wrote start (K.held out.old) whole self.old.output missing → Wrote start (K.held out.new) whole [] missing) }
-        ensures err { OnErr result ((start : Option (List ℕ)) (whole missing : List ℕ)
-            → Wrote start (K.held out.old) whole self.old.output missing → Loses start (K.held out.new) whole) }
+        ensures ok { OnOk result (WritesOn (K.held out.old) (K.held out.new) self.old.output []) }
+        ensures err { OnErr result (LosesRest (K.held out.old) (K.held out.new) self.old.output) }
         ensures cause { HasCause (K.faults out.old) (K.faults out.new) result }
     {
         let written = write_all(out, self.output.as_slice());
@@ -63,10 +61,8 @@ impl Reading {
         ensures held { self.new.held ≡ self.old.held }
         ensures count { self.new.count ≡ self.old.count }
         ensures used { self.new.used ≡ self.old.used }
-        ensures ok { OnOk result ((start : Option (List ℕ)) (whole missing : List ℕ)
-            → Wrote start (K.held out.old) whole self.old.output missing → Wrote start (K.held out.new) whole self.new.output missing) }
-        ensures err { OnErr result ((start : Option (List ℕ)) (whole missing : List ℕ)
-            → Wrote start (K.held out.old) whole self.old.output missing → Loses start (K.held out.new) whole) }
+        ensures ok { OnOk result (WritesOn (K.held out.old) (K.held out.new) self.old.output self.new.output) }
+        ensures err { OnErr result (LosesRest (K.held out.old) (K.held out.new) self.old.output) }
         ensures lost { OnErr result (self.new.output ≡ []) }
         ensures cause { HasCause (K.faults out.old) (K.faults out.new) result }
     {
