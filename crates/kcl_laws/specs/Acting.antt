@@ -1,8 +1,11 @@
 -- The commands that only the tenure of a row may give.
-use Rattle.std.specs.Prelude.{ℕ, ◌≡◌, Option, Some, None}
+use Rattle.std.specs.Prelude.{ℕ, ◌≡◌, Option, Some, None, Result, Err}
 use Rattle.kds_defs.specs.declared.command.Command.{Command}
 use Rattle.kds_defs.specs.declared.command.Command.TheVariants as command
 use Rattle.kds_defs.specs.declared.command.Turn.{Turn}
+use Rattle.kds_defs.specs.declared.reply.Refusal.{Refusal}
+use Rattle.kds_defs.specs.declared.reply.Refusal.TheVariants as refusal
+use Rattle.kds_defs.specs.declared.reply.Reply.{Reply}
 use Rattle.kds_defs.specs.Journal.{Journal}
 use Rattle.kds_defs.specs.Leases.{TenureState, row, tenure, tenure_in}
 
@@ -26,3 +29,7 @@ row_tenure log T = tenure_in (row log T.key)
 -- the row of this tenure's key is another tenure's, or nobody's
 abbrev pub HasLost : Journal → TenureState → ℕ → Type 0
 HasLost log T t = row_tenure log T ≡ t → ⊥
+
+-- its own actor is told whose row it is now
+abbrev pub lost_answer : Journal → TenureState → Result Reply Refusal
+lost_answer log T = Err (refusal.Lost (row_tenure log T))

@@ -3,7 +3,7 @@
 
 ghost use Rattle.std.specs.Prelude.{ℕ, List, [], ◌∷◌, ◌≤◌, ◌≡◌, Option, Some, None, Err};
 ghost use Rattle.std.specs.List.{AllByRecursion};
-ghost use Rattle.kcl_laws.specs.Acting.{acting, row_tenure, ActsBy, HasLost};
+ghost use Rattle.kcl_laws.specs.Acting.{acting, lost_answer, ActsBy, HasLost};
 ghost use Rattle.kcl_laws.specs.Deliveries.{AreReadOn, AreWhole};
 ghost use Rattle.kcl_laws.specs.Makings.{times_made};
 ghost use Rattle.kcl_laws.specs.Recorded.{AreDrawn, HasFrom, IsFromHorizon, IsSized};
@@ -73,8 +73,7 @@ pub fn fence()
     ensures stale { (h : List Turn) (turn : Turn) (t : ℕ) → acting turn.what ≡ Some t
         → (HoldsRow (journal h) turn.by t → ⊥) → journal (turn ∷ h) ≡ journal h }
     ensures lost { (h : List Turn) (turn : Turn) (t : ℕ) (T : TenureState) → ActsBy (journal h) turn t T
-        → T.by ≡ turn.by → HasLost (journal h) T t
-        → answer h turn ≡ Err (refusal.Lost (row_tenure (journal h) T)) }
+        → T.by ≡ turn.by → HasLost (journal h) T t → answer h turn ≡ lost_answer (journal h) T }
     ensures not_yours { (h : List Turn) (turn : Turn) (t : ℕ) (T : TenureState) → ActsBy (journal h) turn t T
         → (T.by ≡ turn.by → ⊥) → answer h turn ≡ Err refusal.NotYours }
 {}

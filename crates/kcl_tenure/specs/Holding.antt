@@ -10,7 +10,7 @@ use Rattle.kds_defs.specs.declared.reply.Row.{Row}
 use Rattle.kds_defs.specs.Decision.{Decision, Accepted}
 use Rattle.kds_defs.specs.Journal.{Line, Journal, plain_line}
 use Rattle.kds_defs.specs.Keys.{is_listed_key}
-use Rattle.kds_defs.specs.LeaseCommands.{give, least, mark, open_shard, past_parents, read_reply, take_lease}
+use Rattle.kds_defs.specs.LeaseCommands.{give, least, mark, open_shard, past_parents, read, read_reply, take_lease}
 use Rattle.kds_defs.specs.Leases.{ReadDone, TenureState, checkpoint_at, delivered, given_reads, is_end, key_of, last_ended, place_of, reach, row, taken_count, tenure}
 use Rattle.kds_defs.specs.Records.{batch, numbers_of, place_after}
 use Rattle.kds_defs.specs.Shards.{shard_at}
@@ -111,6 +111,9 @@ MayOpen log c key = (is_listed_key log c key ≡ true) × ArePast log c key
 abbrev pub IsOpenedSo : Journal → ℕ → ℕ → ℕ → ℕ → ShardRef → Row → Type 0
 IsOpenedSo log c d by owner key r =
     open_shard (taken_line log d by key r owner ∷ log) c by (taken_count log + 1) ≡ Accepted (opened_line log c by ∷ []) reply.Done
+
+abbrev pub IsReadSo : Journal → ℕ → Holding → ℕ → Type 0
+IsReadSo log c x limit = read log c x.by x.tenure x.place limit ≡ read_here log c x limit
 
 abbrev pub IsGivenSo : Journal → ℕ → Holding → ReadDone → Type 0
 IsGivenSo log c x r = give log c x.by x.tenure ≡ Accepted (given_line c x ∷ []) (reply.Given (place_after x.done r.numbers))

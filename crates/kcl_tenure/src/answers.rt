@@ -8,11 +8,10 @@ ghost use Rattle.kds_defs.specs.declared.reply.Row.{Row};
 ghost use Rattle.kds_defs.specs.Histories.{journal};
 ghost use Rattle.kds_defs.specs.Journal.{Journal};
 ghost use Rattle.kds_defs.specs.Keys.{is_listed_key};
-ghost use Rattle.kds_defs.specs.LeaseCommands.{read};
 ghost use Rattle.kds_defs.specs.Leases.{ReadDone, row};
 ghost use Rattle.kds_defs.specs.StreamCommands.{last_number};
-ghost use Rattle.kcl_tenure.specs.Holding.{Holding, Holds, IsGivenSo, IsMarkedSo, IsOpenedSo, IsTakenSo, MayMark, MayOpen, MayTake, after_give, after_mark, after_read, begun_from};
-ghost use Rattle.kcl_tenure.specs.Holding.{given_line, marked_line, opened_line, read_here, read_line, taken_line};
+ghost use Rattle.kcl_tenure.specs.Holding.{Holding, Holds, IsGivenSo, IsMarkedSo, IsOpenedSo, IsReadSo, IsTakenSo, MayMark, MayOpen, MayTake, after_give, after_mark, after_read, begun_from};
+ghost use Rattle.kcl_tenure.specs.Holding.{given_line, marked_line, opened_line, read_line, taken_line};
 ghost use Rattle.kcl_tenure.specs.Parents.{AreCounted, AreParentsClosed};
 ghost use Rattle.kds_defs.specs.Legal.{IsLegal};
 ghost use Rattle.kds_defs.specs.Shards.{shards};
@@ -27,7 +26,7 @@ pub fn held_answers()
     ensures opening { (log : Journal) (c d by owner : ℕ) (key : ShardRef) (r : Row) → row log key ≡ Some r
         → MayOpen (taken_line log d by key r owner ∷ log) c key → IsOpenedSo log c d by owner key r }
     ensures read { (log : Journal) (c limit : ℕ) (x : Holding) → Holds log x → length x.waiting < PENDING_READS
-        → is_listed_key log c x.key ≡ true → read log c x.by x.tenure x.place limit ≡ read_here log c x limit }
+        → is_listed_key log c x.key ≡ true → IsReadSo log c x limit }
     ensures give { (log : Journal) (c : ℕ) (x : Holding) (r : ReadDone) (rest : List ReadDone) → Holds log x → x.waiting ≡ r ∷ rest
         → IsGivenSo log c x r }
     ensures mark { (log : Journal) (c : ℕ) (x : Holding) (to : Target) → Holds log x → MayMark x to → (x.counter == last_number) ≡ false
