@@ -2,7 +2,7 @@
 ghost use Rattle.std.specs.Prelude.{◌≡◌, ◌≢◌, ◌<◌, ◌≤◌, ◌-◌, ◌^◌, ℕ, Some, IfErr, IfOk, Result, Err};
 ghost use Rattle.kds_defs.specs.declared.reply.Refusal.{Refusal};
 ghost use Rattle.kds_defs.specs.LeaseCommands.{least};
-ghost use Rattle.kds_defs.specs.Leases.{checkpoint_at, freed_row, is_end, marked_row, renewed_row, taken_row};
+ghost use Rattle.kds_defs.specs.Leases.{checkpoint_at, freed_row, marked_row, renewed_row, taken_row};
 ghost use Rattle.kcl_table.specs.Rows.{AreInOrder, row_of};
 ghost use Rattle.kcl_table.specs.Writes.{counted, held_answer, take_answer, target_answer};
 
@@ -20,13 +20,6 @@ fn counted(counter: u64) -> Result<u64, Refusal>
     Ok(counter + 1)
 }
 
-/// Whether the whole shard is processed.
-fn is_end(checkpoint: &Checkpoint) -> bool
-    ensures { result ≡ is_end checkpoint.now }
-{
-    matches!(checkpoint, Checkpoint::ShardEnd)
-}
-
 /// The counter after a worker took the row at its counter.
 pub fn take_counter(row: &Row, counter: u64) -> Result<u64, Refusal>
     ensures { result ≡ take_answer (Some row.now) counter }
@@ -34,7 +27,7 @@ pub fn take_counter(row: &Row, counter: u64) -> Result<u64, Refusal>
     if row.counter != counter {
         return Err(Refusal::Moved(row.counter));
     }
-    if is_end(&row.checkpoint) {
+    if row.checkpoint.is_end() {
         return Err(Refusal::Ended);
     }
     counted(row.counter)
@@ -84,7 +77,7 @@ pub fn target_counter(row: &Row, to: &Target, delivered: u64, at_end: bool) -> R
     match to {
         Target::At(q) => {
             let q = *q;
-            if is_end(&row.checkpoint) {
+            if row.checkpoint.is_end() {
                 return Err(Refusal::Ended);
             }
             if delivered <= q.0 {

@@ -3,6 +3,7 @@ ghost use Rattle.std.specs.Prelude.{◌≡◌, ◌+◌, ◌-◌, ◌^◌, ◌<�
 ghost use Rattle.std.specs.List.{AllByRecursion, filter, position_or_len};
 ghost use Rattle.std.specs.Option.{option_map};
 ghost use Rattle.kds_base.specs.Span.{joined, lower_part, upper_part};
+ghost use Rattle.kds_defs.specs.declared.limits.TheConstants.{MOST_SHARDS};
 ghost use Rattle.kds_defs.specs.Listings.{are_more, is_after_shard};
 ghost use Rattle.kds_defs.specs.Scaling as scaling;
 ghost use Rattle.kds_defs.specs.Scaling.{with_start};
@@ -46,7 +47,7 @@ impl ShardTree {
     /// The shards of a new stream: `n` of them, with uniform ranges.
     pub fn new(alloc: Global, n: u32) -> Result<ShardTree, Memory>
         requires least { 1 ≤ n }
-        requires most { n ≤ 500 }
+        requires most { n ≤ MOST_SHARDS }
         ensures { IfOk result (λ tree. tree.shards ≡ made_shards n 1) }
     {
         let ranges = Range::uniform(alloc, n)?;
