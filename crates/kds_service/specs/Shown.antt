@@ -1,13 +1,15 @@
 -- Which journals the streams of a service show.
-use Rattle.std.specs.Prelude.{ℕ, ◌≡◌, ◌==◌, ◌||◌, ◌<◌, Bool, false, List, [], ◌∷◌, map, Result}
+use Rattle.std.specs.Prelude.{ℕ, ◌≡◌, ◌+◌, ◌==◌, ◌||◌, ◌<◌, ◌++◌, Bool, false, List, [], ◌∷◌, map, remove, slice_get, slice_set, Result, Some}
 use Rattle.kds_defs.specs.declared.command.Command.{Command}
 use Rattle.kds_defs.specs.declared.reply.Refusal.{Refusal}
 use Rattle.kds_defs.specs.declared.reply.Reply.{Reply}
 use Rattle.kds_defs.specs.Histories.{answer_of, decide, lines_of}
-use Rattle.kds_defs.specs.Journal.{Journal, with_lines}
+use Rattle.kds_defs.specs.declared.entry.Entry.TheVariants as entry
+use Rattle.kds_defs.specs.Journal.{Journal, Line, plain_line, with_lines}
 use Rattle.kds_defs.specs.Streams.{is_live, made_count}
 use Rattle.kds_stream.specs.Showing.{IsFresh, Shows}
 use Rattle.kds_stream.specs.Value.{StreamValue}
+use Rattle.kds_service.specs.Lines.{AreOf}
 
 -- what contracts see of a service: its clock, what that was before the last advance, how many streams were made,
 -- and the live streams in the order of their numbers
@@ -54,6 +56,25 @@ pub record ShowsAll (w : ServiceValue) (log : Journal) : Type 0 where
   pub shown : AreShown log w.streams
   pub others : (s : ℕ) → is_among (numbers_of w.streams) s ≡ false → is_live log s ≡ false
   pub unmade : (s : ℕ) → w.made < s → IsFresh log s
+
+-- ---- what the lines of one stream leave of the others
+
+module _ (c b n : ℕ) (vs : List StreamValue) (log : Journal) where
+  -- with these lines of the stream at this place, once it shows them
+  abbrev pub StaysShown : ℕ → StreamValue → StreamValue → List Line → Type 0
+  StaysShown i x v lines =
+      slice_get vs i ≡ Some x → v.no ≡ x.no → v.clock ≡ c → AreOf x.no c lines → Shows v (with_lines lines log)
+      → ShowsAll (service c b n (slice_set vs i v)) (with_lines lines log)
+
+  -- with the line of a new stream, once that stream stands last
+  abbrev pub StaysShownWith : StreamValue → ℕ → List ℕ → ℕ → Type 0
+  StaysShownWith v by name count =
+      let made : Line = plain_line c by (entry.Made (n + 1) name count) in
+      v.no ≡ n + 1 → v.clock ≡ c → Shows v (made ∷ log) → ShowsAll (service c b (n + 1) (vs ++ v ∷ [])) (made ∷ log)
+
+  -- with the line of the end of the stream at this place, once that stream is away
+  abbrev pub StaysShownWithout : ℕ → StreamValue → ℕ → Type 0
+  StaysShownWithout i x by = slice_get vs i ≡ Some x → ShowsAll (service c b n (remove vs i)) (plain_line c by (entry.Gone x.no) ∷ log)
 
 -- the command, at the service's clock, is answered so and leads from one to the other
 abbrev pub Leads : ServiceValue → ServiceValue → Command → Result Reply Refusal → Type 0
