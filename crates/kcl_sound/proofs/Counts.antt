@@ -1,0 +1,163 @@
+-- How many streams, shards and tenures a legal journal has made, at most.
+use Rattle.std.proofs.Common.{◌≡◌, ℕ, zero, suc, ◌+◌, ◌^◌, ◌<◌, ◌≤◌, Bool, true, false, List, [], ◌∷◌, length, refl, sym, ap, subst, ◌∙◌, arith}
+use Rattle.std.specs.Prelude.{◌==◌, ◌||◌, cond, slice_get, nat_lt, if◌then◌else◌, Option, Some, None}
+use Rattle.std.specs.List.{filter, find}
+use Rattle.std.proofs.lemmas.Bool.Decides.{nat_tests}
+use Rattle.std.proofs.lemmas.List.{length-append, length-map}
+use Rattle.kds_base.specs.Span.{Span, covers, uniform}
+use Rattle.kds_defs.specs.declared.entry.Entry.{Entry}
+use Rattle.kds_defs.specs.declared.entry.Entry.TheVariants as entry
+use Rattle.kds_defs.specs.declared.reply.Reply.{Reply}
+use Rattle.kds_defs.specs.Decision.{Accepted}
+use Rattle.kds_defs.specs.Journal.{Line, Journal}
+use Rattle.kds_defs.specs.Legal.{IsInRange, IsLegal, told}
+use Rattle.kds_defs.specs.Leases.{taken_count, taken_count_after}
+use Rattle.kds_defs.specs.Records.{next_number}
+use Rattle.kds_defs.specs.Shards.{Closing, ShardState, first_shards, home, home_among, is_listed, is_listed_state, is_open, made_shards, merged_shards, shard_at, shards, shards_after, split_shards, with_closed}
+use Rattle.kds_defs.specs.StreamCommands.{last_number}
+use Rattle.kds_defs.specs.Streams.{is_live, made_count, made_count_after, numbers_from, stream_named}
+use Rattle.kds_defs.specs.Tiled.{AreNumbered}
+use Rattle.kds_defs.proofs.Decisions.{found, passes}
+use Rattle.kds_defs.proofs.Numbers.{length-closed}
+use Rattle.kds_scale.proofs.Partitions.{length_wanted}
+
+pub neither : (a b : Bool) → (a || b) ≡ false → (a ≡ false) × (b ≡ false)
+neither true b h = absurd cc
+neither false b h = (refl, h)
+
+pub one_more : (n : ℕ) → (n == last_number) ≡ false → n ≤ last_number → n + 1 ≤ last_number
+one_more n h le = grind (arith, nat_tests)
+
+-- ---- streams and tenures
+
+made_by : (log : Journal) (line : Line) (e : Entry) (reply : Reply) → told log line e ≡ Accepted (line ∷ []) reply → made_count log ≤ last_number
+    → made_count_after e (made_count log) ≤ last_number
+made_by log line (entry.Made s name count) reply h le =
+    let a = passes _ _ _ _ reply h in
+    let b = passes _ _ _ _ reply a.1 in
+    let d = passes _ _ _ _ reply b.1 in
+    one_more (made_count log) d.0 le
+made_by log line _ reply h le = le
+
+pub made_fits : (log : Journal) → IsLegal log → made_count log ≤ last_number
+made_fits [] legal = omega arith
+made_fits (line ∷ log) legal = made_by log line line.what legal.0.reply legal.0.allowed (made_fits log legal.1)
+
+taken_by : (log : Journal) (line : Line) (e : Entry) (reply : Reply) → told log line e ≡ Accepted (line ∷ []) reply → taken_count log ≤ last_number
+    → taken_count_after e (taken_count log) ≤ last_number
+taken_by log line (entry.Taken key t counter owner) reply h le =
+    let f = found _ _ _ _ reply h in
+    let a = passes _ _ _ _ reply f.2 in
+    let b = passes _ _ _ _ reply a.1 in
+    let d = passes _ _ _ _ reply b.1 in
+    one_more (taken_count log) (neither _ _ d.0).1 le
+taken_by log line _ reply h le = le
+
+pub taken_fits : (log : Journal) → IsLegal log → taken_count log ≤ last_number
+taken_fits [] legal = omega arith
+taken_fits (line ∷ log) legal = taken_by log line line.what legal.0.reply legal.0.allowed (taken_fits log legal.1)
+
+-- a number that is found among these
+found_by : (b d : Bool) (p q : ℕ → Bool) (k s m : ℕ) (xs : List ℕ) → q k ≡ b → p k ≡ d → k < m → (find p (filter q xs) ≡ Some s → s < m)
+    → find p (cond b (k ∷ filter q xs) (filter q xs)) ≡ Some s → s < m
+found_by false d p q k s m xs isb isd below rest h = rest h
+found_by true true p q k s m xs isb isd below rest h =
+    let e : Some k ≡ Some s = ap (λ b. cond b (Some k) (find p (filter q xs))) (sym isd) ∙ h in
+    let f : k ≡ s = cc (e) in
+    subst (λ n. n < m) f below
+found_by true false p q k s m xs isb isd below rest h = rest (ap (λ b. cond b (Some k) (find p (filter q xs))) (sym isd) ∙ h)
+
+found_below : (p q : ℕ → Bool) (n k s m : ℕ) → k + n ≤ m → find p (filter q (numbers_from k n)) ≡ Some s → s < m
+found_below p q zero k s m le h = absurd cc
+found_below p q (suc n) k s m le h =
+    found_by (q k) (p k) p q k s m (numbers_from (k + 1) n) refl refl (omega (arith, le)) (found_below p q n (k + 1) s m (omega (arith, le))) h
+
+-- the number of a stream that a name finds
+pub named_fits : (log : Journal) (name : List ℕ) (s : ℕ) → IsLegal log → stream_named log name ≡ Some s → s < 2 ^ 64
+named_fits log name s legal h = found_below _ (is_live log) (made_count log) 1 s (2 ^ 64) (omega (arith, made_fits log legal)) h
+
+-- ---- shards
+
+length_first : (n start : ℕ) (ranges : List Span) → length (first_shards n start ranges) ≡ length ranges
+length_first n start [] = refl
+length_first n start (r ∷ rs) = ap suc (length_first (n + 1) start rs)
+
+length_made : (count start : ℕ) → length (made_shards count start) ≡ count
+length_made count start = length_first 0 start (uniform count) ∙ sym (length-map (uniform count) (λ (r : Span). r.start)) ∙ length_wanted count
+
+pub length_split : (xs : List ShardState) (sh at : ℕ) (closing : Closing) (start : ℕ) → length (split_shards sh at closing start xs) ≡ length xs + 2
+length_split xs sh at closing start = length-append _ _ ∙ ap (λ n. n + 2) (length-closed sh closing xs)
+
+pub length_merged : (xs : List ShardState) (sh other : ℕ) (closing : Closing) (start : ℕ) → length (merged_shards sh other closing start xs) ≡ length xs + 1
+length_merged xs sh other closing start =
+    length-append _ _ ∙ ap (λ n. n + 1) (length-closed other closing (with_closed sh closing xs) ∙ length-closed sh closing xs)
+
+either_fits : (b : Bool) (xs ys : List ShardState) → (b ≡ true → length xs ≤ 2 ^ 64) → length ys ≤ 2 ^ 64 → length (if b then xs else ys) ≤ 2 ^ 64
+either_fits true xs ys h g = h refl
+either_fits false xs ys h g = g
+
+same_stream : (a b : ℕ) → (a == b) ≡ true → a ≡ b
+same_stream a b h = grind (arith, nat_tests)
+
+pub not_past : (n m : ℕ) → nat_lt m n ≡ false → n ≤ m
+not_past n m h = grind (arith, nat_tests)
+
+shards_by : (log : Journal) (line : Line) (e : Entry) (reply : Reply) (s start : ℕ) → IsInRange e → told log line e ≡ Accepted (line ∷ []) reply
+    → length (shards log s) ≤ 2 ^ 64 → length (shards_after line e s start (shards log s)) ≤ 2 ^ 64
+shards_by log line (entry.Made stream name count) reply s start range h le =
+    either_fits (stream == s) _ _ (λ is. omega (arith, length_made count start, range.1)) le
+shards_by log line (entry.Split stream sh at number low high) reply s start range h le =
+    let a = passes _ _ _ _ reply h in
+    let b = passes _ _ _ _ reply a.1 in
+    let d = passes _ _ _ _ reply b.1 in
+    let e = passes _ _ _ _ reply d.1 in
+    let f = passes _ _ _ _ reply e.1 in
+    let g = passes _ _ _ _ reply f.1 in
+    let room = not_past (length (shards log stream) + 1) last_number (neither _ _ g.0).0 in
+    either_fits (stream == s) _ _
+    (λ is. omega (arith, room, ap (λ k. length (shards log k)) (same_stream stream s is), length_split (shards log s) sh at (record { number = number; clock = line.clock }) start)) le
+shards_by log line (entry.Merged stream sh other number child) reply s start range h le =
+    let a = passes _ _ _ _ reply h in
+    let b = passes _ _ _ _ reply a.1 in
+    let d = passes _ _ _ _ reply b.1 in
+    let e = passes _ _ _ _ reply d.1 in
+    let f = passes _ _ _ _ reply e.1 in
+    let room = not_past (length (shards log stream)) last_number (neither _ _ f.0).0 in
+    either_fits (stream == s) _ _
+    (λ is. omega (arith, room, ap (λ k. length (shards log k)) (same_stream stream s is), length_merged (shards log s) sh other (record { number = number; clock = line.clock }) start)) le
+shards_by log line _ reply s start range h le = le
+
+pub shards_fit : (log : Journal) → IsLegal log → (s : ℕ) → length (shards log s) ≤ 2 ^ 64
+shards_fit [] legal s = omega arith
+shards_fit (line ∷ log) legal s =
+    shards_by log line line.what legal.0.reply s (next_number (line ∷ log) s) legal.0.in_range legal.0.allowed (shards_fit log legal.1 s)
+
+-- the number of a listed shard
+below_length : (sh : ℕ) (xs : List ShardState) (x : ShardState) → slice_get xs sh ≡ Some x → sh < length xs
+below_length sh [] x h = absurd cc
+below_length zero (y ∷ xs) x h = omega arith
+below_length (suc sh) (y ∷ xs) x h = omega (arith, below_length sh xs x h)
+
+there_below : (log : Journal) (c s sh : ℕ) (o : Option ShardState) → shard_at log s sh ≡ o → is_listed_state log c s o ≡ true → sh < length (shards log s)
+there_below log c s sh None is h = absurd cc
+there_below log c s sh (Some x) is h = below_length sh (shards log s) x is
+
+pub listed_fits : (log : Journal) (c s sh : ℕ) → IsLegal log → is_listed log c s sh ≡ true → sh < 2 ^ 64
+listed_fits log c s sh legal h = omega (arith, there_below log c s sh (shard_at log s sh) refl h, shards_fit log legal s)
+
+-- the home of a key
+home_by : (b d : Bool) (x : ShardState) (xs : List ShardState) (k m : ℕ) → covers x.range k ≡ d → x.no < m → home_among (filter is_open xs) k < m
+    → home_among (cond b (x ∷ filter is_open xs) (filter is_open xs)) k < m
+home_by false d x xs k m is below rest = rest
+home_by true true x xs k m is below rest =
+    subst (λ n. n < m) (ap (λ b. if b then x.no else home_among (filter is_open xs) k) (sym is)) below
+home_by true false x xs k m is below rest =
+    subst (λ n. n < m) (ap (λ b. if b then x.no else home_among (filter is_open xs) k) (sym is)) rest
+
+home_below : (xs : List ShardState) (n k m : ℕ) → AreNumbered n xs → n + length xs ≤ m → 0 < m → home_among (filter is_open xs) k < m
+home_below [] n k m numbers le some = some
+home_below (x ∷ xs) n k m numbers le some =
+    home_by (is_open x) (covers x.range k) x xs k m refl (omega (arith, numbers.0, le)) (home_below xs (n + 1) k m numbers.1 (omega (arith, le)) some)
+
+pub home_fits : (log : Journal) (s k : ℕ) → AreNumbered 0 (shards log s) → length (shards log s) ≤ 2 ^ 64 → home log s k < 2 ^ 64
+home_fits log s k numbers le = home_below (shards log s) 0 k (2 ^ 64) numbers (omega (arith, le)) (omega arith)

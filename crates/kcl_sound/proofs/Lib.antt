@@ -1,0 +1,4 @@
+mod Counts
+mod Decided
+mod Streams
+mod Texts
