@@ -14,5 +14,4 @@ pub mod Retention
 pub mod Routings
 pub mod Rates
 pub mod Limits
-pub mod ScaleSteps
 pub mod Scalings

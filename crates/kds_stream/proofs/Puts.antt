@@ -24,19 +24,20 @@ use Rattle.kds_defs.specs.Streams.{floor_of, hours, is_live, made_at, name_of, t
 use Rattle.kds_log.specs.Log.{LogValue}
 use Rattle.kds_rate.specs.Windows.{WindowValue}
 use Rattle.kds_stream.proofs.Cuts.{same_floor_at}
-use Rattle.kds_stream.proofs.LogLemmas.{all-append, all-appended, all_weaker, arrived_later, length-appended}
-use Rattle.kds_stream.proofs.Rates.{put_elsewhere, stand_along}
-use Rattle.kds_stream.specs.Rating.{AreRated, ShowsRates, StandFor, with_put}
+use Rattle.kds_shards.proofs.LogLemmas.{all-append, all_weaker}
+use Rattle.kds_stream.proofs.LogLemmas.{all-appended, arrived_later, length-appended}
+use Rattle.kds_shards.proofs.Rates.{put_elsewhere, stand_along}
+use Rattle.kds_shards.specs.Rating.{StandFor, with_put}
+use Rattle.kds_stream.specs.Rating.{AreRated, ShowsRates}
 use Rattle.kds_stream.specs.Showing.{AreKept, IsKept, Shows}
-use Rattle.kds_stream.specs.Value.{EndsUnder, HasArrived, IsBelow, IsClosedUnder, IsStream, IsUnder, StreamValue, with_appended}
+use Rattle.kds_shards.specs.Logs.{HasArrived, IsBelow, IsUnder, with_appended}
+use Rattle.kds_stream.specs.Value.{EndsUnder, IsClosedUnder, IsStream, StreamValue}
+use Rattle.kds_shards.proofs.Numbers.{is_number}
 
 -- ---- a number and itself
 
 pub same_number : (n : ℕ) → (n == n) ≡ true
 same_number n = grind (arith, nat_tests)
-
-pub is_number : (n m : ℕ) → n ≡ m → (n == m) ≡ true
-is_number n m h = grind (arith, nat_tests, h)
 
 pub is_other : (n m : ℕ) → n ≢ m → (n == m) ≡ false
 is_other n m h = by (n == m) refl

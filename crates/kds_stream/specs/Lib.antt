@@ -3,5 +3,4 @@ pub mod Reading
 pub mod Rating
 pub mod Value
 pub mod Showing
-pub mod Routes
 pub mod Steps

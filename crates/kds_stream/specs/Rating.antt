@@ -1,33 +1,16 @@
--- What the shards of a stream take within a second (Kinesis Data Streams Developer Guide, Quotas and Limits).
-use Rattle.std.specs.Prelude.{ℕ, ◌≡◌, ◌+◌, ◌≤◌, ◌==◌, Bool, if◌then◌else◌, List, [], ◌∷◌, length}
+-- What a journal says of what the shards of a stream take within a second.
+use Rattle.std.specs.Prelude.{ℕ, ◌≡◌, ◌≤◌, Bool, List, [], length}
 use Rattle.std.specs.List.{AllByRecursion}
 use Rattle.kds_defs.specs.Journal.{Journal}
 use Rattle.kds_defs.specs.PutCommands.{is_enforced}
-use Rattle.kds_defs.specs.Rates.{SizedPut, puts}
-use Rattle.kds_rate.specs.Windows.{StandsFor, WindowValue}
-
--- the window counts no put that is later than the moment
-abbrev pub IsCounted : ℕ → WindowValue → Type 0
-IsCounted moment w = w.latest ≤ moment
+use Rattle.kds_defs.specs.Rates.{puts}
+use Rattle.kds_rate.specs.Windows.{WindowValue}
+use Rattle.kds_shards.specs.Rating.{IsCounted, StandFor}
 
 -- there are so many windows, and they count no put that is later than the moment
 pub record AreRated (moment count : ℕ) (ws : List WindowValue) : Type 0 where
   pub as_many : length ws ≡ count
   pub counted : AllByRecursion (IsCounted moment) ws
-
--- a window of no puts
-pub record IsUnused (w : WindowValue) : Type 0 where
-  pub none : StandsFor w []
-  pub never : w.latest ≡ 0
-
--- each window stands for the puts of the shard at its place, from the place n on
-abbrev pub StandFor : (ℕ → List SizedPut) → ℕ → List WindowValue → Type 0
-StandFor f n [] = Unit {0}
-StandFor f n (w ∷ ws) = StandsFor w (f n) × StandFor f (n + 1) ws
-
--- the puts of the shards, with one more in this shard
-abbrev pub with_put : ℕ → SizedPut → (ℕ → List SizedPut) → ℕ → List SizedPut
-with_put sh p f n = if sh == n then p ∷ f n else f n
 
 -- whether the limits are on, and the puts of the shards, are those of the journal; no put names a shard beyond so many
 pub record ShowsRates (log : Journal) (s : ℕ) (on : Bool) (count : ℕ) (ws : List WindowValue) : Type 0 where

@@ -1,30 +1,9 @@
--- What is read of one shard, where its stream's fields are known.
-use Rattle.std.specs.Prelude.{Bool, ℕ, ◌+◌, ◌-◌, List, Option, Some, None}
-use Rattle.kds_defs.specs.declared.command.Start.{Start}
-use Rattle.kds_defs.specs.declared.command.Start.TheVariants as start
-use Rattle.kds_defs.specs.declared.limits.TheConstants.{BATCH_BYTES}
+-- Whether a read ends a shard.
+use Rattle.std.specs.Prelude.{Bool, ℕ}
 use Rattle.kds_defs.specs.Journal.{Journal}
 use Rattle.kds_defs.specs.Listings.{ends_at}
-use Rattle.kds_defs.specs.Records.{Logged, batch, beginning, first_at, left_among, numbers_of, place_after}
-
--- the position where reading begins, where the next number is this one and these records are left (Kinesis API
--- Reference, GetShardIterator)
-abbrev pub position_from : ℕ → List Logged → Start → ℕ
-position_from next left (start.At q) = q
-position_from next left (start.After q) = q + 1
-position_from next left start.TrimHorizon = 0
-position_from next left start.Latest = next
-position_from next left (start.Time moment) = first_at left moment next
-
--- a batch of these records at a position (Kinesis API Reference, GetRecords)
-abbrev pub batch_among : ℕ → ℕ → ℕ → List Logged → List Logged
-batch_among floor position limit rs = beginning limit BATCH_BYTES (left_among floor position rs)
+use Rattle.kds_defs.specs.Records.{batch, numbers_of, place_after}
 
 -- the shard ends after the batch of at most so many at a position
 abbrev pub read_ends : Journal → ℕ → ℕ → ℕ → ℕ → ℕ → Bool
 read_ends log c s sh position limit = ends_at log c s sh (place_after position (numbers_of (batch log c s sh position limit)))
-
--- how long ago a moment was, and 0 where there is none
-abbrev pub behind_by : ℕ → Option ℕ → ℕ
-behind_by clock None = 0
-behind_by clock (Some moment) = clock - moment

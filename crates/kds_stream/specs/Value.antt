@@ -1,14 +1,14 @@
 -- What contracts see of a stream.
-use Rattle.std.specs.Prelude.{ℕ, zero, suc, ◌≡◌, ◌+◌, ◌<◌, ◌≤◌, ◌-◌, ◌*◌, ◌^◌, max, Bool, false, not, nat_lt, if◌then◌else◌, List, [], ◌∷◌, ◌++◌, length, Option, Some, None}
+use Rattle.std.specs.Prelude.{ℕ, ◌≡◌, ◌+◌, ◌<◌, ◌≤◌, ◌-◌, ◌*◌, ◌^◌, max, Bool, false, not, nat_lt, if◌then◌else◌, List, length, Option, Some, None}
 use Rattle.std.specs.List.{AllByRecursion, filter}
 use Rattle.kds_defs.specs.declared.limits.TheConstants.{HOUR, OPEN_SHARDS}
 use Rattle.kds_defs.specs.Lawful.{IsRetention}
-use Rattle.kds_defs.specs.Records.{Logged, left_among}
 use Rattle.kds_defs.specs.Shards.{Closing, ShardState, is_closed_below, is_open}
 use Rattle.kds_defs.specs.Streams.{floor_of}
 use Rattle.kds_log.specs.Log.{LogValue}
 use Rattle.kds_rate.specs.Windows.{WindowValue}
 use Rattle.kds_stream.specs.Rating.{AreRated}
+use Rattle.kds_shards.specs.Logs.{HasArrived, IsBelow, settled_at}
 
 -- its number, its name, when it was made, its retention in hours, its shards, the log of each, the window of each,
 -- whether the limits on throughput are on, its next number, its clock and its cut; what clock and cut were before the
@@ -28,19 +28,6 @@ pub record StreamValue : Type 0 where
   pub clock_before : ℕ
   pub cut_before : Option ℕ
   pub turn : ℕ
-
--- the number, if there is one, is below this one
-abbrev pub IsUnder : ℕ → Option ℕ → Type 0
-IsUnder next None = Unit {0}
-IsUnder next (Some n) = n < next
-
--- the log's numbers are below this one
-abbrev pub IsBelow : ℕ → LogValue → Type 0
-IsBelow next l = IsUnder next l.last
-
--- what it keeps arrived at or before this moment
-abbrev pub HasArrived : ℕ → LogValue → Type 0
-HasArrived moment l = AllByRecursion (λ (r : Logged). r.arrival ≤ moment) l.kept
 
 -- the number that closed the shard, if it is closed, is below this one
 abbrev pub IsClosedUnder : ℕ → Option Closing → Type 0
@@ -92,26 +79,6 @@ pub record IsKeptAt (wanted : ℕ) (old new : StreamValue) : Type 0 where
   pub cut : new.cut ≡ later_cut old.cut (cut_at old.clock wanted)
   pub clock_before : new.clock_before ≡ old.clock
   pub cut_before : new.cut_before ≡ new.cut
-
--- the log of a new shard
-abbrev pub empty_log : LogValue
-empty_log = record { kept = []; last = None }
-
--- the logs with a record added to the one at a place
-abbrev pub with_appended : ℕ → Logged → List LogValue → List LogValue
-with_appended n r [] = []
-with_appended zero r (l ∷ ls) = record { kept = l.kept ++ r ∷ []; last = Some r.seq } ∷ ls
-with_appended (suc n) r (l ∷ ls) = l ∷ with_appended n r ls
-
--- the log without the records that arrived below the floor
-abbrev pub settled_log : ℕ → LogValue → LogValue
-settled_log floor l = record l { kept = left_among floor 0 l.kept }
-
--- the logs where the one at a place is without them
-abbrev pub settled_at : ℕ → ℕ → List LogValue → List LogValue
-settled_at floor n [] = []
-settled_at floor zero (l ∷ ls) = settled_log floor l ∷ ls
-settled_at floor (suc n) (l ∷ ls) = l ∷ settled_at floor n ls
 
 -- the place after this one of so many, in a circle
 abbrev pub next_of : ℕ → ℕ → ℕ

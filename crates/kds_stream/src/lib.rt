@@ -2,12 +2,7 @@
 #![tactic(auto)]
 
 mod laws;
-mod logs;
-mod reading;
-mod routes;
-mod steps;
 mod stream;
-mod windows;
 
 pub use laws::{fresh, other_lines};
 pub use stream::Stream;

@@ -18,13 +18,12 @@ mod retention;
 mod scales;
 mod splits;
 
-use crate::logs::new_logs;
 use crate::stream::clock::cut_at;
-use crate::windows::new_windows;
 use kds_base::{Memory, Moment, Name, Seq, StreamNo};
 use kds_defs::limits::FIRST_HOURS;
 use kds_log::ShardLog;
 use kds_rate::Window;
+use kds_shards::{new_logs, new_windows};
 use kds_tree::ShardTree;
 use std::alloc::Global;
 use std::marker::Model;

@@ -4,7 +4,6 @@ ghost use Rattle.kds_defs.specs.Journal.{Journal};
 ghost use Rattle.kds_stream.specs.Showing.{Shows};
 ghost use Rattle.kds_stream.specs.Value.{cut_at, later_cut, next_of, settled};
 
-use crate::logs::settle_at;
 use crate::stream::Stream;
 use kds_base::Moment;
 use kds_defs::limits::HOUR;
@@ -38,6 +37,8 @@ fn next_of(count: usize, place: usize) -> usize
         _ => 0,
     }
 }
+
+use kds_shards::settle_at;
 
 impl Stream {
     /// Raises the clock and with it the cut, and drops nothing yet.

@@ -5,12 +5,10 @@ ghost use Rattle.kds_defs.specs.PutCommands.{put, put_many};
 ghost use Rattle.kds_stream.specs.Showing.{Decides};
 ghost use Rattle.kds_stream.specs.Value.{IsChangedAt};
 
-use crate::logs::put_at;
-use crate::routes::{Routes, item_bytes, put_all, route_all};
 use crate::stream::Stream;
-use crate::windows::count_at;
 use kds_base::{Items, Memory, Seq};
 use kds_defs::{Answer, NewItem, Place, Refusal, Reply, Stored};
+use kds_shards::{Routes, count_at, item_bytes, put_all, put_at, route_all};
 use std::collections::VecDeque;
 
 impl Stream {

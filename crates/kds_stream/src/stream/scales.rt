@@ -6,11 +6,11 @@ ghost use Rattle.kds_stream.specs.Showing.{Decides};
 ghost use Rattle.kds_stream.specs.Steps.{IsPlan, is_over, scale_where};
 ghost use Rattle.kds_stream.specs.Value.{IsChangedAt};
 
-use crate::steps::{add_shards, is_spent, made_by, reserve_shards, take_steps};
 use crate::stream::Stream;
 use kds_base::{Items, Memory, Seq};
 use kds_defs::{Answer, Refusal, Reply, ScaleStep};
 use kds_scale::plan;
+use kds_shards::{add_shards, is_spent, made_by, reserve_shards, take_steps};
 
 impl Stream {
     /// UpdateShardCount: merges and then splits its open shards to `target` uniform ranges, by as few steps as there

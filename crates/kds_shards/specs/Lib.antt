@@ -1,0 +1,5 @@
+pub mod Logs
+pub mod Reading
+pub mod Rating
+pub mod Routes
+pub mod Steps
