@@ -3,3 +3,4 @@ mod Come
 mod Leased
 mod Counts
 mod Parents
+mod Puts

@@ -6,7 +6,7 @@ use Rattle.kds_defs.specs.Journal.{Journal}
 use Rattle.kds_defs.specs.Kinds.{is_service}
 use Rattle.kds_defs.specs.Records.{next_number, records}
 use Rattle.kds_defs.specs.Shards.{shards}
-use Rattle.kds_defs.specs.Streams.{hours, live_streams, stream_named}
+use Rattle.kds_defs.specs.Streams.{hours, is_live, live_streams, stream_named, trim_floor}
 
 -- none of these turns asks the stream service
 abbrev pub AreOnLeases : List Turn → Type 0
@@ -20,3 +20,8 @@ pub record HasSameStreams (log log' : Journal) : Type 0 where
   pub records : (s sh : ℕ) → records log s sh ≡ records log' s sh
   pub next : (s : ℕ) → next_number log s ≡ next_number log' s
   pub hours : (s : ℕ) → hours log s ≡ hours log' s
+
+-- the same streams are live, and what is trimmed of them at this clock is the same
+pub record HasSameFloors (c : ℕ) (log log' : Journal) : Type 0 where
+  pub live : (s : ℕ) → is_live log s ≡ is_live log' s
+  pub floors : (s : ℕ) → trim_floor log c s ≡ trim_floor log' c s

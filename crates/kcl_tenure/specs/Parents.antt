@@ -1,11 +1,13 @@
 -- The parents of shards, and how often rows were written.
-use Rattle.std.specs.Prelude.{ℕ, ◌≡◌, ◌<◌, ◌≤◌, true, List, length, slice_get, Option, Some, None}
+use Rattle.std.specs.Prelude.{ℕ, ◌≡◌, ◌*◌, ◌<◌, ◌≤◌, true, List, length, slice_get, Option, Some, None}
 use Rattle.std.specs.List.{AllByRecursion}
 use Rattle.kds_base.specs.declared.lease_key.ShardRef.{ShardRef}
 use Rattle.kds_defs.specs.declared.command.Turn.{Turn}
+use Rattle.kds_defs.specs.declared.limits.TheConstants.{MANY_ITEMS}
 use Rattle.kds_defs.specs.Histories.{journal}
 use Rattle.kds_defs.specs.Leases.{counter_in, row, taken_count}
 use Rattle.kds_defs.specs.Listings.{is_closed_at}
+use Rattle.kds_defs.specs.Records.{records}
 use Rattle.kds_defs.specs.Shards.{ShardState}
 
 -- the parent of a shard of this number, if there is one, has a smaller number and is closed
@@ -21,3 +23,7 @@ AreParentsClosed xs = AllByRecursion (λ (x : ShardState). IsParentClosed xs x.n
 pub record AreCounted (h : List Turn) : Type 0 where
   pub counters : (key : ShardRef) → counter_in (row (journal h) key) ≤ length h
   pub tenures : taken_count (journal h) ≤ length h
+
+-- no shard has more records than one PutRecords may have for each turn
+abbrev pub AreFewRecords : List Turn → Type 0
+AreFewRecords h = (s sh : ℕ) → length (records (journal h) s sh) ≤ MANY_ITEMS * length h

@@ -1,21 +1,22 @@
 //! The laws.
-ghost use Rattle.std.specs.Prelude.{ℕ, ◌≡◌, ◌+◌, ◌<◌, ◌==◌, true, false, length, List, ◌∷◌, ◌++◌, Some};
+ghost use Rattle.std.specs.Prelude.{ℕ, ◌≡◌, ◌+◌, ◌<◌, ◌≤◌, ◌==◌, true, false, length, List, ◌∷◌, ◌++◌, Some};
 ghost use Rattle.kds_base.specs.declared.lease_key.ShardRef.{ShardRef};
 ghost use Rattle.kds_defs.specs.declared.command.Target.{Target};
 ghost use Rattle.kds_defs.specs.declared.command.Turn.{Turn};
 ghost use Rattle.kds_defs.specs.declared.limits.TheConstants.{PENDING_READS};
 ghost use Rattle.kds_defs.specs.declared.reply.Row.{Row};
-ghost use Rattle.kds_defs.specs.Histories.{journal};
+ghost use Rattle.kds_defs.specs.Histories.{clock, journal};
 ghost use Rattle.kds_defs.specs.Journal.{Journal};
 ghost use Rattle.kds_defs.specs.Keys.{is_listed_key};
 ghost use Rattle.kds_defs.specs.Leases.{ReadDone, row};
 ghost use Rattle.kds_defs.specs.StreamCommands.{last_number};
 ghost use Rattle.kcl_tenure.specs.Holding.{Holding, Holds, IsGivenSo, IsMarkedSo, IsOpenedSo, IsReadSo, IsTakenSo, MayMark, MayOpen, MayTake, after_give, after_mark, after_read, begun_from};
 ghost use Rattle.kcl_tenure.specs.Holding.{given_line, marked_line, opened_line, read_line, taken_line};
-ghost use Rattle.kcl_tenure.specs.Parents.{AreCounted, AreParentsClosed};
+ghost use Rattle.kcl_tenure.specs.Parents.{AreCounted, AreFewRecords, AreParentsClosed};
+ghost use Rattle.kds_defs.specs.Lawful.{IsHistory};
 ghost use Rattle.kds_defs.specs.Legal.{IsLegal};
 ghost use Rattle.kds_defs.specs.Shards.{shards};
-ghost use Rattle.kcl_tenure.specs.Leasing.{AreOnLeases, HasSameStreams};
+ghost use Rattle.kcl_tenure.specs.Leasing.{AreOnLeases, HasSameFloors, HasSameStreams};
 
 /// A row that isn't at its end is taken with its counter, and opened where its shard is listed and no parent is unread.
 /// The tenure then reads at its place while fewer than eight reads wait, is given those that wait in their order, and
@@ -49,6 +50,12 @@ pub fn lease_turns()
     ensures { (more h : List Turn) → AreOnLeases more → HasSameStreams (journal (more ++ h)) (journal h) }
 {}
 
+/// They leave the same streams live, and trim nothing that isn't trimmed without them.
+pub fn lease_floors()
+    ensures { (more h : List Turn) (c : ℕ) → AreOnLeases more → clock (more ++ h) ≤ c
+        → HasSameFloors c (journal (more ++ h)) (journal h) }
+{}
+
 /// The parents of a shard have smaller numbers than it, and are closed (Kinesis API Reference, Shard).
 pub fn closed_parents()
     ensures { (log : Journal) → IsLegal log → (s : ℕ) → AreParentsClosed (shards log s) }
@@ -57,4 +64,9 @@ pub fn closed_parents()
 /// Each turn raises a row's counter by one at most, and begins one tenure at most.
 pub fn lease_counts()
     ensures { (h : List Turn) → AreCounted h }
+{}
+
+/// A turn puts 500 records at most (Kinesis API Reference, PutRecords).
+pub fn record_counts()
+    ensures { (h : List Turn) → IsHistory h → AreFewRecords h }
 {}

@@ -4,4 +4,7 @@
 
 mod answers;
 
-pub use answers::{closed_parents, held_answers, held_states, lease_counts, lease_turns};
+pub use answers::{
+    closed_parents, held_answers, held_states, lease_counts, lease_floors, lease_turns,
+    record_counts,
+};
