@@ -1,0 +1,10 @@
+pub mod Leading
+pub mod KeyLemmas
+pub mod Settling
+pub mod LawLemmas
+pub mod Overs
+pub mod Spots
+pub mod Beginning
+pub mod ReadLemmas
+pub mod Makings
+pub mod Ends
