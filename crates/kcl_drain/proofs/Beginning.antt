@@ -1,6 +1,6 @@
 -- A row is taken, and its shard opened.
-use Rattle.std.proofs.Common.{◌≡◌, ℕ, ◌+◌, ◌-◌, ◌<◌, ◌≤◌, ◌^◌, max, Bool, true, false, List, [], ◌∷◌, ◌++◌, length, Option, Some, None, refl, sym, ap, subst, ◌∙◌, arith, inl, inr}
-use Rattle.std.specs.Prelude.{◌==◌, ◌⊎◌, min, slice_get, if◌then◌else◌, Result, Ok, IfOk}
+use Rattle.std.proofs.Common.{◌≡◌, ℕ, ◌+◌, ◌-◌, ◌<◌, ◌≤◌, ◌^◌, max, true, false, List, [], ◌∷◌, ◌++◌, length, Some, None, refl, sym, ap, subst, ◌∙◌, arith, inl, inr}
+use Rattle.std.specs.Prelude.{◌==◌, min, slice_get, if◌then◌else◌, Result, Ok}
 use Rattle.std.specs.Option.{option_map}
 use Rattle.std.proofs.lemmas.Bool.Decides.{nat_tests}
 use Rattle.kds_base.specs.declared.lease_key.Checkpoint.{Checkpoint}
@@ -14,7 +14,7 @@ use Rattle.kds_defs.specs.declared.reply.Reply.{Reply}
 use Rattle.kds_defs.specs.declared.reply.Reply.TheVariants as reply
 use Rattle.kds_defs.specs.declared.reply.Row.{Row}
 use Rattle.kds_defs.specs.Decision.{Accepted}
-use Rattle.kds_defs.specs.Histories.{answer_of, decide, journal}
+use Rattle.kds_defs.specs.Histories.{journal}
 use Rattle.kds_defs.specs.Journal.{Journal}
 use Rattle.kds_defs.specs.Keys.{same_key}
 use Rattle.kds_defs.specs.LeaseCommands.{least, open_shard}
@@ -30,10 +30,10 @@ use Rattle.kcl_summary.proofs.BatchLemmas.{IsUp, from, left_all}
 use Rattle.kcl_tenure.specs.Holding.{Holding, Holds, IsOpenedSo, IsTakenSo, MayOpen, MayTake, begun_from, opened_line, taken_line}
 use Rattle.kcl_drain.specs.declared.held.Held.{Held}
 use Rattle.kcl_drain.specs.Draining.{IsDone, IsFresh, IsStart, final_of, left_of, records_of, shard_of}
-use Rattle.kcl_drain.specs.Keys.{AreDrainedTo, Waits}
+use Rattle.kcl_drain.specs.Keys.{AreDrainedTo}
 use Rattle.kcl_drain.specs.Laws.{HasLaws}
 use Rattle.kcl_drain.specs.Leased.{Leads, turn_of}
-use Rattle.kcl_drain.specs.Standing.{IsDrainedHere, IsHeld, IsReady, IsSpot, IsTaken, OthersWait, ReadsOn, Spot, Stands, clock_at}
+use Rattle.kcl_drain.specs.Standing.{IsDrainedHere, IsSpot, IsTaken, OthersWait, ReadsOn, Spot, Stands, clock_at}
 use Rattle.kcl_drain.proofs.Leading.{Answered, IsOver, led, over, so_too}
 use Rattle.kcl_drain.proofs.Settling.{fewer_from, rise_up, settled_at, settled_horizon}
 use Rattle.kcl_drain.proofs.Spots.{apart, key_is, listed, none_yet, one_more, past, whole_is}

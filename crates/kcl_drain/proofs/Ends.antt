@@ -1,23 +1,20 @@
 -- Once all rows are drained, each listed shard is.
-use Rattle.std.proofs.Common.{◌≡◌, ℕ, zero, suc, ◌+◌, ◌<◌, max, Bool, true, false, List, [], ◌∷◌, ◌++◌, length, Option, Some, None, refl, sym, ap, subst, ◌∙◌, arith}
+use Rattle.std.proofs.Common.{◌≡◌, ℕ, zero, suc, max, Bool, true, false, List, [], ◌∷◌, ◌++◌, length, Some, refl, sym, ap, subst, ◌∙◌, arith}
 use Rattle.std.specs.Prelude.{is_none, not, slice_get, if◌then◌else◌}
 use Rattle.std.specs.List.{AllByRecursion}
-use Rattle.std.specs.Option.{option_map}
 use Rattle.kds_base.specs.declared.lease_key.Checkpoint.{Checkpoint}
 use Rattle.kds_base.specs.declared.lease_key.Checkpoint.TheVariants.{ShardEnd}
-use Rattle.kds_base.specs.declared.lease_key.ShardRef.{ShardRef}
 use Rattle.kds_defs.specs.declared.command.Turn.{Turn}
 use Rattle.kds_defs.specs.declared.reply.Row.{Row}
 use Rattle.kds_defs.specs.Histories.{clock, journal}
 use Rattle.kds_defs.specs.Journal.{Journal}
 use Rattle.kds_defs.specs.Keys.{ref}
-use Rattle.kds_defs.specs.Leases.{row}
 use Rattle.kds_defs.specs.Listings.{is_closed_at}
 use Rattle.kds_defs.specs.Records.{records}
-use Rattle.kds_defs.specs.Shards.{ShardState, is_open, listed_among, listed_shards, shard_at, shards}
+use Rattle.kds_defs.specs.Shards.{ShardState, listed_among, listed_shards, shard_at, shards}
 use Rattle.kds_defs.specs.Streams.{is_live, trim_floor}
 use Rattle.kcl_drill.specs.Summed.{AreDrained, IsDrained, final_checkpoint, last_checkpoint}
-use Rattle.kcl_drain.specs.Draining.{CanDrain, IsDone, final_of}
+use Rattle.kcl_drain.specs.Draining.{CanDrain}
 use Rattle.kcl_drain.specs.Keys.{AreDrainedTo, listed_keys}
 use Rattle.kcl_drain.specs.Laws.{HasLaws}
 use Rattle.kcl_drain.specs.Leased.{HasDrained, Leads}

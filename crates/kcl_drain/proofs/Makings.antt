@@ -1,10 +1,9 @@
 -- A row is made, where there is none.
-use Rattle.std.proofs.Common.{◌≡◌, ℕ, ◌+◌, ◌<◌, ◌≤◌, ◌^◌, Bool, true, false, List, [], ◌∷◌, ◌++◌, length, zero, suc, Option, Some, None, refl, sym, ap, subst, ◌∙◌, arith, inl, inr}
-use Rattle.std.specs.Prelude.{◌⊎◌, ◌==◌, ◌&&◌, is_some, max, not, nat_lt, slice_get, if◌then◌else◌, Result, Ok}
+use Rattle.std.proofs.Common.{◌≡◌, ℕ, ◌+◌, ◌<◌, ◌^◌, Bool, true, false, List, [], ◌∷◌, ◌++◌, length, zero, suc, Option, Some, None, refl, sym, ap, subst, ◌∙◌, arith, inl, inr}
+use Rattle.std.specs.Prelude.{◌⊎◌, ◌==◌, ◌&&◌, is_some, not, nat_lt, slice_get, if◌then◌else◌, Result}
 use Rattle.std.proofs.lemmas.Bool.Decides.{nat_tests}
 use Rattle.kds_base.specs.declared.lease_key.ShardRef.{ShardRef}
 use Rattle.kds_defs.specs.declared.command.Command.TheVariants as command
-use Rattle.kds_defs.specs.declared.command.Origin.{Origin}
 use Rattle.kds_defs.specs.declared.command.Origin.TheVariants as origin
 use Rattle.kds_defs.specs.declared.command.Turn.{Turn}
 use Rattle.kds_defs.specs.declared.entry.Entry.TheVariants as entry
@@ -13,18 +12,18 @@ use Rattle.kds_defs.specs.declared.reply.Refusal.TheVariants as refusal
 use Rattle.kds_defs.specs.declared.reply.Reply.{Reply}
 use Rattle.kds_defs.specs.declared.reply.Reply.TheVariants as reply
 use Rattle.kds_defs.specs.declared.reply.Row.{Row}
-use Rattle.kds_defs.specs.Decision.{Decision, Accepted, Refused}
-use Rattle.kds_defs.specs.Histories.{clock, journal}
+use Rattle.kds_defs.specs.Decision.{Accepted, Refused}
+use Rattle.kds_defs.specs.Histories.{journal}
 use Rattle.kds_defs.specs.Journal.{Journal, Line, plain_line}
 use Rattle.kds_defs.specs.Keys.{is_listed_key, same_key}
 use Rattle.kds_defs.specs.LeaseCommands.{counting_origin, follows_parent, make_lease}
-use Rattle.kds_defs.specs.Leases.{made_row, row, rows, taken_count}
+use Rattle.kds_defs.specs.Leases.{made_row, row, rows}
 use Rattle.kds_defs.specs.Shards.{start_of}
 use Rattle.kds_defs.proofs.Decisions.{passed_if, refused_if}
 use Rattle.kcl_summary.specs.Counting.{row_in}
 use Rattle.kcl_summary.proofs.RowLookups.{row_found}
-use Rattle.kcl_drain.specs.Draining.{IsFresh, shard_of}
-use Rattle.kcl_drain.specs.Keys.{AreDrainedTo, AreMade, HasRow, Waits, listed_keys}
+use Rattle.kcl_drain.specs.Draining.{IsFresh}
+use Rattle.kcl_drain.specs.Keys.{AreDrainedTo, AreMade, HasRow}
 use Rattle.kcl_drain.specs.Laws.{HasLaws}
 use Rattle.kcl_drain.specs.Leased.{Leads, turn_of}
 use Rattle.kcl_drain.specs.Standing.{IsSpot, Spot, clock_at}

@@ -3,8 +3,7 @@ use Rattle.std.proofs.Common.{◌≡◌, ℕ, ◌+◌, ◌-◌, ◌*◌, ◌<◌
 use Rattle.std.specs.Prelude.{◌==◌, ◌&&◌, nat_le, nat_lt, if◌then◌else◌, Result, Ok, Err, IfOk}
 use Rattle.std.specs.Option.{option_map}
 use Rattle.std.proofs.lemmas.Bool.Decides.{nat_tests}
-use Rattle.kds_base.specs.declared.lease_key.Checkpoint.{Checkpoint}
-use Rattle.kds_base.specs.declared.lease_key.Checkpoint.TheVariants.{TrimHorizon, At, ShardEnd}
+use Rattle.kds_base.specs.declared.lease_key.Checkpoint.TheVariants.{ShardEnd}
 use Rattle.kds_base.specs.declared.lease_key.ShardRef.{ShardRef}
 use Rattle.kds_defs.specs.declared.command.Command.TheVariants as command
 use Rattle.kds_defs.specs.declared.command.Target.{Target}
@@ -16,14 +15,14 @@ use Rattle.kds_defs.specs.declared.reply.Refusal.{Refusal}
 use Rattle.kds_defs.specs.declared.reply.Reply.{Reply}
 use Rattle.kds_defs.specs.declared.reply.Reply.TheVariants as reply
 use Rattle.kds_defs.specs.declared.reply.Row.{Row}
-use Rattle.kds_defs.specs.Decision.{Decision, Accepted}
+use Rattle.kds_defs.specs.Decision.{Accepted}
 use Rattle.kds_defs.specs.Histories.{journal}
 use Rattle.kds_defs.specs.Journal.{Journal, plain_line}
 use Rattle.kds_defs.specs.Keys.{is_listed_key, same_key}
 use Rattle.kds_defs.specs.LeaseCommands.{give, least, mark, read, read_reply}
-use Rattle.kds_defs.specs.Leases.{ReadDone, is_end, is_key, key_of, marked_row, row, taken_count}
-use Rattle.kds_defs.specs.Listings.{are_none, ends_at, is_closed_at}
-use Rattle.kds_defs.specs.Records.{Logged, batch, beginning, left_from, numbers_of, place_after, stored}
+use Rattle.kds_defs.specs.Leases.{ReadDone, is_key, marked_row, row, taken_count}
+use Rattle.kds_defs.specs.Listings.{are_none, is_closed_at}
+use Rattle.kds_defs.specs.Records.{Logged, batch, beginning, numbers_of, place_after, stored}
 use Rattle.kds_defs.specs.Shards.{start_of}
 use Rattle.kds_defs.specs.StreamCommands.{last_number}
 use Rattle.kcl_defs.specs.Consumers.{last_number_in}
@@ -40,7 +39,7 @@ use Rattle.kcl_drain.specs.Standing.{IsDrainedHere, IsHeld, IsReady, IsSpot, Oth
 use Rattle.kcl_drain.specs.Steps.{Marks}
 use Rattle.kcl_drain.proofs.Leading.{Answered, IsOver, led, over, so_too}
 use Rattle.kcl_drain.proofs.Overs.{same_batch, same_ends}
-use Rattle.kcl_drain.proofs.Settling.{IsBatchTo, batched, last_seq}
+use Rattle.kcl_drain.proofs.Settling.{batched, last_seq}
 use Rattle.kcl_drain.proofs.Spots.{listed, one_more, others_stay}
 use Rattle.kcl_drain.proofs.Beginning.{left_is, not_last, up}
 

@@ -2,7 +2,7 @@
 use Rattle.std.proofs.Common.{◌≡◌, ℕ, zero, suc, ◌+◌, ◌*◌, ◌<◌, ◌≤◌, ◌^◌, max, Bool, true, false, List, [], ◌∷◌, length, get_or, Option, Some, None, refl, sym, ap, subst, ◌∙◌, arith, inl, inr}
 use Rattle.std.specs.Prelude.{◌⊎◌, ◌&&◌, not, slice_get, if◌then◌else◌, nat_lt}
 use Rattle.std.proofs.lemmas.Bool.Decides.{nat_tests}
-use Rattle.std.specs.List.{AllByRecursion, filter}
+use Rattle.std.specs.List.{AllByRecursion}
 use Rattle.std.specs.Option.{option_map}
 use Rattle.kds_base.specs.declared.lease_key.Checkpoint.{Checkpoint}
 use Rattle.kds_base.specs.declared.lease_key.Checkpoint.TheVariants.{TrimHorizon, At, ShardEnd}
@@ -16,20 +16,18 @@ use Rattle.kds_defs.specs.Journal.{Journal}
 use Rattle.kds_defs.specs.Keys.{is_listed_key, ref, same_key}
 use Rattle.kds_defs.specs.LeaseCommands.{is_unread, past_parent, past_parents}
 use Rattle.kds_defs.specs.Leases.{reads_end, row, taken_count}
-use Rattle.kds_defs.specs.Listings.{is_closed_at, listed_in}
 use Rattle.kds_defs.specs.Shards.{ShardState, is_closed_below, shard_at, shards}
 use Rattle.kds_defs.specs.Streams.{is_live, live_streams, made_count, numbers_from, trim_floor}
 use Rattle.kds_defs.specs.Tiled.{AreNumbered}
 use Rattle.kds_defs.proofs.Decisions.{passed_if}
-use Rattle.kcl_laws.specs.Recorded.{RiseBetween}
-use Rattle.kcl_tenure.specs.Holding.{ArePast, MayOpen}
+use Rattle.kcl_tenure.specs.Holding.{ArePast}
 use Rattle.kcl_tenure.specs.Parents.{IsParentClosed}
 use Rattle.kcl_drill.specs.Summed.{last_checkpoint}
 use Rattle.kcl_drain.specs.Draining.{CanDrain, IsDone, IsWhole, final_of, records_of}
-use Rattle.kcl_drain.specs.Keys.{AreDrainedTo, Waits, listed_keys}
+use Rattle.kcl_drain.specs.Keys.{AreDrainedTo, listed_keys}
 use Rattle.kcl_drain.specs.Laws.{HasLaws}
 use Rattle.kcl_drain.specs.Standing.{IsSpot, OthersWait, Spot, clock_at}
-use Rattle.kcl_drain.proofs.KeyLemmas.{IsKeyOf, IsUp, all_in, filtered, in_numbers, key_of_streams, keys_in, keys_same, older_in, unlike_in, up_numbers}
+use Rattle.kcl_drain.proofs.KeyLemmas.{IsKeyOf, all_in, filtered, in_numbers, key_of_streams, keys_in, keys_same, older_in, unlike_in, up_numbers}
 use Rattle.kcl_drain.proofs.Leading.{IsOver}
 use Rattle.kcl_drain.proofs.Overs.{is_listed_now, same_shard}
 

@@ -1,5 +1,5 @@
 -- Which rows can be drained, and what draining leaves of a row.
-use Rattle.std.specs.Prelude.{ℕ, ◌≡◌, ◌*◌, ◌<◌, ◌≤◌, ◌^◌, max, true, false, if◌then◌else◌, List, length, Option, Some, None}
+use Rattle.std.specs.Prelude.{ℕ, ◌≡◌, ◌<◌, ◌≤◌, ◌^◌, max, true, false, if◌then◌else◌, List, length, Option, Some}
 use Rattle.std.specs.List.{AllByRecursion}
 use Rattle.std.specs.Option.{option_map}
 use Rattle.kds_base.specs.declared.lease_key.Checkpoint.{Checkpoint}

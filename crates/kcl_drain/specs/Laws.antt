@@ -1,5 +1,5 @@
 -- What a drain rests on: facts of the history before it, and what its turns leave.
-use Rattle.std.specs.Prelude.{ℕ, ◌≡◌, ◌≤◌, max, true, List, ◌++◌, length, Some}
+use Rattle.std.specs.Prelude.{ℕ, ◌≡◌, ◌≤◌, true, List, ◌++◌, length, Some}
 use Rattle.std.specs.List.{AllByRecursion}
 use Rattle.kds_base.specs.declared.lease_key.ShardRef.{ShardRef}
 use Rattle.kds_defs.specs.declared.command.Turn.{Turn}

@@ -1,11 +1,8 @@
 -- How far the draining of one row has come.
-use Rattle.std.specs.Prelude.{ℕ, ◌≡◌, ◌+◌, ◌-◌, ◌<◌, ◌≤◌, ◌^◌, ◌==◌, max, Bool, false, List, [], ◌∷◌, length, map, slice_get, Option, Some, None, Result, Ok, IfOk, OnOk}
-use Rattle.kds_base.specs.declared.lease_key.Checkpoint.{Checkpoint}
+use Rattle.std.specs.Prelude.{ℕ, ◌≡◌, ◌+◌, ◌<◌, ◌≤◌, ◌^◌, max, Bool, false, List, [], ◌∷◌, length, map, slice_get, Option, Some, None}
 use Rattle.kds_base.specs.declared.lease_key.ShardRef.{ShardRef}
-use Rattle.kds_defs.specs.declared.command.Target.{Target}
 use Rattle.kds_defs.specs.declared.command.Target.TheVariants as target
 use Rattle.kds_defs.specs.declared.command.Turn.{Turn}
-use Rattle.kds_defs.specs.declared.reply.Refusal.{Refusal}
 use Rattle.kds_defs.specs.declared.reply.Reply.{Reply}
 use Rattle.kds_defs.specs.declared.reply.Reply.TheVariants as reply
 use Rattle.kds_defs.specs.declared.reply.Row.{Row}
@@ -16,11 +13,9 @@ use Rattle.kds_defs.specs.Leases.{ReadDone, is_end, row, taken_count}
 use Rattle.kds_defs.specs.Listings.{ends_at}
 use Rattle.kds_defs.specs.Records.{Logged, batch, numbers_of, place_after, stored}
 use Rattle.kds_defs.specs.Shards.{start_of}
-use Rattle.kds_defs.specs.StreamCommands.{last_number}
 use Rattle.kcl_defs.specs.Consumers.{first_place, last_number_in}
 use Rattle.kcl_drill.specs.Summed.{last_checkpoint}
-use Rattle.kcl_summary.specs.Counting.{row_in}
-use Rattle.kcl_tenure.specs.Holding.{Holding, Holds, MayMark, after_give, after_mark, after_read, taken_line}
+use Rattle.kcl_tenure.specs.Holding.{Holding, Holds, after_give, after_mark, after_read, taken_line}
 use Rattle.kcl_drain.specs.declared.held.Held.{Held}
 use Rattle.kcl_drain.specs.declared.held.TheConstants.{READ}
 use Rattle.kcl_drain.specs.Draining.{CanDrain, IsDone, IsFresh, left_of, records_of, shard_of}

@@ -1,4 +1,4 @@
-use Rattle.std.proofs.Common.{◌≡◌, Some, None, Option, sym, ◌∙◌}
+use Rattle.std.proofs.Common.{◌≡◌, Some, None, sym, ◌∙◌}
 use Rattle.kcl_drain.specs.declared.reading.Fetch.{Fetch}
 use Rattle.kcl_drain.proofs.reading.step.Goals as goal
 

@@ -1,7 +1,7 @@
 use Rattle.std.proofs.Common.{ap, sym, ◌∙◌}
 use Rattle.kds_defs.specs.declared.reply.Row.{Row}
 use Rattle.kds_defs.specs.Leases.{is_end}
-use Rattle.kcl_drain.proofs.Beginning.{at_end, end_same, not_seen}
+use Rattle.kcl_drain.proofs.Beginning.{at_end, end_same}
 use Rattle.kcl_drain.proofs.rows.drain_row.Goals as goal
 
 pub returns-then-is_end-clause-ok : goal.returns-then-is_end-clause-ok

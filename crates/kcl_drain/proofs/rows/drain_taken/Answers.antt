@@ -1,4 +1,4 @@
-use Rattle.std.proofs.Common.{◌≡◌, Some, None, sym, subst, ◌∙◌}
+use Rattle.std.proofs.Common.{◌≡◌, Some, sym, subst, ◌∙◌}
 use Rattle.kcl_drain.specs.declared.held.Held.{Held}
 use Rattle.kcl_drain.specs.Leased.{Leads}
 use Rattle.kcl_drain.specs.Standing.{IsTaken}
