@@ -8,3 +8,5 @@ pub mod Beginning
 pub mod ReadLemmas
 pub mod Makings
 pub mod Ends
+pub mod HorizonLemmas
+pub mod OwnLemmas

@@ -2,6 +2,9 @@ use Rattle.std.proofs.Common.{ℕ, ◌++◌, max, List, [], refl, ◌∙◌, ap}
 use Rattle.std.specs.Prelude.{length, Result, Ok, Err, OnErr, OnOk}
 use Rattle.kds_defs.specs.declared.command.Command.TheVariants as command
 use Rattle.kds_defs.specs.declared.command.Turn.{Turn}
+use Rattle.kds_base.specs.declared.lease_key.ShardRef.{ShardRef}
+use Rattle.kds_defs.specs.declared.reply.Refusal.{Refusal}
+use Rattle.kds_defs.specs.declared.reply.Reply.{Reply}
 use Rattle.kds_defs.specs.declared.reply.Reply.TheVariants as reply
 use Rattle.kds_defs.specs.declared.reply.Row.{Row}
 use Rattle.kds_defs.specs.Decision.{Accepted}
@@ -28,6 +31,9 @@ leased_so : {E : Type 0} (stands : List Turn → Type 0) (by at : ℕ) (h : List
 leased_so stands by at h (Ok u) has = tt
 leased_so stands by at h (Err e) has = has
 
+told : (a : Result Reply Refusal) (keys keys' : List ShardRef) (among : List Row) → a ≡ Ok (reply.Survey keys among) → keys ≡ keys' → a ≡ Ok (reply.Survey keys' among)
+told a keys keys' among is same = is ∙ ap (λ ks. Ok (reply.Survey ks among)) same
+
 pub returns-clause-drained : goal.returns-clause-drained
 returns-clause-drained g c = λ h now can.
     let at = c.args.at in
@@ -42,7 +48,7 @@ returns-clause-drained g c = λ h now can.
     let there = over (g.M.Machine.stands_for c.make_missing.new.machine) by at h (AreMade h keys seen (length keys)) laws made in
     let second = led (g.M.Machine.stands_for c.make_missing.new.machine) (g.M.Machine.stands_for c.ask-2.new.machine) by at h command.Survey c.in_ok-after.after (AreMade h keys seen (length keys)) (AreDrainedTo h keys (rows log) 0) (Accepted [] (reply.Survey (listed_in log (max (clock h) at) (live_streams log)) (rows log)))
     refl (c.ask.ensures.moment, tt) c.in_ok-after.ensures.ok made refl (all_wait h keys seen log made.so) in
-    let survey = second.0 ∙ ap (λ ks. Ok (reply.Survey ks (rows log))) (same_keys h (max (clock h) at) log there) in
+    let survey = told c.in_ok-after.after (listed_in log (max (clock h) at) (live_streams log)) keys (rows log) second.0 (same_keys h (max (clock h) at) log there) in
     drained_so (g.M.Machine.stands_for c.drain_listed.new.machine) by at h (rows log) c.drain_listed.result can laws
     (c.drain_listed.ensures.ok h (rows log) can survey second.1)
 
