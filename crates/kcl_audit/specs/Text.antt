@@ -7,8 +7,8 @@ use Rattle.kcl_script.specs.Answers.{refusal_name}
 use Rattle.kcl_journal.specs.declared.line.EntryLine.{EntryLine}
 use Rattle.kcl_journal.specs.Entries.{IsVersion, end_spelling, entry_spelling, heading}
 use Rattle.kcl_journal.specs.Ranges.{IsEntryLine, is_first}
-use Rattle.kcl_judge.specs.declared.rule.Rule.{Rule}
-use Rattle.kcl_judge.specs.declared.rule.Rule.TheVariants as rule
+use Rattle.kcl_streams.specs.declared.rule.Rule.{Rule}
+use Rattle.kcl_streams.specs.declared.rule.Rule.TheVariants as rule
 use Rattle.kcl_audit.specs.Progress.{AuditEnd, sound, unsound, over, Progress, found, line_of, next}
 
 -- the journal that entries tell, of which the first is the oldest

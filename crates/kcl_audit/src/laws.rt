@@ -4,7 +4,7 @@ ghost use Rattle.kds_defs.specs.Journal.{Journal, Line};
 ghost use Rattle.kds_defs.specs.Legal.{IsGood};
 ghost use Rattle.kcl_journal.specs.declared.line.EntryLine.{EntryLine};
 ghost use Rattle.kcl_journal.specs.Ranges.{IsTellable};
-ghost use Rattle.kcl_judge.specs.Verdict.{verdict};
+ghost use Rattle.kcl_streams.specs.Verdict.{verdict};
 ghost use Rattle.kds_lines.specs.Lines.{lined, too_long};
 ghost use Rattle.kcl_audit.specs.Progress.{audit_of, line_of, over, sound};
 ghost use Rattle.kcl_audit.specs.Text.{IsJournal};

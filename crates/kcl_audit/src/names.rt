@@ -3,8 +3,8 @@ ghost use Rattle.std.specs.Prelude.{◌≡◌, ◌++◌, OnErr, OnOk};
 ghost use Rattle.kcl_script.specs.Answers.{refusal_name as name_of};
 ghost use Rattle.kcl_audit.specs.Text.{named_text, rule_name as name_of_rule, sound_text};
 
-use kcl_judge::Rule;
 use kcl_script::with_number;
+use kcl_streams::Rule;
 use kds_base::{Memory, Octets};
 use kds_defs::Refusal;
 use std::alloc::Global;

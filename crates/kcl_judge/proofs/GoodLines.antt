@@ -19,10 +19,10 @@ use Rattle.kds_defs.specs.Leases.{TenureState}
 use Rattle.kds_defs.specs.Legal.{IsGood, IsInRange, last_clock, told}
 use Rattle.kds_defs.specs.Shards.{ShardState, home, shard_at}
 use Rattle.kds_defs.specs.Records.{next_number}
-use Rattle.kcl_judge.specs.declared.rule.Rule.TheVariants as rule
-use Rattle.kcl_judge.specs.Verdict.{IsFit, Verdict, gives, judged, same_entry, same_flag, same_list, same_origin, same_target, verdict}
+use Rattle.kcl_streams.specs.declared.rule.Rule.TheVariants as rule
+use Rattle.kcl_streams.specs.Verdict.{IsFit, Verdict, gives, judged, same_entry, same_flag, same_list, same_origin, same_target, verdict}
 use Rattle.kcl_leases.proofs.RowChanges.{same_ref}
-use Rattle.kcl_judge.proofs.StreamTold.{length-blank}
+use Rattle.kcl_streams.proofs.StreamTold.{length-blank}
 
 -- ---- entries that are the same
 

@@ -14,10 +14,11 @@ use Rattle.kcl_book.specs.Tenures.{TenureValue}
 use Rattle.kcl_leases.specs.Standing.{Facing, IsGiven, Stands, facing, kept, leases, stream_of}
 use Rattle.kcl_laws.specs.ShownLines.{entry_line}
 use Rattle.kds_defs.specs.Legal.{told}
-use Rattle.kcl_judge.specs.Judging.{stream_verdict, streams_after}
-use Rattle.kcl_judge.specs.Standing.{JudgeValue, Holds, Shows, StreamsValue, judge}
+use Rattle.kcl_streams.specs.Judging.{stream_verdict, streams_after}
+use Rattle.kcl_streams.specs.Standing.{Shows, StreamsValue}
+use Rattle.kcl_judge.specs.Standing.{JudgeValue, Holds, judge}
 use Rattle.kcl_judge.specs.Standing as judging
-use Rattle.kcl_judge.specs.Verdict.{Verdict, judged}
+use Rattle.kcl_streams.specs.Verdict.{Verdict, judged}
 use Rattle.kcl_judge.proofs.StreamsAfter.{shows_after}
 use Rattle.kcl_judge.proofs.StreamVerdicts.{stream_told}
 

@@ -35,12 +35,13 @@ use Rattle.kds_defs.specs.Streams.{is_live}
 use Rattle.kds_defs.specs.declared.reply.Shard.{Shard}
 use Rattle.std.specs.Option.{option_map}
 use Rattle.kcl_leases.specs.Standing.{Facing, Leads, LeasesValue, Stands, leases, live_shard}
-use Rattle.kcl_judge.specs.declared.rule.Rule.TheVariants as rule
-use Rattle.kcl_judge.specs.Judging.{agrees, answer_verdict, lease_verdict}
+use Rattle.kcl_streams.specs.declared.rule.Rule.TheVariants as rule
+use Rattle.kcl_streams.specs.Judging.{agrees}
+use Rattle.kcl_judge.specs.Judging.{answer_verdict, lease_verdict}
 use Rattle.kcl_judge.specs.Standing.{After, Judges}
-use Rattle.kcl_judge.specs.Verdict.{Verdict, judged, same_entry, same_origin}
-use Rattle.kcl_judge.proofs.SameEntries.{key_self, same_refl}
-use Rattle.kcl_judge.proofs.StreamTold.{then_refuse}
+use Rattle.kcl_streams.specs.Verdict.{Verdict, judged, same_entry, same_origin}
+use Rattle.kcl_streams.proofs.SameEntries.{key_self, same_refl}
+use Rattle.kcl_streams.proofs.StreamTold.{then_refuse}
 
 -- it is refused, or gives just this line
 abbrev pub GivesLine : Decision → Line → Type 0

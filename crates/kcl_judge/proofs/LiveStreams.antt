@@ -12,11 +12,11 @@ use Rattle.kds_defs.specs.Legal.{told}
 use Rattle.kds_defs.specs.Shards.{ShardState, is_open, open_count, open_in as open_of}
 use Rattle.kds_defs.specs.StreamCommands.{last_number}
 use Rattle.kds_defs.specs.Streams.{is_live, live_streams, made_count, name_of, numbers_from, same_name, stream_named}
-use Rattle.kcl_judge.specs.Judging.{agrees, is_named, lacks_room, live_count, made_verdict, open_in, refused, refused_by}
-use Rattle.kcl_judge.specs.Standing.{AreStreams, IsStream, ShowsAll, StreamValue}
-use Rattle.kcl_judge.specs.Verdict.{Verdict, judged, same_entry}
-use Rattle.kcl_judge.proofs.SameEntries.{list, number}
-use Rattle.kcl_judge.proofs.StreamTold.{then_refuse}
+use Rattle.kcl_streams.specs.Judging.{agrees, is_named, lacks_room, live_count, made_verdict, open_in, refused, refused_by}
+use Rattle.kcl_streams.specs.Standing.{AreStreams, IsStream, ShowsAll, StreamValue}
+use Rattle.kcl_streams.specs.Verdict.{Verdict, judged, same_entry}
+use Rattle.kcl_streams.proofs.SameEntries.{list, number}
+use Rattle.kcl_streams.proofs.StreamTold.{then_refuse}
 
 -- the live ones of these numbers
 abbrev live_from : Journal → ℕ → ℕ → List ℕ

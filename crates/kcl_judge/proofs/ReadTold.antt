@@ -1,6 +1,6 @@
 -- What the entry of a read tells, by what a judge keeps.
 use Rattle.std.proofs.Common.{◌≡◌, ℕ, ◌-◌, Bool, true, false, List, [], ◌∷◌, map, slice_set, Option, Some, None, refl, sym, ap, subst, ◌∙◌, arith}
-use Rattle.std.specs.Prelude.{◌==◌, ◌&&◌, if◌then◌else◌, slice_get, Ok, Err, IfSome}
+use Rattle.std.specs.Prelude.{◌==◌, ◌&&◌, slice_get, Ok, Err, IfSome}
 use Rattle.std.specs.Option.{option_map}
 use Rattle.kds_defs.specs.declared.command.Command.TheVariants as command
 use Rattle.kds_defs.specs.declared.entry.Entry.TheVariants as entry
@@ -23,27 +23,21 @@ use Rattle.kcl_book.specs.Tenures.{TenureValue, tenure_at, with_read}
 use Rattle.kcl_leases.proofs.TenureWrites.{read_at, read_gives}
 use Rattle.kcl_leases.specs.Conditions.{own_answer, reader_answer}
 use Rattle.kcl_leases.specs.Standing.{KeepsShards, Leads, Stands, facing, kept, leases}
-use Rattle.kcl_judge.specs.declared.rule.Rule.TheVariants as rule
-use Rattle.kcl_judge.specs.Judging.{agrees, reach_of}
-use Rattle.kcl_judge.specs.Standing.{IsStream, Judges, Shows, StreamValue, StreamsValue, floor_in, if_live, live_at, records_in, stream_at}
-use Rattle.kcl_judge.specs.Verdict.{judged, same_entry, same_flag, same_list}
-use Rattle.kcl_judge.proofs.BatchTold.{batch_is, ends_is}
-use Rattle.kcl_judge.proofs.Keys.{live_is, stream_found}
+use Rattle.kcl_streams.specs.declared.rule.Rule.TheVariants as rule
+use Rattle.kcl_streams.specs.Judging.{agrees}
+use Rattle.kcl_judge.specs.Judging.{reach_of}
+use Rattle.kcl_streams.specs.Standing.{IsStream, Shows, StreamValue, StreamsValue, floor_in, live_at, records_in, stream_at}
+use Rattle.kcl_judge.specs.Standing.{Judges}
+use Rattle.kcl_streams.specs.Verdict.{judged, same_entry, same_flag, same_list}
+use Rattle.kcl_streams.proofs.BatchTold.{batch_is, ends_is}
+use Rattle.kcl_streams.proofs.Keys.{live_is, stream_found}
 use Rattle.kcl_judge.proofs.LeaseLines.{judged_refused}
-use Rattle.kcl_judge.proofs.SameEntries.{number}
+use Rattle.kcl_streams.proofs.SameEntries.{number}
+use Rattle.kcl_streams.proofs.FoundStreams.{live_found}
 
 reach_same : (o : Option TenureState) → reach_in o ≡ reach_of (option_map kept o)
 reach_same None = refl
 reach_same (Some T) = refl
-
--- the live stream of a number
-pub live_found : (o : Option StreamValue) (v : StreamValue) → if_live o ≡ Some v → o ≡ Some v
-live_found None v h = absurd cc
-live_found (Some u) v h = by u.live h
-  where
-    by : (b : Bool) → (if b then Some u else None) ≡ Some v → Some u ≡ Some v
-    by true h = h
-    by false h = absurd cc
 
 stored_numbers : (xs : List Logged) → map (λ (r : Stored). r.seq) (map stored xs) ≡ numbers_of xs
 stored_numbers [] = refl

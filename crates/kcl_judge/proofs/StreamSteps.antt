@@ -12,11 +12,11 @@ use Rattle.kds_defs.specs.Rates.{SizedPut, puts}
 use Rattle.kds_defs.specs.Records.{Logged, next_number, records}
 use Rattle.kds_defs.specs.Shards.{Closing, made_shards, merged_shards, shards, split_shards}
 use Rattle.kds_defs.specs.Streams.{floor_at, hours, is_live, name_of, was_made}
-use Rattle.kcl_judge.specs.declared.records.Sized.{Sized}
-use Rattle.kcl_judge.specs.Judging.{new_stream, with_gone, with_hours, with_limits, with_merge, with_put, with_split}
-use Rattle.kcl_judge.specs.Standing.{IsStream, IsUnmade, StreamValue, bare, is_in, logged, puts_from, puts_in, records_in}
-use Rattle.kcl_judge.proofs.Floors.{changed_later, first_later, same_later}
-use Rattle.kcl_judge.proofs.SameEntries.{number}
+use Rattle.kcl_streams.specs.declared.records.Sized.{Sized}
+use Rattle.kcl_streams.specs.Judging.{new_stream, with_gone, with_hours, with_limits, with_merge, with_put, with_split}
+use Rattle.kcl_streams.specs.Standing.{IsStream, IsUnmade, StreamValue, bare, is_in, logged, puts_from, puts_in, records_in}
+use Rattle.kcl_streams.proofs.Floors.{changed_later, first_later, same_later}
+use Rattle.kcl_streams.proofs.SameEntries.{number}
 
 chosen : {A : Type 0} (s : ℕ) (x y : A) → (if s == s then x else y) ≡ x
 chosen s x y = ap (λ (b : Bool). if b then x else y) (number s)

@@ -8,12 +8,12 @@ use Rattle.kcl_laws.specs.ShownLines.{entry_line}
 use Rattle.kds_defs.specs.Journal.{Journal}
 use Rattle.kds_defs.specs.Legal.{in_stream, told}
 use Rattle.kcl_leases.specs.Standing.{stream_of}
-use Rattle.kcl_judge.specs.Judging.{in_live, lacks_room, stream_verdict}
-use Rattle.kcl_judge.specs.Standing.{IsStream, Shows, StreamValue, StreamsValue, if_live, live_at, stream_at}
-use Rattle.kcl_judge.specs.Verdict.{Verdict, judged}
-use Rattle.kcl_judge.proofs.Keys.{stream_found, stream_none}
+use Rattle.kcl_streams.specs.Judging.{in_live, lacks_room, stream_verdict}
+use Rattle.kcl_streams.specs.Standing.{IsStream, Shows, StreamValue, StreamsValue, if_live, live_at, stream_at}
+use Rattle.kcl_streams.specs.Verdict.{Verdict, judged}
+use Rattle.kcl_streams.proofs.Keys.{stream_found, stream_none}
 use Rattle.kcl_judge.proofs.LiveStreams.{full_is, made_told}
-use Rattle.kcl_judge.proofs.StreamTold.{gone_told, judged_gone, kept_told, limits_told, merge_told, put_told, split_told}
+use Rattle.kcl_streams.proofs.StreamTold.{gone_told, judged_gone, kept_told, limits_told, merge_told, put_told, split_told}
 
 -- an entry of a stream that may be live
 in_one : (w : StreamsValue) (log : Journal) (s : ℕ) (d : Decision) (what : Entry) (f : StreamValue → Verdict) → Shows w log

@@ -10,12 +10,12 @@ use Rattle.kds_defs.specs.Journal.{Line, Journal}
 use Rattle.kds_defs.specs.Legal.{last_clock}
 use Rattle.kds_defs.specs.Streams.{made_count}
 use Rattle.kcl_leases.specs.Standing.{stream_of}
-use Rattle.kcl_judge.specs.Judging.{changed_at, lacks_room, made_refusal, merge_verdict, new_stream, put_verdict, split_verdict, stream_verdict, streams_after, with_gone, with_hours, with_limits, with_merge, with_put, with_split}
-use Rattle.kcl_judge.specs.Standing.{AreStreams, IsStream, Shows, ShowsAll, StreamValue, StreamsValue}
-use Rattle.kcl_judge.specs.Verdict.{Verdict}
-use Rattle.kcl_judge.proofs.Changed.{IsOf, agrees_so, equal_so, is_of, merge_draws, past_by, split_draws}
-use Rattle.kcl_judge.proofs.Keys.{stream_get}
-use Rattle.kcl_judge.proofs.Others.{stream_other, unmade_other}
+use Rattle.kcl_streams.specs.Judging.{changed_at, lacks_room, made_refusal, merge_verdict, new_stream, put_verdict, split_verdict, stream_verdict, streams_after, with_gone, with_hours, with_limits, with_merge, with_put, with_split}
+use Rattle.kcl_streams.specs.Standing.{AreStreams, IsStream, Shows, ShowsAll, StreamValue, StreamsValue}
+use Rattle.kcl_streams.specs.Verdict.{Verdict}
+use Rattle.kcl_streams.proofs.Changed.{IsOf, agrees_so, equal_so, is_of, merge_draws, past_by, split_draws}
+use Rattle.kcl_streams.proofs.Keys.{stream_get}
+use Rattle.kcl_streams.proofs.Others.{stream_other, unmade_other}
 use Rattle.kcl_judge.proofs.StreamSteps.{gone_step, kept_step, limits_step, made_step, merge_step, put_step, split_step}
 
 -- an entry of this stream is of no other

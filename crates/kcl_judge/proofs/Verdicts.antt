@@ -4,8 +4,8 @@ use Rattle.std.specs.Prelude.{nat_lt, Ok}
 use Rattle.std.proofs.lemmas.Bool.Decides.{nat_tests}
 use Rattle.kds_defs.specs.Journal.{Journal, Line}
 use Rattle.kds_defs.specs.Legal.{IsGood, last_clock}
-use Rattle.kcl_judge.specs.Verdict.{judged, verdict}
-use Rattle.kcl_judge.proofs.SameEntries.{same_refl}
+use Rattle.kcl_streams.specs.Verdict.{judged, verdict}
+use Rattle.kcl_streams.proofs.SameEntries.{same_refl}
 
 not_below : (a b : ℕ) → a ≤ b → nat_lt b a ≡ false
 not_below a b h = grind (arith, nat_tests)

@@ -1,4 +1,2 @@
 pub mod Judging
-pub mod Order
 pub mod Standing
-pub mod Verdict

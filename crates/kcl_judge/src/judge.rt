@@ -5,14 +5,12 @@ ghost use Rattle.kds_defs.specs.Journal.{Journal};
 ghost use Rattle.kds_defs.specs.Legal.{told};
 ghost use Rattle.kcl_leases.specs.Standing.{stream_of};
 ghost use Rattle.kcl_judge.specs.Standing.{Holds, Stands};
-ghost use Rattle.kcl_judge.specs.Verdict.{IsFit, end_verdict, judged, verdict};
-ghost use Rattle.kcl_judge.specs.Judging.{stream_verdict, streams_after};
+ghost use Rattle.kcl_streams.specs.Verdict.{IsFit, end_verdict, judged, verdict};
+ghost use Rattle.kcl_streams.specs.Judging.{stream_verdict, streams_after};
 
 use crate::lease_entries;
-use crate::rule::Rule;
-use crate::stream_entries::{add, judge};
-use crate::streams::Streams;
 use kcl_book::Book;
+use kcl_streams::{Rule, Streams, add, judge};
 use kcl_table::Table;
 use kds_base::{Memory, Moment};
 use kds_defs::Entry;

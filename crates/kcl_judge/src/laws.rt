@@ -4,7 +4,7 @@ ghost use Rattle.kcl_laws.specs.ShownLines.{entry_line};
 ghost use Rattle.kds_defs.specs.declared.entry.Entry.{Entry};
 ghost use Rattle.kds_defs.specs.Journal.{Journal, Line};
 ghost use Rattle.kds_defs.specs.Legal.{IsGood};
-ghost use Rattle.kcl_judge.specs.Verdict.{IsFit, verdict};
+ghost use Rattle.kcl_streams.specs.Verdict.{IsFit, verdict};
 
 /// A good line meets no rule; and of the lines that a text can show, one that meets no rule is good.
 pub fn exact()

@@ -8,14 +8,13 @@ ghost use Rattle.kcl_leases.specs.Conditions.{counting_from, parent_reaches};
 ghost use Rattle.kcl_leases.specs.Standing.{stream_of};
 ghost use Rattle.kcl_book.specs.Tenures.{tenure_at};
 ghost use Rattle.kcl_judge.specs.Judging.{answer_verdict, reach_of};
-ghost use Rattle.kcl_judge.specs.Standing.{HoldBeside, JudgesBeside, Keeps, Shows};
-ghost use Rattle.kcl_judge.specs.Verdict.{IsFit, same_flag, same_list, same_origin};
+ghost use Rattle.kcl_streams.specs.Standing.{Shows};
+ghost use Rattle.kcl_judge.specs.Standing.{HoldBeside, JudgesBeside, Keeps};
+ghost use Rattle.kcl_streams.specs.Verdict.{IsFit, same_flag, same_list, same_origin};
 
-use crate::rule::Rule;
-use crate::stream::place_after;
-use crate::streams::{Streams, live};
 use kcl_book::Book;
 use kcl_leases::{Shards, cut, free, give, make, mark, open, reader, renew, start, take};
+use kcl_streams::{Rule, Streams, live, place_after};
 use kcl_table::Table;
 use kds_base::{Memory, Seq, ShardNo, ShardRef, StreamNo, TenureNo, WorkerNo};
 use kds_defs::{Answer, Entry, Origin, Refusal, Shard, Target};

@@ -4,12 +4,6 @@
 mod judge;
 mod laws;
 mod lease_entries;
-mod records;
-mod rule;
-mod stream;
-mod stream_entries;
-mod streams;
 
 pub use judge::Judge;
 pub use laws::exact;
-pub use rule::Rule;

@@ -6,7 +6,7 @@ use Rattle.kds_ends.specs.Causes.{AppendsFront}
 use Rattle.kds_ends.specs.declared.status.Status.{Status}
 use Rattle.kds_ends.specs.declared.status.Status.TheVariants as status
 use Rattle.kds_lines.specs.Lines.{End, lined, too_long}
-use Rattle.kcl_judge.specs.declared.rule.Rule.{Rule}
+use Rattle.kcl_streams.specs.declared.rule.Rule.{Rule}
 use Rattle.kcl_audit.specs.Progress.{AuditEnd, Progress, audit_of, finish, over, progress}
 use Rattle.kcl_audit.specs.Text.{audit_text, report}
 use Rattle.kcl_auditor.specs.Standing.{end_by, is_bad, is_sound}

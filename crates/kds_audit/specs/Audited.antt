@@ -6,7 +6,7 @@ use Rattle.kds_defs.specs.Safe.{IsSafe}
 use Rattle.kds_ends.specs.Causes.{AppendsFront}
 use Rattle.kds_ends.specs.declared.status.Status.{Status}
 use Rattle.kds_ends.specs.declared.status.Status.TheVariants.{Done, Unsound, Read, Write, Memory, TooLong}
-use Rattle.kcl_judge.specs.declared.rule.Rule.{Rule}
+use Rattle.kcl_streams.specs.declared.rule.Rule.{Rule}
 use Rattle.kcl_audit.specs.Progress.{AuditEnd, audit_of, over, sound, unsound}
 use Rattle.kcl_audit.specs.Text.{IsJournal, audit_text, journal_of}
 use Rattle.kcl_auditor.specs.Standing.{is_sound}

@@ -3,8 +3,8 @@ use Rattle.std.specs.Prelude.{is_some}
 use Rattle.kcl_leases.proofs.RowWrites.{unlisted}
 use Rattle.kcl_leases.specs.Standing.{facing, leases}
 use Rattle.kcl_table.specs.Rows.{row_of}
-use Rattle.kcl_judge.specs.Standing.{Shows}
-use Rattle.kcl_judge.specs.Verdict.{same_origin}
+use Rattle.kcl_streams.specs.Standing.{Shows}
+use Rattle.kcl_streams.specs.Verdict.{same_origin}
 use Rattle.kcl_judge.proofs.LeaseLines.{counts_is, made_entry, made_gone, made_other, made_there, origin_so}
 use Rattle.kcl_judge.proofs.lease_entries.made.Goals as goal
 

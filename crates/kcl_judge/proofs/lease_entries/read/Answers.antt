@@ -6,9 +6,9 @@ use Rattle.kds_defs.specs.Records.{beginning, left_among, numbers_of, place_afte
 use Rattle.kcl_book.specs.Tenures.{tenure_at, with_read}
 use Rattle.kcl_leases.proofs.TenureWrites.{of_book, read_refused, reads_from, room_from, goes_onward}
 use Rattle.kcl_leases.specs.Standing.{facing}
-use Rattle.kcl_judge.specs.Standing.{Shows, floor_in, live_at, records_in}
-use Rattle.kcl_judge.specs.Verdict.{same_flag, same_list}
-use Rattle.kcl_judge.proofs.Others.{shows_lease}
+use Rattle.kcl_streams.specs.Standing.{Shows, floor_in, live_at, records_in}
+use Rattle.kcl_streams.specs.Verdict.{same_flag, same_list}
+use Rattle.kcl_streams.proofs.Others.{shows_lease}
 use Rattle.kcl_judge.proofs.ReadTold.{numbers_are, read_entry, read_other, read_refused_entry}
 use Rattle.kcl_judge.proofs.lease_entries.read.Goals as goal
 

@@ -1,5 +1,5 @@
 use Rattle.kcl_leases.specs.Standing.{facing, leases}
-use Rattle.kcl_judge.specs.Standing.{Shows}
+use Rattle.kcl_streams.specs.Standing.{Shows}
 use Rattle.kcl_judge.proofs.LeaseLines.{cut_entry}
 use Rattle.kcl_judge.proofs.lease_entries.removed.Goals as goal
 

@@ -3,8 +3,8 @@ use Rattle.std.specs.Prelude.{◌==◌}
 use Rattle.kcl_leases.specs.Conditions.{start_answer}
 use Rattle.kcl_leases.specs.Standing.{facing, leases}
 use Rattle.kcl_table.specs.Rows.{row_of}
-use Rattle.kcl_judge.specs.Standing.{Shows}
-use Rattle.kcl_judge.proofs.Changed.{differ_so, equal_so}
+use Rattle.kcl_streams.specs.Standing.{Shows}
+use Rattle.kcl_streams.proofs.Changed.{differ_so, equal_so}
 use Rattle.kcl_judge.proofs.LeaseLines.{taken_entry, taken_other, taken_refused}
 use Rattle.kcl_judge.proofs.lease_entries.taken.Goals as goal
 

@@ -1,0 +1,4 @@
+pub mod Judging
+pub mod Order
+pub mod Standing
+pub mod Verdict
