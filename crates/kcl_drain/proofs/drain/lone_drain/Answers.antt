@@ -1,4 +1,4 @@
-use Rattle.std.proofs.Common.{ℕ, ◌++◌, max, List, [], refl, ◌∙◌, ap}
+use Rattle.std.proofs.Common.{ℕ, ◌++◌, max, List, [], refl, ◌∙◌, ap, ◌≡◌}
 use Rattle.std.specs.Prelude.{length, Result, Ok, Err, OnErr, OnOk}
 use Rattle.kds_defs.specs.declared.command.Command.TheVariants as command
 use Rattle.kds_defs.specs.declared.command.Turn.{Turn}
