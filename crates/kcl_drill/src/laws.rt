@@ -1,9 +1,9 @@
 //! The laws on which the text of a drill rests.
-ghost use Rattle.std.specs.Prelude.{ℕ, ◌==◌, false, List, ◌≡◌, ◌<◌, reverse, Some};
+ghost use Rattle.std.specs.Prelude.{ℕ, ◌==◌, false, List, ◌≡◌, ◌<◌, ◌≤◌, reverse, Some};
 ghost use Rattle.kds_defs.specs.declared.command.Turn.{Turn};
 ghost use Rattle.kds_defs.specs.Histories.{clock, journal};
 ghost use Rattle.kds_defs.specs.Lawful.{IsHistory};
-ghost use Rattle.kds_defs.specs.Streams.{stream_named};
+ghost use Rattle.kds_defs.specs.Streams.{stream_named, trim_floor};
 ghost use Rattle.kcl_drill.specs.Apart.{AreBasic, LEAST_RETENTION, service_turns, stream_lines};
 ghost use Rattle.kcl_drill.specs.Fed.{IsDrill, IsFed, commands_in};
 ghost use Rattle.kcl_drill.specs.Generated.{drill_name, generated};
@@ -16,6 +16,14 @@ use kcl_laws::step;
 pub fn apart()
     ensures { (h : List Turn) → IsHistory h → AreBasic h → clock h < LEAST_RETENTION
         → stream_lines (journal h) ≡ stream_lines (journal (service_turns h)) }
+{
+    step()
+}
+
+/// Until anything can be trimmed, nothing is: below 24 hours no stream has a cut, and so no record is trimmed and no shard
+/// is expired.
+pub fn untrimmed()
+    ensures { (h : List Turn) (c s : ℕ) → IsHistory h → clock h ≤ c → c < LEAST_RETENTION → trim_floor (journal h) c s ≡ 0 }
 {
     step()
 }

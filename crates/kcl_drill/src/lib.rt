@@ -10,7 +10,7 @@ mod records;
 mod state;
 
 pub use generator::{Generator, generate};
-pub use laws::{apart, one_order, one_text};
+pub use laws::{apart, one_order, one_text, untrimmed};
 pub use limits::drill_limits;
 pub use records::stream_name;
 
