@@ -1,0 +1,4 @@
+pub mod Asking
+pub mod Feeding
+pub mod Running
+pub mod Beside
