@@ -1,0 +1,61 @@
+-- The history of a drill's hall, once all its passes were joined and it was closed. Lists of turns have the newest first.
+use Rattle.std.specs.Prelude.{◌≡◌, ℕ, ◌+◌, ◌*◌, ◌/◌, ◌≤◌, ◌==◌, Bool, false, List, ◌∷◌, length, Some}
+use Rattle.std.specs.List.{AllByRecursion}
+use Rattle.kds_defs.specs.declared.command.Command.{Command}
+use Rattle.kds_defs.specs.declared.command.Command.TheVariants as command
+use Rattle.kds_defs.specs.declared.command.Origin.TheVariants as origin
+use Rattle.kds_defs.specs.declared.command.Turn.{Turn}
+use Rattle.kds_base.specs.declared.lease_key.ShardRef.{ShardRef}
+use Rattle.kds_defs.specs.declared.reply.Row.{Row}
+use Rattle.kds_defs.specs.Journal.{Journal}
+use Rattle.kds_defs.specs.Kinds.{is_service}
+use Rattle.kds_defs.specs.Leases.{origin_of, row}
+use Rattle.kds_defs.specs.Lawful.{IsHistory, IsLawful}
+use Rattle.kds_turn.specs.declared.view.Account.{Account}
+use Rattle.kds_turn.specs.Known.{Continues, account}
+use Rattle.kds_turn.specs.Passes.{Standing, AreAllBy, IsSplitInto}
+use Rattle.kcl_live.specs.Records.{AreOnLeasesAt}
+use Rattle.kcl_crowd.specs.Feeding.{HasFed}
+
+-- the command is one of a generator's or on leases, and a row that it makes lets reading begin at the trim horizon
+abbrev pub IsDrillCommand : Command → Type 0
+IsDrillCommand (command.Create name count) = Unit {0}
+IsDrillCommand (command.Put name item) = Unit {0}
+IsDrillCommand (command.Split name sh at) = Unit {0}
+IsDrillCommand (command.Merge name sh other) = Unit {0}
+IsDrillCommand (command.MakeLease key from) = from ≡ origin.TrimHorizon
+IsDrillCommand what = is_service what ≡ false
+
+-- so are those of these turns
+abbrev pub AreDrillTurns : List Turn → Type 0
+AreDrillTurns h = AllByRecursion (λ turn. IsDrillCommand turn.what) h
+
+-- the turns of a member are on leases, each 50 milliseconds after the one before, and so many at most
+pub record IsMemberAccount (records : ℕ) (a : Account) : Type 0 where
+  pub moments : AreOnLeasesAt 50 a.turns
+  pub most : length a.turns ≤ 3 * (200 + records / 100)
+  pub horizon : AreDrillTurns a.turns
+
+-- the accounts of all passes of a drill
+abbrev pub all_accounts : Standing → Standing → List Account → List Account
+all_accounts root feeder members = account root.by root.own ∷ account feeder.by feeder.own ∷ members
+
+-- The root and the feeder made the generator's commands, the members ran, and the history has their turns and no others.
+pub record IsClosed (number records : ℕ) (root feeder : Standing) (members : List Account) (h : List Turn) : Type 0 where
+  pub limit : records ≤ 1000000
+  pub few : length members ≤ 64
+  pub apart : (root.by == feeder.by) ≡ false
+  pub fed : HasFed number records root feeder
+  pub ran : AllByRecursion (IsMemberAccount records) members
+  pub history : IsHistory h
+  pub seen : Continues h feeder.seen
+  pub all : AreAllBy (all_accounts root feeder members) h
+  pub own : IsSplitInto (all_accounts root feeder members) h
+
+-- lawful turns of an actor at a moment, on leases
+abbrev pub AreLeased : ℕ → ℕ → List Turn → Type 0
+AreLeased by at more = AllByRecursion (λ turn. (turn.by ≡ by) × (turn.at ≡ at) × (is_service turn.what ≡ false) × IsLawful turn) more
+
+-- each row that is there lets reading begin at the trim horizon
+abbrev pub AreFromHorizon : Journal → Type 0
+AreFromHorizon log = (key : ShardRef) (r : Row) → row log key ≡ Some r → origin_of log key ≡ Some origin.TrimHorizon

@@ -1,0 +1,55 @@
+//! Laws: what is known of a drill's history once its hall was closed.
+#![tactic(auto)]
+
+ghost use Rattle.std.specs.Prelude.{ℕ, ◌≡◌, ◌++◌, ◌<◌, ◌≤◌, ◌^◌, List, length};
+ghost use Rattle.kds_defs.specs.declared.command.Turn.{Turn};
+ghost use Rattle.kds_defs.specs.Histories.{clock, journal};
+ghost use Rattle.kds_turn.specs.declared.view.Account.{Account};
+ghost use Rattle.kds_turn.specs.Passes.{Standing};
+ghost use Rattle.kcl_defs.specs.declared.consumer.WorkerMade.{WorkerMade};
+ghost use Rattle.kcl_defs.specs.Workers.{WorkerPast};
+ghost use Rattle.kcl_live.specs.Records.{turns_in};
+ghost use Rattle.kds_defs.specs.declared.command.Origin.TheVariants as origin;
+ghost use Rattle.kcl_drill.specs.Fed.{IsDrill, IsFed};
+ghost use Rattle.kcl_summary.specs.Counting.{CanSum};
+ghost use Rattle.kcl_closed.specs.Closed.{AreDrillTurns, AreFromHorizon, AreLeased, IsClosed};
+
+use kcl_drill::{one_order, one_text, untrimmed};
+use kcl_laws::rows;
+
+/// However its passes came after one another, the closed history of a drill has the generator's commands in their order
+/// among turns on leases. It is below 24 hours, and has fewer than 2^32 turns.
+pub fn closed()
+    ensures fed { (number records : ℕ) (root feeder : Standing) (members : List Account) (h : List Turn)
+        → IsClosed number records root feeder members h → IsFed number records root.by feeder.by h }
+    ensures drill { (number records : ℕ) (root feeder : Standing) (members : List Account) (h : List Turn)
+        → IsClosed number records root feeder members h → IsDrill h number records }
+    ensures horizon { (number records : ℕ) (root feeder : Standing) (members : List Account) (h : List Turn)
+        → IsClosed number records root feeder members h → AreFromHorizon (journal h) }
+    ensures short { (number records : ℕ) (root feeder : Standing) (members : List Account) (h : List Turn)
+        → IsClosed number records root feeder members h → length h < 2 ^ 32 }
+{
+    one_order();
+    rows()
+}
+
+/// The turns of a worker whose settings say that reading begins at the trim horizon: each row that they make does.
+pub fn horizon()
+    ensures { (by : ℕ) (made : WorkerMade) (past : WorkerPast) → made.settings.from ≡ origin.TrimHorizon
+        → AreDrillTurns (turns_in by made past) }
+{}
+
+/// Turns on leases that come after a drill's history, at its clock, leave it a drill's with that clock.
+pub fn drained()
+    ensures drill { (number records by at : ℕ) (more h : List Turn) → IsDrill h number records → at ≤ clock h
+        → AreLeased by at more → IsDrill (more ++ h) number records }
+    ensures clock { (by at : ℕ) (more h : List Turn) → at ≤ clock h → AreLeased by at more → clock (more ++ h) ≡ clock h }
+{}
+
+/// The stream of a drill's history can be summed.
+pub fn summed()
+    ensures { (h : List Turn) (number records : ℕ) → IsDrill h number records → CanSum h (clock h) }
+{
+    one_text();
+    untrimmed()
+}
