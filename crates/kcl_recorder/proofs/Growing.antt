@@ -5,7 +5,7 @@ use Rattle.std.specs.Prelude.{OnErr}
 use Rattle.kds_defs.specs.declared.command.Command.{Command}
 use Rattle.kds_defs.specs.declared.command.Turn.{Turn}
 use Rattle.kds_defs.specs.Requests.{request_turn}
-use Rattle.kds_json.specs.declared.problem.Fault.{Fault}
+use Rattle.kds_member.specs.declared.problem.Fault.{Fault}
 use Rattle.kds_lines.specs.Lines as input
 use Rattle.kds_lines.specs.Lines.{End}
 use Rattle.kds_lines.specs.Taking.{Breaks, Goes, GoesOn}

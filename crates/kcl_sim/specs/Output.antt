@@ -4,7 +4,7 @@ use Rattle.kds_defs.specs.declared.command.Turn.{Turn}
 use Rattle.kds_defs.specs.declared.command.Command.{Command}
 use Rattle.kds_defs.specs.Histories.{answer}
 use Rattle.kds_defs.specs.Requests.{request_turn}
-use Rattle.kds_json.specs.declared.problem.Fault.{Fault}
+use Rattle.kds_member.specs.declared.problem.Fault.{Fault}
 use Rattle.kds_json.specs.Asked.{asked}
 use Rattle.kds_reply.specs.Replies.{reply_of, fault_reply}
 use Rattle.kcl_script.specs.Answers.{answer_text}

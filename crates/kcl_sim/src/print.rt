@@ -8,7 +8,7 @@ ghost use Rattle.kcl_sim.specs.Output.{printed};
 use kcl_script::print_answer;
 use kds_base::{Memory, Octets, write_u64};
 use kds_defs::Answer;
-use kds_json::Fault;
+use kds_member::Fault;
 use kds_reply::fault;
 use std::alloc::Global;
 

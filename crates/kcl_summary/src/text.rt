@@ -6,7 +6,7 @@ ghost use Rattle.kcl_drill.specs.Summed.{line_text, sum_of, text_of as told_text
 
 use crate::summing::ShardSum;
 use kds_base::{Checkpoint, Memory, Octets, write_u64, write_u128};
-use kds_json::shard_id;
+use kds_member::shard_id;
 use std::alloc::Global;
 
 /// Adds a checkpoint.

@@ -1,10 +1,7 @@
-pub mod Digests
 pub mod FaultTexts
-pub mod IdLemmas
 pub mod Lawful
-pub mod LawfulMembers
 pub mod LawfulRecords
+pub mod LawfulSteps
 pub mod ManyRecords
-pub mod MemberTexts
 pub mod Objects
 pub mod RecordTexts

@@ -5,8 +5,8 @@ use Rattle.serde_json.specs.Data.{Data}
 use Rattle.serde_json.specs.View.{items_of, items_view}
 use Rattle.serde_json.specs.declared.value.Value.{Value}
 use Rattle.kds_defs.specs.declared.command.NewItem.{NewItem}
-use Rattle.kds_json.specs.declared.problem.Fault.{Fault}
-use Rattle.kds_json.specs.Reading.{◌>>=◌}
+use Rattle.kds_member.specs.declared.problem.Fault.{Fault}
+use Rattle.kds_member.specs.Reading.{◌>>=◌}
 use Rattle.kds_json.specs.Many.{count, record_at, records_from}
 
 -- how many items an array has

@@ -9,11 +9,11 @@ use Rattle.kds_defs.specs.declared.command.Command.TheVariants as command
 use Rattle.kds_defs.specs.declared.command.NewItem.{NewItem}
 use Rattle.kds_defs.specs.declared.limits.TheConstants.{MANY_ITEMS, MANY_BYTES}
 use Rattle.kds_defs.specs.Lawful.{item_bytes}
-use Rattle.kds_json.specs.declared.problem.Fault.{Fault}
-use Rattle.kds_json.specs.declared.problem.FaultKind.TheVariants.{Invalid}
-use Rattle.kds_json.specs.Reading.{◌>>=◌, fault_of, some_or}
-use Rattle.kds_json.specs.Member.{required_at}
-use Rattle.kds_json.specs.Kinds.{name_in}
+use Rattle.kds_member.specs.declared.problem.Fault.{Fault}
+use Rattle.kds_member.specs.declared.problem.FaultKind.TheVariants.{Invalid}
+use Rattle.kds_member.specs.Reading.{◌>>=◌, fault_of, some_or}
+use Rattle.kds_member.specs.Member.{required_at}
+use Rattle.kds_member.specs.Kinds.{name_in}
 use Rattle.kds_json.specs.Operations.{item_of}
 
 -- ---- the array

@@ -2,19 +2,11 @@
 //! (Kinesis API Reference, Actions and Common Errors).
 #![tactic(auto)]
 
-mod ids;
 mod many;
-mod member;
-mod numbers;
 mod operation;
-mod problem;
 mod records;
 mod request;
 mod shards;
 mod streams;
-mod texts;
-mod tokens;
 
-pub use ids::{one_id, shard_id};
-pub use problem::{Fault, FaultKind};
 pub use request::{ask, asks_lawfully};

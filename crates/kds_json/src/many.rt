@@ -4,18 +4,16 @@ ghost use Rattle.std.specs.List.{sum_by};
 ghost use Rattle.serde_json.specs.View.{view, items_view};
 ghost use Rattle.kds_defs.specs.Lawful.{item_bytes};
 ghost use Rattle.kds_defs.specs.declared.limits.TheConstants.{MANY_BYTES as most_bytes};
-ghost use Rattle.kds_json.specs.declared.problem.FaultKind.TheVariants.{Invalid};
-ghost use Rattle.kds_json.specs.Reading.{IsStop, Gives, fault_of};
-ghost use Rattle.kds_json.specs.Member.{required_at};
+ghost use Rattle.kds_member.specs.declared.problem.FaultKind.TheVariants.{Invalid};
+ghost use Rattle.kds_member.specs.Reading.{IsStop, Gives, fault_of};
+ghost use Rattle.kds_member.specs.Member.{required_at};
 ghost use Rattle.kds_json.specs.Many.{count, records_in, record_name, member_name, record_at as record_at_of, records_from, within_limit, put_records as put_records_of};
 
-use crate::member::{required_member, stop_at, value_at};
-use crate::problem::{Fault, FaultKind, Stop};
 use crate::records::item;
-use crate::texts::name_member;
 use kds_base::{Items, Memory, Octets};
 use kds_defs::limits::{MANY_BYTES, MANY_ITEMS};
 use kds_defs::{Command, NewItem};
+use kds_member::{Fault, FaultKind, Stop, name_member, required_member, stop_at, value_at};
 use serde_json::Value;
 use std::alloc::Global;
 
@@ -38,7 +36,7 @@ fn array_value(value: &Value) -> Option<&[Value]>
     }
 }
 
-#[tactic(auto, unfolding(crate::specs::Member::required_at))]
+#[tactic(auto, unfolding(kds_member::specs::Member::required_at))]
 fn array_member<'a>(alloc: Global, object: &'a Value, name: &str) -> Result<&'a [Value], Stop>
     ensures { Gives (λ vs. items_view vs.now) result (required_at records_in name.now (view object.now)) }
 {

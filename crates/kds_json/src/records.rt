@@ -1,16 +1,15 @@
 //! The operations on records, with their members in the order in which they are checked.
 ghost use Rattle.std.specs.Prelude.{◌≡◌};
 ghost use Rattle.serde_json.specs.View.{view};
-ghost use Rattle.kds_json.specs.Reading.{Gives};
+ghost use Rattle.kds_member.specs.Reading.{Gives};
 ghost use Rattle.kds_json.specs.Operations.{item_of, put_record as put_record_of, start_at as start_at_of, start_after as start_after_of, start_time as start_time_of, start_of, get_shard_iterator as get_shard_iterator_of, get_records as get_records_of};
 
-use crate::member::stop_at;
-use crate::numbers::{id_member, moment_member, optional_limit, record_hash, sequence_member};
-use crate::problem::{FaultKind, Stop};
-use crate::texts::{blob_member, key_member, name_member, text_member};
-use crate::tokens::iterator_member;
 use kds_defs::limits::{MOST, RECORDS_LIMIT};
 use kds_defs::{Command, NewItem, Start};
+use kds_member::{
+    FaultKind, Stop, blob_member, id_member, iterator_member, key_member, moment_member,
+    name_member, optional_limit, record_hash, sequence_member, stop_at, text_member,
+};
 use serde_json::Value;
 use std::alloc::Global;
 

@@ -2,13 +2,11 @@
 ghost use Rattle.std.specs.Prelude.{◌≡◌, ℕ, List, Ok, IsUtf8, IfOk, IfErr, option_map};
 ghost use Rattle.kds_defs.specs.declared.command.Command.{Command};
 ghost use Rattle.serde_json.specs.View.{view};
-ghost use Rattle.kds_json.specs.Reading.{Gives};
+ghost use Rattle.kds_member.specs.Reading.{Gives};
 ghost use Rattle.kds_json.specs.Asked.{object_of, read_body, members_of, asked, IsRequest};
 
 use crate::many::put_records;
-use crate::member::stop_at;
 use crate::operation::{Operation, operation_named};
-use crate::problem::{Fault, FaultKind, Stop};
 use crate::records::{get_records, get_shard_iterator, put_record};
 use crate::shards::{list_shards, merge_shards, split_shard};
 use crate::streams::{
@@ -17,6 +15,7 @@ use crate::streams::{
 };
 use kds_base::Memory;
 use kds_defs::Command;
+use kds_member::{Fault, FaultKind, Stop, stop_at};
 use serde_json::Value;
 use std::alloc::Global;
 

@@ -1,16 +1,15 @@
 //! The operations on the shards of a stream, with their members in the order in which they are checked.
 ghost use Rattle.std.specs.Prelude.{◌≡◌};
 ghost use Rattle.serde_json.specs.View.{view};
-ghost use Rattle.kds_json.specs.Reading.{Gives};
+ghost use Rattle.kds_member.specs.Reading.{Gives};
 ghost use Rattle.kds_json.specs.Operations.{split_shard as split_shard_of, merge_shards as merge_shards_of, list_from_start as list_from_start_of, list_from_token as list_from_token_of, list_shards as list_shards_of};
 
-use crate::member::{absent_member, has_member};
-use crate::numbers::{hash_member, id_member, optional_id, optional_limit};
-use crate::problem::Stop;
-use crate::texts::name_member;
-use crate::tokens::page_member;
 use kds_defs::Command;
 use kds_defs::limits::{MOST, SHARDS_LIMIT};
+use kds_member::{
+    Stop, absent_member, has_member, hash_member, id_member, name_member, optional_id,
+    optional_limit, page_member,
+};
 use serde_json::Value;
 use std::alloc::Global;
 

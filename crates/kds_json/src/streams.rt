@@ -1,15 +1,16 @@
 //! The operations on streams, with their members in the order in which they are checked.
 ghost use Rattle.std.specs.Prelude.{◌≡◌};
 ghost use Rattle.serde_json.specs.View.{view};
-ghost use Rattle.kds_json.specs.Reading.{Gives};
+ghost use Rattle.kds_member.specs.Reading.{Gives};
 ghost use Rattle.kds_json.specs.Operations.{create_stream as create_stream_of, delete_stream as delete_stream_of, list_streams as list_streams_of, describe_stream as describe_stream_of, describe_summary as describe_summary_of, keep as keep_of, update_shard_count as update_shard_count_of, enforce_limits as enforce_limits_of};
 
-use crate::numbers::{number_member, optional_id, optional_limit};
-use crate::problem::Stop;
-use crate::texts::{mode_member, name_member, optional_name, scaling_member, truth_member};
 use kds_defs::Command;
 use kds_defs::limits::{
     DESCRIBED_LIMIT, LEAST_HOURS, LEAST_SHARDS, MOST, MOST_HOURS, MOST_SHARDS, NAMES_LIMIT,
+};
+use kds_member::{
+    Stop, mode_member, name_member, number_member, optional_id, optional_limit, optional_name,
+    scaling_member, truth_member,
 };
 use serde_json::Value;
 use std::alloc::Global;

@@ -5,14 +5,10 @@ ghost use Rattle.serde_json.specs.Written.{compact_text, has_float};
 ghost use Rattle.kds_defs.specs.Kinds.{is_service_answer, is_service_reply};
 ghost use Rattle.kds_reply.specs.Replies.{reply_text, reply_of};
 
-use crate::batches::batch_text;
-use crate::errors::BAD_REQUEST;
-use crate::places::{outcomes_text, place_text};
-use crate::refusals::refusal_body;
 use crate::shards::shards_value;
 use crate::streams::{described_value, scaled_value, streams_value, summary_value};
-use crate::tokens::iterator_text;
 use kds_base::{Memory, Octets};
+use kds_body::{BAD_REQUEST, batch_text, iterator_text, outcomes_text, place_text, refusal_body};
 use kds_defs::{Answer, Reply};
 use serde_json::Value;
 use std::alloc::Global;

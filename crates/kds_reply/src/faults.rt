@@ -3,9 +3,9 @@ ghost use Rattle.std.specs.Prelude.{◌≡◌, IsUtf8, IfOk, string_bytes};
 ghost use Rattle.kds_reply.specs.Errors.{fault_name as name_of, fault_message as message_of};
 ghost use Rattle.kds_reply.specs.Replies.{fault_reply};
 
-use crate::errors::{BAD_REQUEST, error_body};
 use kds_base::{Memory, Octets};
-use kds_json::{Fault, FaultKind};
+use kds_body::{BAD_REQUEST, error_body};
+use kds_member::{Fault, FaultKind};
 use std::alloc::Global;
 
 /// The name of a fault (Kinesis API Reference, Common Errors).

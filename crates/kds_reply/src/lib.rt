@@ -3,18 +3,10 @@
 #![tactic(auto)]
 
 mod answers;
-mod batches;
-mod children;
-mod errors;
 mod faults;
 mod laws;
-mod places;
-mod refusals;
-mod seconds;
 mod shards;
 mod streams;
-mod tokens;
-mod writing;
 
 pub use answers::reply;
 pub use faults::fault;

@@ -4,9 +4,9 @@ ghost use Rattle.serde_json.specs.Data.{string};
 ghost use Rattle.serde_json.specs.View.{view, members_view};
 ghost use Rattle.kds_reply.specs.Streams.{streams_data, monitoring_data, about_members, description_data, digest_data, described_data, summary_data, scaled_data};
 
-use crate::seconds::seconds;
 use crate::shards::shard_values;
 use kds_base::{Memory, Name};
+use kds_body::seconds;
 use kds_defs::{About, Shard};
 use serde_json::{Map, Value, json, push, put};
 use std::alloc::Global;

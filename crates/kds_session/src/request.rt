@@ -1,13 +1,14 @@
 //! What a request asks for.
 ghost use Rattle.std.specs.Prelude.{◌≡◌, [], IfOk, IfErr, IsUtf8};
 ghost use Rattle.kds_json.specs.Asked.{IsRequest};
-ghost use Rattle.kds_json.specs.Reading as reading;
+ghost use Rattle.kds_member.specs.Reading as reading;
 ghost use Rattle.kds_session.specs.Text.{requested};
 
 use kds_base::{Memory, Octets};
 use kds_defs::Command;
 use kds_head::Head;
-use kds_json::{Fault, FaultKind, ask};
+use kds_json::ask;
+use kds_member::{Fault, FaultKind};
 use std::alloc::Global;
 
 /// The command of a whole request, or its first fault: the form of its target is judged before the content type, and

@@ -1,0 +1,5 @@
+pub mod Children
+pub mod Errors
+pub mod Bodies
+pub mod Records
+pub mod Writing

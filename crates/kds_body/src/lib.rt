@@ -1,0 +1,20 @@
+//! The bodies of replies that are written straight as text: records as they are read, with the children of a shard; what
+//! became of records that were put; iterators; and refusals (Kinesis API Reference, Response Elements and Errors of each
+//! action).
+#![tactic(auto)]
+
+mod batches;
+mod children;
+mod errors;
+mod moments;
+mod places;
+mod refusals;
+mod tokens;
+mod writing;
+
+pub use batches::batch_text;
+pub use errors::{BAD_REQUEST, error_body};
+pub use moments::seconds;
+pub use places::{outcomes_text, place_text};
+pub use refusals::refusal_body;
+pub use tokens::{iterator_text, listing_token};

@@ -1,0 +1,4 @@
+pub mod Digests
+pub mod IdLemmas
+pub mod LawfulMembers
+pub mod MemberTexts

@@ -1,0 +1,4 @@
+pub mod Ids
+pub mod Reading
+pub mod Member
+pub mod Kinds

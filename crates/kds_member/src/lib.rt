@@ -1,0 +1,23 @@
+//! The members of a request in JSON: which must be there, what each reads as by its kind, and the first fault of one
+//! (Kinesis API Reference, Request Parameters of each action, and Common Errors).
+#![tactic(auto)]
+
+mod ids;
+mod member;
+mod numbers;
+mod problem;
+mod texts;
+mod tokens;
+
+pub use ids::{one_id, shard_id};
+pub use member::{absent_member, has_member, required_member, stop_at, value_at};
+pub use numbers::{
+    hash_member, id_member, moment_member, number_member, optional_id, optional_limit, record_hash,
+    sequence_member,
+};
+pub use problem::{Fault, FaultKind, Stop};
+pub use texts::{
+    blob_member, key_member, mode_member, name_member, optional_name, scaling_member, text_member,
+    truth_member,
+};
+pub use tokens::{iterator_member, page_member};
