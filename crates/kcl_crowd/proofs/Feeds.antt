@@ -1,6 +1,6 @@
 -- The turns of a root and of a feeder.
 use Rattle.std.proofs.Common.{◌≡◌, ◌⊎◌, inl, inr, ℕ, ◌<◌, Bool, true, false, List, [], ◌∷◌, ◌++◌, length, refl, sym, ap, subst, ◌∙◌, arith, append_assoc, Result, Ok, Err}
-use Rattle.std.specs.Prelude.{take, drop, OnErr, OnOk}
+use Rattle.std.specs.Prelude.{take, drop, IfErr, OnErr, OnOk}
 use Rattle.kds_defs.specs.declared.command.Command.{Command}
 use Rattle.kds_defs.specs.declared.command.Turn.{Turn}
 use Rattle.kds_turn.specs.declared.pass.TurnErr.{TurnErr}
@@ -8,7 +8,7 @@ use Rattle.kds_turn.specs.Known.{Continues, turns_by}
 use Rattle.kds_turn.specs.Passes.{Standing}
 use Rattle.kcl_drill.specs.Generated.{generated}
 use Rattle.kcl_crowd.specs.Asking.{Asks, HasAsked, HasBegun, IsAskErr, IsKept, turn_of, turns_of}
-use Rattle.kcl_crowd.specs.Feeding.{Feeds, HasFed, HasFedSoFar, IsAfter, IsAtOwn, IsFeedErr}
+use Rattle.kcl_crowd.specs.Feeding.{Feeds, HasFed, HasFedSoFar, IsAfter, IsAtOwn, IsCrowdErr, IsFeedErr}
 use Rattle.kcl_crowd.proofs.Passing.{asked_all, asked_more, asked_same, begun_by, continues_all, kept_all, kept_same, none_before, none_before_one}
 
 -- ---- the root
@@ -170,3 +170,10 @@ none_fed number records root feeder first second =
       of_feeder = (0, second);
       after = λ some. absurd (omega (arith, some, ap length second));
     }
+
+pub crowd_err : {A : Type 0} (number records : ℕ) (gen left : List Command) (before root mid feeder : Standing) (result : Result A TurnErr) → gen ≡ generated number records → HasAsked (take 1 gen) root → Feeds left mid feeder result → IfErr result (IsCrowdErr before root feeder)
+crowd_err number records gen left before root mid feeder (Ok a) is asked feeds = tt
+crowd_err number records gen left before root mid feeder (Err e) is asked feeds =
+    let first : HasAsked (take 1 (generated number records)) root = subst (λ cs. HasAsked (take 1 cs) root) is asked in
+    let one : length root.own ≡ 1 = ap length first in
+    inr (omega (arith, one), feeds.err)

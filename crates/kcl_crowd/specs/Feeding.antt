@@ -49,6 +49,6 @@ pub record Feeds {A : Type 0} (coming : List Command) (before after : Standing) 
   pub none : 0 < length after.own → turns_by after.by before.seen ≡ []
   pub err : IfErr result (IsFeedErr after)
 
--- why a crowd left off: by what befell the root, or the feeder
+-- why a crowd left off: by what befell the root, or the feeder after the root's turn
 abbrev pub IsCrowdErr : Standing → Standing → Standing → TurnErr → Type 0
-IsCrowdErr before root feeder e = ((feeder.own ≡ []) × (root.own ≡ []) × IsAskErr before root e) ⊎ IsFeedErr feeder e
+IsCrowdErr before root feeder e = ((feeder.own ≡ []) × (root.own ≡ []) × IsAskErr before root e) ⊎ ((0 < length root.own) × IsFeedErr feeder e)

@@ -1,4 +1,4 @@
-use Rattle.kcl_crowd.proofs.Feeds.{has_fed, has_fed_so_far, none_fed}
+use Rattle.kcl_crowd.proofs.Feeds.{crowd_err, has_fed, has_fed_so_far, none_fed}
 use Rattle.kcl_crowd.proofs.Passing.{kept_all}
 use Rattle.kcl_crowd.proofs.threads.crowd.Goals as goal
 
@@ -19,3 +19,8 @@ pub returns-clause-fed_so_far : goal.returns-clause-fed_so_far
 returns-clause-fed_so_far g c =
     has_fed_so_far c.args.number c.args.records c.generate-generator.result c.begin.new.generator c.begin.new.root c.begin.new.feeder c.run_both.new.feeder c.run_both.result
     c.generate-generator.ensures c.in-Ok.ensures.asked c.in-Ok.ensures.left c.in-Ok.ensures.learned c.run_both.ensures.feeds
+
+pub returns-clause-err : goal.returns-clause-err
+returns-clause-err g c =
+    crowd_err c.args.number c.args.records c.generate-generator.result c.begin.new.generator c.args.root.now c.begin.new.root c.begin.new.feeder c.run_both.new.feeder c.run_both.result
+    c.generate-generator.ensures c.in-Ok.ensures.asked c.run_both.ensures.feeds
