@@ -13,6 +13,8 @@ mod journals;
 #[cfg(test)]
 mod lines;
 #[cfg(test)]
+mod records;
+#[cfg(test)]
 mod scribes;
 #[cfg(test)]
 mod workers;

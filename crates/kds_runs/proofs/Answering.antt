@@ -11,28 +11,40 @@ use Rattle.kds_ends.specs.Causes.{AppendsFront}
 use Rattle.kds_ends.specs.declared.status.Status.{Status}
 use Rattle.kds_lines.specs.Lines as input
 use Rattle.kds_lines.specs.Lines.{End, lined}
+use Rattle.kds_lines.specs.Taking.{GoesOn}
 use Rattle.kds_lines.specs.Telling.{Told}
 use Rattle.kds_lines.specs.declared.outcome.Outcome.{Outcome}
 use Rattle.kds_lines.specs.declared.outcome.Outcome.TheVariants as outcome
 use Rattle.kcl_script.specs.declared.line.Line.{Line}
 use Rattle.kcl_script.specs.Line.{line_of}
-use Rattle.kcl_sim.specs.Output.{Ran, fresh, with_schedule, outputs}
-use Rattle.kcl_sim.specs.Schedule.{Ending, whole, too_long, bad_line, judge_end, judge_form, judge, judged, preceded_by, text, ending}
+use Rattle.kcl_sim.specs.Output.{Ran, fresh, outputs, with_schedule}
+use Rattle.kcl_sim.specs.Schedule.{Ending, whole, too_long, bad_line, judge_end, judge_form, judge, judged, preceded_by, ending}
 use Rattle.kcl_sim.specs.Serving.{AreAllServed}
 use Rattle.kcl_sim.specs.Standing.{SimValue}
-use Rattle.kcl_sim.specs.Taking.{judged_texts, Took, IsNoLine, texts_output}
-use Rattle.kds_runs.specs.Answered.{status_of, Remains, RanSo, RanSafely}
-use Rattle.kds_runs.specs.Told.{Tells, IsReplayStatus}
+use Rattle.kcl_sim.specs.Taking.{judged_texts, Took, IsNoLine}
+use Rattle.kds_runs.specs.Answered.{status_of, Remains, RanBy, RanSafely}
+use Rattle.kds_runs.specs.Told.{TellsBy, IsReplayStatus}
 
 -- what one line after another means
 abbrev pub JudgesOn : Type 0
 JudgesOn = (texts more : List (List ℕ)) (end : End) → (judged_texts texts).ending ≡ whole
     → judge 0 (texts ++ more) end ≡ preceded_by (judged_texts texts).lines (judge (length texts) more end)
 
-abbrev pub OutputsOn : Type 0
-OutputsOn = (ran : Ran) (ls ks : List Line) → outputs ran (ls ++ ks) ≡ outputs ran ls ++ outputs (with_schedule ran ls) ks
+-- what is written for more lines goes on
+abbrev pub OutputsOn : (List Line → List ℕ) → Type 0
+OutputsOn output = (ls ks : List Line) → GoesOn (output ls) (output (ls ++ ks))
 
-module _ (more : JudgesOn) (grows : OutputsOn) where
+pub outputs_grow : ((ran : Ran) (ls ks : List Line) → outputs ran (ls ++ ks) ≡ outputs ran ls ++ outputs (with_schedule ran ls) ks) → OutputsOn (outputs fresh)
+outputs_grow on ls ks = (outputs (with_schedule fresh ls) ks, on fresh ls ks)
+
+module _ (output : List Line → List ℕ) (more : JudgesOn) (grows : OutputsOn output) where
+  -- what is written for a schedule, and for texts of lines
+  abbrev shown : List ℕ → List ℕ
+  shown bytes = output (judged bytes).lines
+
+  abbrev texts_shown : List (List ℕ) → List ℕ
+  texts_shown texts = output (judged_texts texts).lines
+
   -- the schedule's judgement after these lines of it
   after : (bytes : List ℕ) (texts rest : List (List ℕ)) → (judged_texts texts).ending ≡ whole → (lined bytes).texts ≡ texts ++ rest
       → judged bytes ≡ preceded_by (judged_texts texts).lines (judge (length texts) rest (lined bytes).end)
@@ -52,23 +64,23 @@ module _ (more : JudgesOn) (grows : OutputsOn) where
   at_no_line n rest later t end is none = ap (λ r. judge n r end) is ∙ ap (λ o. judge_form n o (judge (n + 1) later end)) none
 
   -- all of the output was written
-  all_written : (output front back : List ℕ) (held now : Option (List ℕ)) → output ≡ front ++ back → back ≡ [] → Appends held now front → Appends held now output
-  all_written output front back held now parts none w = subst (λ (z : List ℕ). Appends held now z) (sym (parts ∙ ap (λ z. front ++ z) none ∙ append-nil front)) w
+  all_written : (all front back : List ℕ) (held now : Option (List ℕ)) → all ≡ front ++ back → back ≡ [] → Appends held now front → Appends held now all
+  all_written all front back held now parts none w = subst (λ (z : List ℕ). Appends held now z) (sym (parts ∙ ap (λ z. front ++ z) none ∙ append-nil front)) w
 
   decided : (bytes : List ℕ) (ls : List Line) (e : Ending) (front back : List ℕ) (held now : Option (List ℕ)) → judged bytes ≡ record { lines = ls; ending = e }
-      → outputs fresh ls ≡ front ++ back → back ≡ [] → Appends held now front → (ending bytes ≡ e) × Appends held now (text bytes)
+      → output ls ≡ front ++ back → back ≡ [] → Appends held now front → (ending bytes ≡ e) × Appends held now (shown bytes)
   decided bytes ls e front back held now is parts none w =
-      (ap (λ j. j.ending) is, subst (λ (z : List ℕ). Appends held now z) (sym (ap (λ j. outputs fresh j.lines) is)) (all_written (outputs fresh ls) front back held now parts none w))
+      (ap (λ j. j.ending) is, subst (λ (z : List ℕ). Appends held now z) (sym (ap (λ j. output j.lines) is)) (all_written (output ls) front back held now parts none w))
 
   -- a front of it was
   front_written : (bytes : List ℕ) (ls later : List Line) (front back : List ℕ) (held now : Option (List ℕ)) → (judged bytes).lines ≡ ls ++ later
-      → outputs fresh ls ≡ front ++ back → Appends held now front → AppendsFront held now (text bytes)
+      → output ls ≡ front ++ back → Appends held now front → AppendsFront held now (shown bytes)
   front_written bytes ls later front back held now lines parts w =
-      let rest = outputs (with_schedule fresh ls) later in
-      (front, back ++ rest, ap (outputs fresh) lines ∙ grows fresh ls later ∙ ap (λ z. z ++ rest) parts ∙ append_assoc front back rest, w)
+      let g = grows ls later in
+      (front, back ++ g.0, ap output lines ∙ g.1 ∙ ap (λ z. z ++ g.0) parts ∙ append_assoc front back g.0, w)
 
-  pub tells : (o : Outcome) (bytes : List ℕ) (left held now : Option (List ℕ)) (s : SimValue) → Told o (λ t. Took s t) IsNoLine texts_output bytes left held now
-      → Tells (status_of o) bytes left held now
+  pub tells : (o : Outcome) (bytes : List ℕ) (left held now : Option (List ℕ)) (s : SimValue) → Told o (λ t. Took s t) IsNoLine texts_shown bytes left held now
+      → TellsBy shown (status_of o) bytes left held now
   tells outcome.Whole bytes left held now s t =
       decided bytes (judged_texts t.texts).lines whole t.front t.back held now
       (no_more bytes t.texts t.rest whole t.taken.are_lines t.parts (at_the_end _ t.rest (lined bytes).end input.whole t.because.1 t.because.0)) t.output_is t.unwritten t.written
@@ -93,8 +105,8 @@ module _ (more : JudgesOn) (grows : OutputsOn) where
   tells outcome.Memory bytes left held now s t =
       front_written bytes (judged_texts t.texts).lines _ t.front t.back held now (ap (λ j. j.lines) (after bytes t.texts t.rest t.taken.are_lines t.parts)) t.output_is t.written
 
-  ran_with : (o : Outcome) (bytes : List ℕ) (left held now : Option (List ℕ)) (s : SimValue) (t : Told o (λ t. Took s t) IsNoLine texts_output bytes left held now)
-      → Remains (status_of o) (judge (length t.texts) t.rest (lined bytes).end).lines t.back → RanSo (status_of o) bytes held now s
+  ran_with : (o : Outcome) (bytes : List ℕ) (left held now : Option (List ℕ)) (s : SimValue) (t : Told o (λ t. Took s t) IsNoLine texts_shown bytes left held now)
+      → Remains (status_of o) (judge (length t.texts) t.rest (lined bytes).end).lines t.back → RanBy output (status_of o) bytes held now s
   ran_with o bytes left held now s t remains = record {
     lines = (judged_texts t.texts).lines;
     later = (judge (length t.texts) t.rest (lined bytes).end).lines;
@@ -102,13 +114,13 @@ module _ (more : JudgesOn) (grows : OutputsOn) where
     made = t.taken.made;
     front = t.front;
     back = t.back;
-    output = t.output_is;
+    output_is = t.output_is;
     written = t.written;
     remains = remains;
   }
 
-  pub ran_so : (o : Outcome) (bytes : List ℕ) (left held now : Option (List ℕ)) (s : SimValue) → Told o (λ t. Took s t) IsNoLine texts_output bytes left held now
-      → RanSo (status_of o) bytes held now s
+  pub ran_so : (o : Outcome) (bytes : List ℕ) (left held now : Option (List ℕ)) (s : SimValue) → Told o (λ t. Took s t) IsNoLine texts_shown bytes left held now
+      → RanBy output (status_of o) bytes held now s
   ran_so outcome.Whole bytes left held now s t =
       ran_with outcome.Whole bytes left held now s t (ap (λ j. j.lines) (at_the_end (length t.texts) t.rest (lined bytes).end input.whole t.because.1 t.because.0), t.unwritten)
   ran_so (outcome.Unfinished n) bytes left held now s t =
@@ -122,13 +134,13 @@ module _ (more : JudgesOn) (grows : OutputsOn) where
   ran_so outcome.Write bytes left held now s t = ran_with outcome.Write bytes left held now s t tt
   ran_so outcome.Memory bytes left held now s t = ran_with outcome.Memory bytes left held now s t tt
 
-  pub tells_all : (o : Outcome) (all left held now : Option (List ℕ)) (s : SimValue) → IfSome all (λ bytes. Told o (λ t. Took s t) IsNoLine texts_output bytes left held now)
-      → IfSome all (λ bytes. Tells (status_of o) bytes left held now)
+  pub tells_all : (o : Outcome) (all left held now : Option (List ℕ)) (s : SimValue) → IfSome all (λ bytes. Told o (λ t. Took s t) IsNoLine texts_shown bytes left held now)
+      → IfSome all (λ bytes. TellsBy shown (status_of o) bytes left held now)
   tells_all o None left held now s t = tt
   tells_all o (Some bytes) left held now s t = tells o bytes left held now s t
 
-  pub ran_all : (o : Outcome) (all left held now : Option (List ℕ)) (s : SimValue) → IfSome all (λ bytes. Told o (λ t. Took s t) IsNoLine texts_output bytes left held now)
-      → IfSome all (λ bytes. RanSo (status_of o) bytes held now s)
+  pub ran_all : (o : Outcome) (all left held now : Option (List ℕ)) (s : SimValue) → IfSome all (λ bytes. Told o (λ t. Took s t) IsNoLine texts_shown bytes left held now)
+      → IfSome all (λ bytes. RanBy output (status_of o) bytes held now s)
   ran_all o None left held now s t = tt
   ran_all o (Some bytes) left held now s t = ran_so o bytes left held now s t
 
@@ -142,15 +154,31 @@ replays outcome.Write = tt
 replays outcome.Memory = tt
 
 -- the state of the turns that ran is safe, and the processors were called for what is given
-pub ran_safely : (status : Status) (all held now : Option (List ℕ)) (s : SimValue)
+pub run_safely : (output : List Line → List ℕ) (status : Status) (bytes : List ℕ) (held now : Option (List ℕ)) (s : SimValue)
     → ((bytes : List ℕ) (lines later : List Line) → (judged bytes).lines ≡ lines ++ later → IsHistory (with_schedule fresh lines).history)
     → ((h : List Turn) → IsHistory h → IsSafe (journal h) (clock h))
     → ((bytes : List ℕ) (lines later : List Line) → (judged bytes).lines ≡ lines ++ later → AreAllServed (with_schedule fresh lines))
-    → IfSome all (λ bytes. RanSo status bytes held now s) → IfSome all (λ bytes. RanSafely status bytes held now)
-ran_safely status None held now s lawful safe served so = tt
-ran_safely status (Some bytes) held now s lawful safe served so = record {
+    → RanBy output status bytes held now s → RanSafely output status bytes held now
+run_safely output status bytes held now s lawful safe served so = record {
   sim = s;
   so = so;
   safe = safe s.history (subst IsHistory (sym so.made.history) (lawful bytes so.lines so.later so.parts));
   served = served bytes so.lines so.later so.parts;
 }
+
+pub ran_safely : (output : List Line → List ℕ) (status : Status) (all held now : Option (List ℕ)) (s : SimValue)
+    → ((bytes : List ℕ) (lines later : List Line) → (judged bytes).lines ≡ lines ++ later → IsHistory (with_schedule fresh lines).history)
+    → ((h : List Turn) → IsHistory h → IsSafe (journal h) (clock h))
+    → ((bytes : List ℕ) (lines later : List Line) → (judged bytes).lines ≡ lines ++ later → AreAllServed (with_schedule fresh lines))
+    → IfSome all (λ bytes. RanBy output status bytes held now s) → IfSome all (λ bytes. RanSafely output status bytes held now)
+ran_safely output status None held now s lawful safe served so = tt
+ran_safely output status (Some bytes) held now s lawful safe served so = run_safely output status bytes held now s lawful safe served so
+
+-- the same where the run isn't at hand
+pub some_ran_safely : (output : List Line → List ℕ) (status : Status) (all held now : Option (List ℕ))
+    → ((bytes : List ℕ) (lines later : List Line) → (judged bytes).lines ≡ lines ++ later → IsHistory (with_schedule fresh lines).history)
+    → ((h : List Turn) → IsHistory h → IsSafe (journal h) (clock h))
+    → ((bytes : List ℕ) (lines later : List Line) → (judged bytes).lines ≡ lines ++ later → AreAllServed (with_schedule fresh lines))
+    → IfSome all (λ bytes. (s : SimValue) × RanBy output status bytes held now s) → IfSome all (λ bytes. RanSafely output status bytes held now)
+some_ran_safely output status None held now lawful safe served so = tt
+some_ran_safely output status (Some bytes) held now lawful safe served so = run_safely output status bytes held now so.0 lawful safe served so.1

@@ -5,7 +5,7 @@ use Rattle.std.specs.Io.KnownBytes.{Appends}
 use Rattle.kds_ends.specs.declared.status.Status.{Status}
 use Rattle.kds_ends.specs.declared.status.Status.TheVariants.{Door, Memory}
 use Rattle.kds_server.specs.Texts.{IsCrewStatus}
-use Rattle.kds_runs.specs.Told.{ServeTells}
+use Rattle.kds_runs.specs.Ends.{ServeTells}
 use Rattle.kds_runs.specs.Words.{listening}
 
 pub crew_tells : (status : Status) (held now : Option (List ℕ)) (text : List ℕ) → text ≡ listening → IsCrewStatus status → Appends held now text → ServeTells status held now

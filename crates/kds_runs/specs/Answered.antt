@@ -32,22 +32,26 @@ Remains Memory later back = Unit {0}
 Remains Read later back = back ≡ []
 Remains s later back = (later ≡ []) × (back ≡ [])
 
--- The first lines of the schedule were answered, before the first that decides: their turns ran, the workers are theirs,
--- and a front of their output was written.
-pub record RanSo (status : Status) (bytes : List ℕ) (before after : Option (List ℕ)) (s : SimValue) : Type 0 where
+-- The first lines of the schedule were run, before the first that decides: their turns ran, the workers are theirs, and a
+-- front of what is written for them was written.
+pub record RanBy (output : List Line → List ℕ) (status : Status) (bytes : List ℕ) (before after : Option (List ℕ)) (s : SimValue) : Type 0 where
   pub lines : List Line
   pub later : List Line
   pub parts : (judged bytes).lines ≡ lines ++ later
   pub made : RunsSo s (with_schedule fresh lines)
   pub front : List ℕ
   pub back : List ℕ
-  pub output : outputs fresh lines ≡ front ++ back
+  pub output_is : output lines ≡ front ++ back
   pub written : Appends before after front
   pub remains : Remains status later back
 
+-- where their answers are written
+abbrev pub RanSo : Status → List ℕ → Option (List ℕ) → Option (List ℕ) → SimValue → Type 0
+RanSo status bytes before after s = RanBy (outputs fresh) status bytes before after s
+
 -- and the state of these turns is safe, at their clock, and the processors of these workers were called for what is given
-pub record RanSafely (status : Status) (bytes : List ℕ) (before after : Option (List ℕ)) : Type 0 where
+pub record RanSafely (output : List Line → List ℕ) (status : Status) (bytes : List ℕ) (before after : Option (List ℕ)) : Type 0 where
   pub sim : SimValue
-  pub so : RanSo status bytes before after sim
+  pub so : RanBy output status bytes before after sim
   pub safe : IsSafe (journal sim.history) (clock sim.history)
   pub served : AreAllServed (with_schedule fresh so.lines)

@@ -1,9 +1,11 @@
-//! The runs of the program: its words, what each of them runs, and how a run ends.
+//! The runs of the program: what its words ask for, what each of them runs, and how a run ends.
 #![tactic(auto)]
 
 mod errors;
+mod journal;
+mod program;
 mod runs;
 mod schedule;
-mod words;
 
-pub use runs::{run, run_answer, run_replay};
+pub use program::run;
+pub use runs::{run_answer, run_replay};

@@ -1,7 +1,7 @@
-//! The runs of the program.
-ghost use Rattle.std.specs.Prelude.{◌≡◌, ◌≤◌, ◌↔◌, [], None, Some, List, ℕ, IfSome};
+//! The runs of a schedule, of a connection and of a door.
+ghost use Rattle.std.specs.Prelude.{◌≡◌, ◌≤◌, [], List, IfSome};
 ghost use Rattle.kds_defs.specs.declared.command.Turn.{Turn};
-ghost use Rattle.kds_defs.specs.Histories.{clock as clock_of, journal};
+ghost use Rattle.kds_defs.specs.Histories.{clock as clock_of, journal as journal_of};
 ghost use Rattle.kds_defs.specs.Lawful.{IsHistory};
 ghost use Rattle.kds_defs.specs.Safe.{IsSafe};
 ghost use Rattle.kds_ends.specs.Causes.{Rose};
@@ -10,12 +10,11 @@ ghost use Rattle.kcl_sim.specs.Serving.{AreAllServed};
 ghost use Rattle.kds_server.specs.Texts.{IsAnswerStatus, IsCrewStatus};
 ghost use Rattle.kds_server.specs.Serving.{Served};
 ghost use Rattle.kds_runs.specs.Answered.{RanSafely};
-ghost use Rattle.kds_runs.specs.Told.{Tells, IsReplayStatus, Answers, ServeTells, EndsSo};
-ghost use Rattle.kds_runs.specs.Words.{task_of, texts_of};
+ghost use Rattle.kds_runs.specs.Ends.{ReplayTells, ServeTells, shown};
+ghost use Rattle.kds_runs.specs.Told.{IsReplayStatus};
 
-use crate::errors::tell;
+use crate::journal::record_schedule;
 use crate::schedule::run_schedule;
-use crate::words::{Task, find_task};
 use kcl_laws::step;
 use kcl_sim::{lawful, served};
 use kcl_world::World;
@@ -27,26 +26,34 @@ use std::sync::{Mutex, Wait};
 use std::thread::Threads;
 
 /// The state of every lawful history is safe, at its clock.
-fn safety()
-    ensures { (h : List Turn) → IsHistory h → IsSafe (journal h) (clock_of h) }
+pub fn safety()
+    ensures { (h : List Turn) → IsHistory h → IsSafe (journal_of h) (clock_of h) }
 {
     step();
 }
 
-/// Runs a schedule from its bytes, and writes its output. Done: it was read to its end. BadLine: exactly at
-/// the first line that is none. TooLong: exactly where a line or the input is longer than the limits; these three
-/// unless an end failed or memory ran out before. Read, Write: the source or the sink failed. Memory: want of memory.
-pub fn run_replay<S: Source, K: Sink>(alloc: Global, input: &mut S, out: &mut K) -> Status
+/// Runs a schedule from its bytes, and writes the answers of its lines; with `journal`, its journal in their place: the
+/// first line, an entry for each change that the turns make, and the last line exactly with Done. Done: it was read to its
+/// end. BadLine: exactly at the first line that is none. TooLong: exactly where a line or the input is longer than the
+/// limits; these three unless an end failed or memory ran out before. Read, Write: the source or the sink failed.
+/// Memory: want of memory.
+pub fn run_replay<S: Source, K: Sink>(
+    alloc: Global,
+    input: &mut S,
+    out: &mut K,
+    journal: bool,
+) -> Status
     // Over a source that tells its bytes, the output of the schedule and its end are these.
     ensures told { IfSome (S.left input.old) (λ bytes.
-        Tells result bytes (S.left input.new) (K.held out.old) (K.held out.new)) }
+        ReplayTells journal result bytes (S.left input.new) (K.held out.old) (K.held out.new)) }
 
     // The turns that ran are those of the schedule's lines that were answered, their state is safe, at their clock, and
     // their workers' processors were called for what is given.
-    ensures ran { IfSome (S.left input.old) (λ bytes. RanSafely result bytes (K.held out.old) (K.held out.new)) }
+    ensures ran { IfSome (S.left input.old) (λ bytes.
+        RanSafely (shown journal result) result bytes (K.held out.old) (K.held out.new)) }
 
     // So it is of all of the schedule's turns and workers.
-    ensures safe { IfSome (S.left input.old) (λ bytes. IsSafe (journal (history bytes)) (clock_of (history bytes))) }
+    ensures safe { IfSome (S.left input.old) (λ bytes. IsSafe (journal_of (history bytes)) (clock_of (history bytes))) }
     ensures served { IfSome (S.left input.old) (λ bytes. AreAllServed (ran bytes)) }
     ensures read { result ≡ Status.Read → Rose (S.faults input.old) (S.faults input.new) }
     ensures write { result ≡ Status.Write → Rose (K.faults out.old) (K.faults out.new) }
@@ -55,6 +62,9 @@ pub fn run_replay<S: Source, K: Sink>(alloc: Global, input: &mut S, out: &mut K)
     lawful();
     safety();
     served();
+    if journal {
+        return record_schedule(alloc, World::new(alloc), input, out);
+    }
     run_schedule(alloc, World::new(alloc), input, out).status
 }
 
@@ -100,7 +110,7 @@ where
 
 /// Listens at a port, says so, and serves the connections that come. Door: the door failed. Write: the sink failed.
 /// Memory: want of memory.
-fn run_serve<R, K, C, D>(
+pub fn run_serve<R, K, C, D>(
     rt: &R,
     alloc: Global,
     port: u16,
@@ -128,98 +138,4 @@ where
         Ok(()) => serve_door(rt, alloc, passes, clock, door),
         Err(_) => Status::Write,
     }
-}
-
-/// Does what the words ask for, and gives the end.
-fn perform<R, S, K, C, D>(
-    rt: &R,
-    alloc: Global,
-    words: &Vec<String>,
-    input: &mut S,
-    out: &mut K,
-    clock: C,
-    door: &mut D,
-) -> Status
-where
-    R: Threads + Wait + Sync,
-    S: Source,
-    K: Sink,
-    C: Clock + Send + Drop,
-    D: Door,
-    D::Input: Send,
-    D::Output: Send,
-    ensures usage { task_of (texts_of words.now.items) ≡ None → result ≡ Status.Usage }
-    ensures untouched { task_of (texts_of words.now.items) ≡ None → (input.new ≡ input.old) × (out.new ≡ out.old) }
-    ensures kinds { task_of (texts_of words.now.items) ≡ Some Task.Replay → IsReplayStatus result }
-    ensures told { task_of (texts_of words.now.items) ≡ Some Task.Replay → IfSome (S.left input.old) (λ bytes.
-        Tells result bytes (S.left input.new) (K.held out.old) (K.held out.new)) }
-    ensures ran { task_of (texts_of words.now.items) ≡ Some Task.Replay → IfSome (S.left input.old) (λ bytes.
-        RanSafely result bytes (K.held out.old) (K.held out.new)) }
-    ensures safe { task_of (texts_of words.now.items) ≡ Some Task.Replay
-        → IfSome (S.left input.old) (λ bytes. IsSafe (journal (history bytes)) (clock_of (history bytes))) }
-    ensures served { task_of (texts_of words.now.items) ≡ Some Task.Replay → IfSome (S.left input.old) (λ bytes. AreAllServed (ran bytes)) }
-    ensures answers { task_of (texts_of words.now.items) ≡ Some Task.Answer
-        → Answers (S.left input.old) (S.left input.new) (C.moments clock) (K.held out.old) (K.held out.new) result }
-    ensures serves { (port passes : ℕ) → task_of (texts_of words.now.items) ≡ Some (Task.Serve port passes)
-        → ServeTells result (K.held out.old) (K.held out.new) }
-    ensures read { result ≡ Status.Read → Rose (S.faults input.old) (S.faults input.new) }
-    ensures write { result ≡ Status.Write → Rose (K.faults out.old) (K.faults out.new) }
-    ensures door { result ≡ Status.Door → Rose (D.faults door.old) (D.faults door.new) }
-{
-    match find_task(words) {
-        Some(Task::Replay) => run_replay(alloc, input, out),
-        Some(Task::Answer) => {
-            let mut clock = clock;
-            run_answer(alloc, input, out, &mut clock)
-        }
-        Some(Task::Serve { port, passes }) => {
-            run_serve(rt, alloc, port, passes, out, clock, door)
-        }
-        None => Status::Usage,
-    }
-}
-
-/// The whole program: its words, its input, its output, its error output, its clock and its door. The answer is the exit
-/// status.
-pub fn run<R, S, K, E, C, D>(
-    rt: &R,
-    alloc: Global,
-    words: &Vec<String>,
-    input: &mut S,
-    out: &mut K,
-    err: &mut E,
-    clock: C,
-    door: &mut D,
-) -> u8
-where
-    R: Threads + Wait + Sync,
-    S: Source,
-    K: Sink,
-    E: Sink,
-    C: Clock + Send + Drop,
-    D: Door,
-    D::Input: Send,
-    D::Output: Send,
-    // 2 exactly where the words are no command.
-    ensures usage { (result ≡ 2) ↔ (task_of (texts_of words.now.items) ≡ None) }
-
-    // Then the input and the output are as they were.
-    ensures untouched { task_of (texts_of words.now.items) ≡ None → (input.new ≡ input.old) × (out.new ≡ out.old) }
-
-    // A replay, a connection and a door that is served end as told, and the error output is told this very end.
-    ensures ended { EndsSo result (task_of (texts_of words.now.items)) (S.left input.old) (S.left input.new) (C.moments clock)
-        (K.held out.old) (K.held out.new) (E.held err.old) (E.held err.new) (Rose (E.faults err.old) (E.faults err.new)) }
-
-    // The state of the schedule's turns is safe, at their clock, and its workers' processors are called for the given reads
-    // of their tenures.
-    ensures safe { task_of (texts_of words.now.items) ≡ Some Task.Replay
-        → IfSome (S.left input.old) (λ bytes. IsSafe (journal (history bytes)) (clock_of (history bytes))) }
-    ensures served { task_of (texts_of words.now.items) ≡ Some Task.Replay → IfSome (S.left input.old) (λ bytes. AreAllServed (ran bytes)) }
-    ensures read { result ≡ 4 → Rose (S.faults input.old) (S.faults input.new) }
-    ensures write { result ≡ 5 → Rose (K.faults out.old) (K.faults out.new) }
-    ensures door { result ≡ 8 → Rose (D.faults door.old) (D.faults door.new) }
-{
-    let status = perform(rt, alloc, words, input, out, clock, door);
-    tell(err, status);
-    status.code()
 }

@@ -18,7 +18,7 @@ pub struct Replay<M: Machine> {
 }
 
 /// The end of a run by that of the reading of its input: what has no line feed is no line.
-fn status_of(outcome: Outcome) -> Status
+pub fn status_of(outcome: Outcome) -> Status
     ensures { result ≡ status_at outcome }
 {
     match outcome {

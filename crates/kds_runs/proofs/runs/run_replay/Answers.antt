@@ -1,5 +1,22 @@
-use Rattle.kds_runs.proofs.Answering.{ran_safely}
+use Rattle.kcl_sim.specs.Output.{fresh, outputs}
+use Rattle.kds_runs.specs.Journal.{recorded}
+use Rattle.kds_runs.proofs.Answering.{ran_safely, some_ran_safely}
 use Rattle.kds_runs.proofs.runs.run_replay.Goals as goal
 
+pub returns-then-journal-clause-told : goal.returns-then-journal-clause-told
+returns-then-journal-clause-told g c = rw c.if-journal.true c.record_schedule.ensures.told
+
+pub returns-then-journal-clause-ran : goal.returns-then-journal-clause-ran
+returns-then-journal-clause-ran g c =
+    rw c.if-journal.true
+    (some_ran_safely (recorded c.record_schedule.result) c.record_schedule.result (g.S.Source.left c.args.input.now) _ _
+    c.lawful.ensures.first c.safety.ensures c.served.ensures.first c.record_schedule.ensures.ran)
+
+pub returns-clause-told : goal.returns-clause-told
+returns-clause-told g c = rw c.if-journal.false c.run_schedule.ensures.told
+
 pub returns-clause-ran : goal.returns-clause-ran
-returns-clause-ran g c = ran_safely _ (g.S.Source.left c.args.input.now) _ _ c.run_schedule.result.sim c.lawful.ensures.first c.safety.ensures c.served.ensures.first c.run_schedule.ensures.ran
+returns-clause-ran g c =
+    rw c.if-journal.false
+    (ran_safely (outputs fresh) c.run_schedule.result.status (g.S.Source.left c.args.input.now) _ _ c.run_schedule.result.sim
+    c.lawful.ensures.first c.safety.ensures c.served.ensures.first c.run_schedule.ensures.ran)

@@ -1,0 +1,57 @@
+//! The journal of a schedule in place of its answers.
+use kcl_recorder::Recorder;
+use kcl_world::World;
+use kds_base::{Memory, Octets};
+use kds_lines::Taker;
+use std::alloc::Global;
+use std::test::Fail;
+
+/// A robbed lease.
+const ROBBED: [&str; 11] = [
+    r#"1000 api CreateStream {"StreamName":"s","ShardCount":1}"#,
+    r#"1000 api PutRecord {"StreamName":"s","Data":"aGk=","PartitionKey":"a"}"#,
+    r#"1001 api PutRecord {"StreamName":"s","Data":"","PartitionKey":"abc"}"#,
+    "3000 raw 1 make 1/0",
+    "3000 raw 1 take 1/0 0 w1",
+    "3000 raw 2 take 1/0 0 w2",
+    "3000 raw 1 open 1",
+    "3000 raw 1 read 1 0 10",
+    "3000 raw 2 take 1/0 1 w2",
+    "3000 raw 1 give 1",
+    "3000 raw 1 mark 1 1 2",
+];
+
+/// Its nine entries: what was refused adds none.
+const ENTRIES: &str = "1000 0 made 1 s 1
+1000 0 put 1 0 1 16955237001963240173058271559858726497 2 1
+1001 0 put 1 0 2 191415658344158766168031473277922803570 0 3
+3000 1 lease 1/0
+3000 1 taken 1/0 1 1 w1
+3000 1 opened 1
+3000 1 read 1 10 more 1 2
+3000 2 taken 1/0 2 2 w2
+3000 1 given 1
+";
+
+/// What a recorder writes for these lines, and its clock behind it.
+fn record(alloc: Global, lines: &[&str]) -> Result<(Octets, u64), Memory> {
+    let mut recorder = Recorder::new(alloc, World::new(alloc));
+    let mut out = Octets::new(alloc);
+    for line in lines {
+        if !recorder.take(alloc, line.as_bytes(), &mut out)? {
+            break;
+        }
+    }
+    Ok((out, recorder.clock().ms()))
+}
+
+#[test]
+fn records(rt: HostRuntime) -> Result<(), Fail> {
+    let (out, clock) = record(rt.alloc(), &ROBBED)?;
+    assert!(rt; out.as_slice() == ENTRIES.as_bytes());
+    assert!(rt; clock == 3000);
+    let (out, clock) = record(rt.alloc(), &["1000 raw 1 make", "1000 raw 1 survey"])?;
+    assert!(rt; out.as_slice().is_empty());
+    assert!(rt; clock == 0);
+    Ok(())
+}

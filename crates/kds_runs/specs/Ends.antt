@@ -1,0 +1,80 @@
+-- How the run of each task ends, and the program.
+use Rattle.std.specs.Prelude.{◌≡◌, ◌⊎◌, ℕ, List, [], Bool, true, false, IfSome}
+use Rattle.std.specs.declared.option.Option.{Option}
+use Rattle.std.specs.Io.KnownBytes.{Appends}
+use Rattle.kds_audit.specs.Audited.{IsAuditStatus, IsNoJournal, IsSafely, TellsAudit}
+use Rattle.kds_ends.specs.declared.status.Status.{Status}
+use Rattle.kds_ends.specs.declared.status.Status.TheVariants.{Done, Unsound, Usage, Write, Memory, Door}
+use Rattle.kds_ends.specs.Causes.{AppendsFront}
+use Rattle.kds_ends.specs.Status.{code_of}
+use Rattle.kds_server.specs.Texts.{IsAnswerStatus}
+use Rattle.kds_server.specs.Serving.{Served}
+use Rattle.kds_words.specs.declared.task.Task.{Task}
+use Rattle.kds_words.specs.declared.task.Task.TheVariants.{Replay, Answer, Audit, Serve, Drill}
+use Rattle.kcl_script.specs.declared.line.Line.{Line}
+use Rattle.kcl_sim.specs.Output.{fresh, outputs}
+use Rattle.kds_runs.specs.Answered.{RanSafely}
+use Rattle.kds_runs.specs.Journal.{JournalTells, recorded}
+use Rattle.kds_runs.specs.Told.{IsReplayStatus, Tells}
+use Rattle.kds_runs.specs.Words.{error_text, listening}
+
+-- ---- a replay, with its answers or its journal
+
+-- what is written for lines that were run, where the end is this
+abbrev pub shown : Bool → Status → List Line → List ℕ
+shown false status = outputs fresh
+shown true status = recorded status
+
+-- what the end tells of the bytes, those that are left, and what the sink held and holds
+abbrev pub ReplayTells : Bool → Status → List ℕ → Option (List ℕ) → Option (List ℕ) → Option (List ℕ) → Type 0
+ReplayTells false status bytes left held now = Tells status bytes left held now
+ReplayTells true status bytes left held now = JournalTells status bytes left held now
+
+-- A replay ended so: its output is told by the bytes, and the turns that ran are those of the lines that were answered.
+pub record Replayed (journal : Bool) (status : Status) (bytes left held now : Option (List ℕ)) : Type 0 where
+  pub kind : IsReplayStatus status
+  pub told : IfSome bytes (λ bs. ReplayTells journal status bs left held now)
+  pub ran : IfSome bytes (λ bs. RanSafely (shown journal status) status bs held now)
+
+-- ---- an audit
+
+-- An audit ended so: what it wrote is told by the bytes; a sound text is that of a legal journal, whose state is safe, and
+-- an unsound one that of no legal journal.
+pub record Audited (status : Status) (bytes held now : Option (List ℕ)) : Type 0 where
+  pub kind : IsAuditStatus status
+  pub told : IfSome bytes (λ bs. TellsAudit status bs held now)
+  pub safe : status ≡ Done → IfSome bytes IsSafely
+  pub legal : status ≡ Unsound → IfSome bytes IsNoJournal
+
+-- ---- connections
+
+-- The machine without turns served a connection, whose end is this; the clock tells so many moments then.
+pub record Answers (all left moments start held : Option (List ℕ)) (status : Status) : Type 0 where
+  pub kind : IsAnswerStatus status
+  pub spent : Option (List ℕ)
+  pub served : Served [] all left moments spent start held status
+
+-- What serving a door writes: that it listens, or nothing where it doesn't, or a front of it.
+abbrev pub ServeTells : Status → Option (List ℕ) → Option (List ℕ) → Type 0
+ServeTells Door held now = Appends held now listening ⊎ Appends held now []
+ServeTells Write held now = AppendsFront held now listening
+ServeTells Memory held now = AppendsFront held now listening
+ServeTells _ held now = ⊥
+
+-- ---- the program
+
+-- the run of a task ended so
+abbrev pub Performed : Task → Status → Option (List ℕ) → Option (List ℕ) → Option (List ℕ) → Option (List ℕ) → Option (List ℕ) → Type 0
+Performed (Replay journal) status bytes left moments held now = Replayed journal status bytes left held now
+Performed Answer status bytes left moments held now = Answers bytes left moments held now status
+Performed Audit status bytes left moments held now = Audited status bytes held now
+Performed (Serve port passes) status bytes left moments held now = ServeTells status held now
+Performed (Drill number workers records) status bytes left moments held now = status ≡ Usage
+
+-- How the program ended: this is its exit status, the error output gained its text unless that output's own faults rose,
+-- and the run of its task ended so.
+pub record EndsSo (code : ℕ) (task : Option Task) (bytes left moments held now told tells : Option (List ℕ)) (failed : Type 0) : Type 0 where
+  pub status : Status
+  pub is_code : code ≡ code_of status
+  pub error : Appends told tells (error_text status) ⊎ failed
+  pub performed : IfSome task (λ t. Performed t status bytes left moments held now)
