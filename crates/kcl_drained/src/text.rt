@@ -1,0 +1,34 @@
+//! The text of a drill.
+ghost use Rattle.std.specs.Prelude.{ℕ, ◌≡◌, ◌<◌, ◌^◌, List, length, IfOk};
+ghost use Rattle.kds_defs.specs.declared.command.Turn.{Turn};
+ghost use Rattle.kds_defs.specs.Histories.{journal};
+ghost use Rattle.kcl_drill.specs.Fed.{IsDrill};
+ghost use Rattle.kcl_drill.specs.Summed.{drill_text};
+ghost use Rattle.kcl_closed.specs.Closed.{AreFromHorizon};
+
+use kcl_closed::{drained, summed};
+use kcl_drain::lone_drain;
+use kcl_drill::{one_text, untrimmed};
+use kcl_summary::summary;
+use kds_base::{Memory, Moment, Octets};
+use kds_defs::Machine;
+use std::alloc::Global;
+
+/// The actor of what is done once the hall was closed: no pass has this number.
+const NOBODY: u32 = 0;
+
+/// Reads each shard of a drill's machine to its end, and gives the summary. The turns are at the clock, whatever that is:
+/// their moment isn't above it. Memory: want of memory.
+pub fn drained_text<M: Machine>(alloc: Global, machine: &mut M) -> Result<Octets, Memory>
+    ensures { (number records : ℕ) (h : List Turn) → M.stands_for machine.old h → IsDrill h number records → length h < 2 ^ 32
+        → AreFromHorizon (journal h) → IfOk result (λ text. text ≡ drill_text number records) }
+{
+    one_text();
+    untrimmed();
+    drained();
+    summed();
+    lone_drain(machine, NOBODY, Moment::start())?;
+    let mut text = Octets::new(alloc);
+    summary(alloc, machine, NOBODY, Moment::start(), &mut text)?;
+    Ok(text)
+}
