@@ -10,7 +10,7 @@ use Rattle.std.proofs.lemmas.Slice.Eq.{bytes_eq-Decides}
 use Rattle.kds_defs.specs.Journal.{Journal, Line, with_lines}
 use Rattle.kds_defs.specs.Legal.{IsGood, IsLegal, last_clock}
 use Rattle.kds_lines.specs.Lines.{End, Lined, ended, is_feed, is_over, lined, lined_from, pieces, preceded, too_long, unfinished, whole}
-use Rattle.kcl_script.specs.Fields.{Lacks}
+use Rattle.kcl_text.specs.Fields.{Lacks}
 use Rattle.kcl_journal.specs.declared.line.EntryLine.{EntryLine}
 use Rattle.kcl_journal.specs.declared.line.TheConstants.{FIRST_VERSION, VERSION}
 use Rattle.kcl_journal.specs.Entries.{IsVersion, end_of, end_spelling, entry_of, entry_spelling, heading}

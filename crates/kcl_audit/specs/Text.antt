@@ -3,7 +3,7 @@ use Rattle.std.specs.Prelude.{ℕ, ◌≤◌, ◌<◌, ◌^◌, ◌≡◌, List,
 use Rattle.std.specs.List.{AllByRecursion}
 use Rattle.kds_defs.specs.Journal.{Journal}
 use Rattle.kds_defs.specs.Legal.{IsLegal, last_clock}
-use Rattle.kcl_script.specs.Answers.{refusal_name}
+use Rattle.kcl_text.specs.Answers.{refusal_name}
 use Rattle.kcl_journal.specs.declared.line.EntryLine.{EntryLine}
 use Rattle.kcl_journal.specs.Entries.{IsVersion, end_spelling, entry_spelling, heading}
 use Rattle.kcl_journal.specs.Ranges.{IsEntryLine, is_first}

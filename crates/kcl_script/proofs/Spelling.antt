@@ -5,15 +5,15 @@ use Rattle.std.proofs.lemmas.Slice.Eq.{bytes_eq-Decides}
 use Rattle.std.specs.Char.{is_ascii_alphanumeric}
 use Rattle.std.specs.Str.{bytes_eq}
 use Rattle.kds_defs.specs.declared.limits.TheConstants.{MOST_ACTOR}
+use Rattle.kcl_text.specs.Fields.{◌>>=◌, field, Lacks, moment_of, count_of}
+use Rattle.kcl_text.specs.Commands.{command_of, raw_text}
+use Rattle.kcl_text.proofs.Parts.{parted_at, parted_spells, both, kind_lacks, bind_some, map_some}
+use Rattle.kcl_text.proofs.Forms.{count_form, moment_form, decimal_lacks}
+use Rattle.kcl_text.proofs.RawLemmas.{choose, command_spells, command_again}
 use Rattle.kcl_script.specs.declared.line.Line.{Line}
 use Rattle.kcl_script.specs.declared.line.Line.TheVariants.{Api, Raw, Step, Stop, Worker}
-use Rattle.kcl_script.specs.Fields.{◌>>=◌, field, Lacks, moment_of, count_of}
 use Rattle.kcl_script.specs.Workers.{actor_of, hired_of, hired_text}
-use Rattle.kcl_script.specs.Commands.{command_of, raw_text}
 use Rattle.kcl_script.specs.Line.{is_operation, api_line, raw_line, worker_line, step_line, stop_line, line_with, line_of, spelling, IsLine}
-use Rattle.kcl_script.proofs.Parts.{parted_at, parted_spells, both, kind_lacks, bind_some, map_some}
-use Rattle.kcl_script.proofs.Forms.{count_form, moment_form, decimal_lacks}
-use Rattle.kcl_script.proofs.RawLemmas.{choose, command_spells, command_again}
 use Rattle.kcl_script.proofs.WorkerLemmas.{actor_form, hired_form}
 
 -- ---- lines of each kind
@@ -106,7 +106,7 @@ line_again (Api at operation body) h =
 line_again (Raw at by what long) h =
     let actor = decimal_lacks 32 by refl (omega (arith, h.1.0.1)) in
     front_again at (codes "raw " ++ (decimal by ++ 32 ∷ raw_text what long)) (Raw at by what long) h.0
-    (rw (parted_at 32 (decimal by) (raw_text what long) actor refl, (count_form MOST_ACTOR (omega arith)).again by h.1.0, command_again what long h.1.1.0 h.1.1.1) refl)
+    (rw (parted_at 32 (decimal by) (raw_text what long) actor refl, (count_form MOST_ACTOR (omega arith)).again by h.1.0, command_again what long h.1.1) refl)
 line_again (Worker at name kind from) h =
     front_again at (codes "worker " ++ hired_text name kind from) (Worker at name kind from) h.0
     (ap (option_map (λ a. Worker at a.0 a.1.0 a.1.1)) (hired_form.again (name, (kind, from)) (h.1.0, (tt, h.1.1))))

@@ -1,5 +1,5 @@
 -- The lines of workers have one text each.
-use Rattle.std.proofs.Common.{◌≡◌, ℕ, ◌<◌, ◌^◌, List, ◌∷◌, ◌++◌, Bool, true, false, Option, Some, None, refl, sym, ap, ◌∙◌, arith, codes, decimal, inl, inr, subst}
+use Rattle.std.proofs.Common.{◌≡◌, ℕ, ◌<◌, ◌^◌, List, Bool, true, false, Option, Some, None, refl, ap, ◌∙◌, arith, codes, decimal, inl, inr, subst}
 use Rattle.std.proofs.lemmas.Bool.{cases_Bool}
 use Rattle.std.proofs.lemmas.Grind.{common_steps}
 use Rattle.std.proofs.lemmas.Slice.Eq.{bytes_eq-Decides}
@@ -10,11 +10,11 @@ use Rattle.kds_base.proofs.NumberLemmas.{decimal_of_number, number_of_decimal}
 use Rattle.kds_defs.specs.declared.command.Origin.{Origin}
 use Rattle.kcl_proc.specs.declared.stock.Kind.{Kind}
 use Rattle.kcl_proc.specs.declared.stock.Kind.TheVariants as kind
-use Rattle.kcl_script.specs.Fields.{Lacks, worker_of, worker_text}
-use Rattle.kcl_script.specs.Origins.{IsOrigin, origin_text, with_origin}
+use Rattle.kcl_text.specs.Fields.{Lacks, worker_text}
+use Rattle.kcl_text.specs.Origins.{IsOrigin}
+use Rattle.kcl_text.proofs.Forms.{IsForm, IsWorker, decimal_lacks, two_form, worker_form}
+use Rattle.kcl_text.proofs.OriginLemmas.{with_origin_form}
 use Rattle.kcl_script.specs.Workers.{actor_of, hired_of, hired_text, in_actors, kind_of, kind_text}
-use Rattle.kcl_script.proofs.Forms.{IsForm, IsWorker, decimal_lacks, two_form, worker_form}
-use Rattle.kcl_script.proofs.OriginLemmas.{with_origin_form}
 
 -- ---- kinds
 

@@ -4,13 +4,13 @@ use Rattle.std.specs.Char.{is_ascii_alphanumeric}
 use Rattle.std.specs.List.{list_all}
 use Rattle.std.specs.Str.{bytes_eq}
 use Rattle.kds_defs.specs.declared.limits.TheConstants.{OPERATION_BYTES, MOST_ACTOR}
+use Rattle.kcl_text.specs.Fields.{◌>>=◌, field, moment_of, count_of, greatest32}
+use Rattle.kcl_text.specs.Commands.{command_of, raw_text, IsAsked}
+use Rattle.kcl_text.specs.Origins.{IsOrigin}
 use Rattle.kcl_script.specs.declared.line.Line.{Line}
 use Rattle.kcl_script.specs.declared.line.Line.TheVariants.{Api, Raw, Step, Stop, Worker}
 use Rattle.kcl_script.specs.declared.line.LineView.{LineView}
 use Rattle.kcl_script.specs.declared.line.LineView.TheVariants as view
-use Rattle.kcl_script.specs.Fields.{◌>>=◌, field, moment_of, count_of, greatest32}
-use Rattle.kcl_script.specs.Commands.{command_of, raw_text, IsRaw, IsLong}
-use Rattle.kcl_script.specs.Origins.{IsOrigin}
 use Rattle.kcl_script.specs.Workers.{actor_of, hired_of, hired_text}
 
 -- letters and digits, at least one and at most so many
@@ -77,7 +77,7 @@ IsActor by = (1 ≤ by) × (by ≤ MOST_ACTOR)
 -- which lines have one
 abbrev pub IsLine : Line → Type 0
 IsLine (Api at operation body) = (at < 2 ^ 62) × (is_operation operation ≡ true)
-IsLine (Raw at by what long) = (at < 2 ^ 62) × (IsActor by × (IsRaw what × IsLong what long))
+IsLine (Raw at by what long) = (at < 2 ^ 62) × (IsActor by × IsAsked what long)
 IsLine (Worker at name kind from) = (at < 2 ^ 62) × (((1 ≤ name) × (name ≤ greatest32)) × IsOrigin from)
 IsLine (Step at by) = (at < 2 ^ 62) × (by < 2 ^ 32)
 IsLine (Stop at by) = (at < 2 ^ 62) × (by < 2 ^ 32)

@@ -1,11 +1,11 @@
 -- Workers in lines of a schedule.
-use Rattle.std.specs.Prelude.{ℕ, ◌^◌, List, ◌∷◌, ◌++◌, codes, nat_lt, if◌then◌else◌, Option, Some, None, option_map, option_and_then}
+use Rattle.std.specs.Prelude.{ℕ, ◌^◌, List, ◌∷◌, ◌++◌, codes, nat_lt, if◌then◌else◌, Option, Some, None, option_and_then}
 use Rattle.std.specs.Str.{bytes_eq}
 use Rattle.kds_defs.specs.declared.command.Origin.{Origin}
 use Rattle.kcl_proc.specs.declared.stock.Kind.{Kind}
 use Rattle.kcl_proc.specs.declared.stock.Kind.TheVariants as kind
-use Rattle.kcl_script.specs.Fields.{number, two, worker_of, worker_text}
-use Rattle.kcl_script.specs.Origins.{origin_text, with_origin}
+use Rattle.kcl_text.specs.Fields.{number, two, worker_of, worker_text}
+use Rattle.kcl_text.specs.Origins.{origin_text, with_origin}
 
 -- a kind of processor
 abbrev pub kind_of : List ℕ → Option Kind

@@ -1,13 +1,12 @@
 //! The lines of workers.
 ghost use Rattle.std.specs.Prelude.{◌≡◌, option_map};
+ghost use Rattle.kcl_text.specs.Origins.{with_origin};
 ghost use Rattle.kcl_script.specs.Line.{seen, step_line, stop_line, worker_line};
-ghost use Rattle.kcl_script.specs.Origins.{with_origin};
 ghost use Rattle.kcl_script.specs.Workers.{actor_of, in_actors, kind_of};
 
-use crate::fields::{field, worker};
 use crate::line::LineView;
-use crate::origins::origin;
 use kcl_proc::Kind;
+use kcl_text::{field, origin, worker};
 use kds_base::{Moment, read_u64};
 use kds_defs::Origin;
 
@@ -59,7 +58,7 @@ fn actor(text: &[u8]) -> Option<u32>
 }
 
 /// `AT worker wN KIND`, with an origin or without.
-#[tactic(auto, unfolding(crate::specs::Fields::two))]
+#[tactic(auto, unfolding(kcl_text::specs::Fields::two))]
 pub fn hire<'a>(at: Moment, text: &[u8]) -> Option<LineView<'a>>
     ensures { option_map seen result ≡ worker_line at text.now }
 {

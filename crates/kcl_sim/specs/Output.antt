@@ -7,10 +7,10 @@ use Rattle.kds_defs.specs.Requests.{request_turn}
 use Rattle.kds_member.specs.declared.problem.Fault.{Fault}
 use Rattle.kds_json.specs.Asked.{asked}
 use Rattle.kds_reply.specs.Replies.{reply_of, fault_reply}
-use Rattle.kcl_script.specs.Answers.{answer_text}
+use Rattle.kcl_text.specs.Answers.{answer_text}
+use Rattle.kcl_text.specs.Commands.{command_text}
 use Rattle.kcl_script.specs.declared.line.Line.{Line}
 use Rattle.kcl_script.specs.declared.line.Line.TheVariants.{Api, Raw, Step, Stop, Worker}
-use Rattle.kcl_script.specs.Commands.{command_text}
 use Rattle.kcl_sim.specs.Workers.{Employed, actor_at, all_called, answered, command_at, employed_by, hired, stopped, with_employed}
 
 -- a space and the body, unless it is empty

@@ -2,10 +2,10 @@
 ghost use Rattle.std.specs.Prelude.{◌≡◌, [], ◌∷◌, ◌++◌, codes, decimal, true, false, IsUtf8, OnOk, OnErr};
 ghost use Rattle.kds_defs.specs.Kinds.{is_lease_answer};
 ghost use Rattle.kds_reply.specs.Replies.{fault_reply};
-ghost use Rattle.kcl_script.specs.Answers.{answer_text};
+ghost use Rattle.kcl_text.specs.Answers.{answer_text};
 ghost use Rattle.kcl_sim.specs.Output.{printed};
 
-use kcl_script::print_answer;
+use kcl_text::print_answer;
 use kds_base::{Memory, Octets, write_u64};
 use kds_defs::Answer;
 use kds_member::Fault;

@@ -24,8 +24,8 @@ use Rattle.kds_defs.proofs.Decisions.{found, holds_so, passes, same_lines}
 use Rattle.kcl_laws.specs.Recorded.{AreDrawn, RiseBetween}
 use Rattle.kcl_laws.proofs.FenceLemmas.{held, past_the_target}
 use Rattle.kcl_laws.proofs.LegalLemmas.{owned, past_the_parents}
-use Rattle.kcl_script.specs.Commands.{AreNumbers}
-use Rattle.kcl_script.specs.Origins.{IsOrigin}
+use Rattle.kcl_text.specs.Commands.{AreNumbers}
+use Rattle.kcl_text.specs.Origins.{IsOrigin}
 use Rattle.kcl_journal.specs.declared.line.TheConstants.{VERSION}
 use Rattle.kcl_journal.specs.Ranges.{Is64, IsEntryLine}
 use Rattle.kcl_scribe.specs.Added.{told_by}

@@ -11,12 +11,12 @@ use Rattle.kds_defs.specs.Histories.{clock, decide, decision, journal, lines_of}
 use Rattle.kds_defs.specs.Journal.{Journal, Line, with_lines}
 use Rattle.kds_defs.specs.Lawful.{IsHistory, IsLawfulCommand}
 use Rattle.kds_defs.specs.Legal.{IsLegal, IsReached, last_clock}
+use Rattle.kcl_laws.specs.ShownLines.{shown_journal, shown_line}
+use Rattle.kcl_text.specs.Commands.{AreNumbers}
 use Rattle.kcl_journal.specs.declared.line.EntryLine.{EntryLine}
 use Rattle.kcl_journal.specs.declared.line.TheConstants.{VERSION}
 use Rattle.kcl_journal.specs.Ranges.{IsEntryLine}
 use Rattle.kcl_journal.specs.Entries.{end_spelling, entry_spelling, heading}
-use Rattle.kcl_laws.specs.ShownLines.{shown_journal, shown_line}
-use Rattle.kcl_script.specs.Commands.{AreNumbers}
 use Rattle.kcl_audit.specs.Progress.{audit_of, line_of, over, sound}
 use Rattle.kcl_audit.specs.Text.{IsJournal, counted, entries_text, journal_of, with_feed}
 use Rattle.kcl_scribe.specs.Added.{history_entries, journal_text, told_by}

@@ -2,7 +2,7 @@
 use Rattle.std.specs.Prelude.{◌^◌, ◌<◌, List}
 use Rattle.std.specs.List.{AllByRecursion}
 use Rattle.kds_defs.specs.declared.command.Turn.{Turn}
-use Rattle.kcl_script.specs.Commands.{AreNumbers}
+use Rattle.kcl_text.specs.Commands.{AreNumbers}
 
 -- an actor has 32 bits, and the numbers of a command on leases those of their types
 abbrev pub HasBits : Turn → Type 0

@@ -1,8 +1,8 @@
 //! The text of a summary.
 ghost use Rattle.std.specs.Prelude.{◌≡◌, ◌+◌, ◌<◌, ◌^◌, ◌++◌, flat_map, IfOk, OnOk};
-ghost use Rattle.kcl_summary.specs.Counting.{AreFew};
-ghost use Rattle.kcl_script.specs.Answers.{checkpoint_text};
+ghost use Rattle.kcl_text.specs.Answers.{checkpoint_text};
 ghost use Rattle.kcl_drill.specs.Summed.{line_text, sum_of, text_of as told_text};
+ghost use Rattle.kcl_summary.specs.Counting.{AreFew};
 
 use crate::summing::ShardSum;
 use kds_base::{Checkpoint, Memory, Octets, write_u64, write_u128};

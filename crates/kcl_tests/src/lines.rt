@@ -2,7 +2,8 @@
 ghost use Rattle.std.specs.Prelude.{◌≡◌, false};
 ghost use Rattle.kds_defs.specs.Kinds.{is_service};
 
-use kcl_script::{one_spelling, print_command, print_line, read_line};
+use kcl_script::{one_spelling, print_line, read_line};
+use kcl_text::print_command;
 use kds_base::{Memory, Octets};
 use kds_defs::Command;
 use std::alloc::Global;

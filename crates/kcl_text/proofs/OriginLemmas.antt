@@ -6,10 +6,10 @@ use Rattle.std.specs.Prelude.{if◌then◌else◌, option_map}
 use Rattle.std.specs.Str.{bytes_eq}
 use Rattle.kds_defs.specs.declared.command.Origin.{Origin}
 use Rattle.kds_defs.specs.declared.command.Origin.TheVariants as origin
-use Rattle.kcl_script.specs.Fields.{field, Lacks, moment_of}
-use Rattle.kcl_script.specs.Origins.{IsOrigin, origin_of, origin_text, time_of, with_origin, with_origin_at}
-use Rattle.kcl_script.proofs.Parts.{parted_at, parted_none, parted_spells, bind_some, map_some}
-use Rattle.kcl_script.proofs.Forms.{IsForm, moment_form}
+use Rattle.kcl_text.specs.Fields.{field, Lacks, moment_of}
+use Rattle.kcl_text.specs.Origins.{IsOrigin, origin_of, origin_text, time_of, with_origin, with_origin_at}
+use Rattle.kcl_text.proofs.Parts.{parted_at, parted_none, parted_spells, bind_some, map_some}
+use Rattle.kcl_text.proofs.Forms.{IsForm, moment_form}
 
 -- ---- origins
 

@@ -1,6 +1,6 @@
 //! Where reading begins.
 ghost use Rattle.std.specs.Prelude.{◌≡◌};
-ghost use Rattle.kcl_script.specs.Origins.{time_of, origin_of};
+ghost use Rattle.kcl_text.specs.Origins.{time_of, origin_of};
 
 use crate::fields::{field, moment};
 use kds_defs::Origin;

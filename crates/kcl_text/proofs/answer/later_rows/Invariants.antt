@@ -1,7 +1,7 @@
 use Rattle.std.proofs.Common.{◌≡◌, ◌++◌, take, codes}
 use Rattle.std.specs.Prelude.{flat_map}
-use Rattle.kcl_script.specs.Answers.{row_text}
-use Rattle.kcl_script.proofs.answer.later_rows.Given as goal
+use Rattle.kcl_text.specs.Answers.{row_text}
+use Rattle.kcl_text.proofs.answer.later_rows.Given as goal
 
 -- the rows so far were added
 abbrev pub invariant-loop-next : goal.invariant-loop-next

@@ -1,6 +1,6 @@
 //! Fields of a line, and the numbers, workers and keys in them.
 ghost use Rattle.std.specs.Prelude.{◌≡◌, ◌∷◌, option_map};
-ghost use Rattle.kcl_script.specs.Fields.{parted, field as field_of, two, moment_of, number, from_one_to, count_of, worker_of, key_of};
+ghost use Rattle.kcl_text.specs.Fields.{parted, field as field_of, two, moment_of, number, from_one_to, count_of, worker_of, key_of};
 
 use kds_base::{Moment, ShardNo, ShardRef, StreamNo, WorkerNo, read_u64};
 use memchr::memchr;

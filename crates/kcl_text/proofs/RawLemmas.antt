@@ -1,5 +1,5 @@
 -- Each command of a raw line has one text.
-use Rattle.std.proofs.Common.{◌≡◌, ℕ, ◌<◌, ◌^◌, List, ◌∷◌, ◌++◌, Bool, true, false, Option, Some, None, refl, sym, ap, ◌∙◌, arith, codes, decimal, inl, inr, subst}
+use Rattle.std.proofs.Common.{◌≡◌, ℕ, ◌<◌, ◌^◌, List, ◌∷◌, ◌++◌, Bool, true, false, Option, Some, refl, sym, ap, ◌∙◌, arith, codes, decimal, inl, inr, subst}
 use Rattle.std.proofs.lemmas.Bool.{cases_Bool}
 use Rattle.std.specs.Prelude.{if◌then◌else◌, option_map}
 use Rattle.std.specs.List.{list_all}
@@ -17,12 +17,12 @@ use Rattle.kds_defs.specs.declared.command.Target.TheVariants as target
 use Rattle.kds_defs.specs.declared.limits.TheConstants.{MOST}
 use Rattle.kds_defs.specs.Kinds.{is_service}
 use Rattle.kds_defs.specs.Lawful.{IsLawfulCommand}
-use Rattle.kcl_script.specs.Fields.{field, Lacks, two, number, count_of, worker_of, worker_text, key_of, key_text}
-use Rattle.kcl_script.specs.Commands.{target_of, target_text, row_of, words_of, longer_of, command_of, command_text, raw_text, IsKey, IsTarget, AreNumbers, IsRaw, IsLong}
-use Rattle.kcl_script.specs.Origins.{IsOrigin, origin_text}
-use Rattle.kcl_script.proofs.OriginLemmas.{with_origin_form}
-use Rattle.kcl_script.proofs.Parts.{parted_spells, bind_some, map_some}
-use Rattle.kcl_script.proofs.Forms.{IsForm, Is64, number_form, IsCount, count_form, IsWorker, worker_form, two_form, key_form, key_lacks, decimal_lacks}
+use Rattle.kcl_text.specs.Fields.{field, Lacks, two, number, count_of, worker_of, worker_text, key_of, key_text}
+use Rattle.kcl_text.specs.Commands.{target_of, target_text, row_of, words_of, longer_of, command_of, command_text, raw_text, IsKey, IsTarget, AreNumbers, IsAsked, IsRaw}
+use Rattle.kcl_text.specs.Origins.{IsOrigin, origin_text}
+use Rattle.kcl_text.proofs.OriginLemmas.{with_origin_form}
+use Rattle.kcl_text.proofs.Parts.{parted_spells, bind_some, map_some}
+use Rattle.kcl_text.proofs.Forms.{IsForm, Is64, number_form, IsCount, count_form, IsWorker, worker_form, two_form, key_form, key_lacks, decimal_lacks}
 
 -- ---- targets
 
@@ -119,7 +119,7 @@ longer_spells text c h =
 -- ---- commands
 
 abbrev SpellsRaw : List ℕ → Command × Bool → Type 0
-SpellsRaw text r = (IsRaw r.0 × IsLong r.0 r.1) × (text ≡ raw_text r.0 r.1)
+SpellsRaw text r = IsAsked r.0 r.1 × (text ≡ raw_text r.0 r.1)
 
 survey_spells : (word text : List ℕ) (long : Bool) (r : Command × Bool) → word ≡ raw_text command.Survey long → bytes_eq text word ≡ true → Some (command.Survey, long) ≡ Some r → SpellsRaw text r
 survey_spells word text long r is same h =
@@ -167,6 +167,6 @@ short_again (command.Enforce name on) v = absurd (cc v.lease)
 short_again (command.Shards name after limit) v = absurd (cc v.lease)
 short_again (command.More page limit) v = absurd (cc v.lease)
 
-pub command_again : (what : Command) (long : Bool) → IsRaw what → IsLong what long → command_of (raw_text what long) ≡ Some (what, long)
-command_again what false v l = short_again what v
-command_again what true v l = ap (λ (c : Command). Some (c, true)) (sym (l refl))
+pub command_again : (what : Command) (long : Bool) → IsAsked what long → command_of (raw_text what long) ≡ Some (what, long)
+command_again what false a = short_again what a.0
+command_again what true a = ap (λ (c : Command). Some (c, true)) (sym (a.1 refl))

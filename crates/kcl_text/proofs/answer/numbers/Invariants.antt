@@ -1,7 +1,7 @@
 use Rattle.std.proofs.Common.{◌≡◌, ◌++◌, take}
 use Rattle.std.specs.Prelude.{flat_map}
-use Rattle.kcl_script.specs.Answers.{number_text}
-use Rattle.kcl_script.proofs.answer.numbers.Given as goal
+use Rattle.kcl_text.specs.Answers.{number_text}
+use Rattle.kcl_text.proofs.answer.numbers.Given as goal
 
 -- the numbers so far were added
 abbrev pub invariant-loop-stored : goal.invariant-loop-stored

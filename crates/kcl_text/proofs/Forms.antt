@@ -8,9 +8,9 @@ use Rattle.std.specs.Char.{is_ascii_digit}
 use Rattle.kds_base.specs.declared.lease_key.ShardRef.{ShardRef}
 use Rattle.kds_base.specs.NumberText.{number_of}
 use Rattle.kds_base.proofs.NumberLemmas.{own, decimal_of_number, number_of_decimal}
-use Rattle.kcl_script.specs.Fields.{parted, Lacks, two, in_time, moment_of, number, from_one_to, count_of, greatest32, worker_of, worker_text, key_from, key_of, key_text}
-use Rattle.kcl_script.specs.Commands.{IsKey}
-use Rattle.kcl_script.proofs.Parts.{lacks-append, parted_at, parted_spells, kind_lacks, bind_some, map_some}
+use Rattle.kcl_text.specs.Fields.{parted, Lacks, two, in_time, moment_of, number, from_one_to, count_of, greatest32, worker_of, worker_text, key_from, key_of, key_text}
+use Rattle.kcl_text.specs.Commands.{IsKey}
+use Rattle.kcl_text.proofs.Parts.{lacks-append, parted_at, parted_spells, kind_lacks, bind_some, map_some}
 
 pub record IsForm {A : Type 0} (Valid : A → Type 0) (read : List ℕ → Option A) (write : A → List ℕ) : Type 0 where
   pub spells : (text : List ℕ) (x : A) → read text ≡ Some x → Valid x × (text ≡ write x)

@@ -4,7 +4,7 @@ use Rattle.std.proofs.lemmas.Bool.{cases_Bool, eqb-true}
 use Rattle.std.specs.Prelude.{◌==◌, ◌&&◌, if◌then◌else◌, option_map}
 use Rattle.std.specs.List.{list_all}
 use Rattle.memchr.specs.Find.{NoneBefore, Passes, is_byte}
-use Rattle.kcl_script.specs.Fields.{◌>>=◌, parted, Lacks}
+use Rattle.kcl_text.specs.Fields.{◌>>=◌, parted, Lacks}
 
 pub lacks-append : (sep : ℕ) (a b : List ℕ) → Lacks sep a → Lacks sep b → Lacks sep (a ++ b)
 lacks-append sep [] b n m = m

@@ -1,6 +1,6 @@
 //! Words, numbers and keys as text. After `Memory` a front of it may have been added.
 ghost use Rattle.std.specs.Prelude.{◌≡◌, ◌∷◌, ◌++◌, decimal, OnOk};
-ghost use Rattle.kcl_script.specs.Fields.{key_text};
+ghost use Rattle.kcl_text.specs.Fields.{key_text};
 
 use kds_base::{Memory, Octets, ShardRef, write_u64};
 use std::alloc::Global;

@@ -9,7 +9,7 @@ use Rattle.kds_defs.specs.declared.reply.Reply.{Reply}
 use Rattle.kds_defs.specs.declared.reply.Reply.TheVariants as reply
 use Rattle.kds_defs.specs.declared.reply.Stored.{Stored}
 use Rattle.kds_defs.specs.Values.{RowValue}
-use Rattle.kcl_script.specs.Fields.{worker_text, key_text}
+use Rattle.kcl_text.specs.Fields.{worker_text, key_text}
 
 -- ---- replies
 

@@ -3,7 +3,7 @@ use Rattle.std.specs.Prelude.{ℕ, ◌^◌, ◌<◌, List, [], ◌++◌, codes, 
 use Rattle.std.specs.Str.{bytes_eq}
 use Rattle.kds_defs.specs.declared.command.Origin.{Origin}
 use Rattle.kds_defs.specs.declared.command.Origin.TheVariants as origin
-use Rattle.kcl_script.specs.Fields.{◌>>=◌, field, moment_of}
+use Rattle.kcl_text.specs.Fields.{◌>>=◌, field, moment_of}
 
 -- the moment of `time M`
 abbrev pub time_of : List ℕ → Option Origin

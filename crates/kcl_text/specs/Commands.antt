@@ -10,8 +10,8 @@ use Rattle.kds_defs.specs.declared.command.Target.TheVariants as target
 use Rattle.kds_defs.specs.declared.limits.TheConstants.{MOST}
 use Rattle.kds_defs.specs.Kinds.{is_service}
 use Rattle.kds_defs.specs.Lawful.{IsLawfulCommand}
-use Rattle.kcl_script.specs.Origins.{IsOrigin, origin_text, with_origin}
-use Rattle.kcl_script.specs.Fields.{◌>>=◌, field, two, number, count_of, worker_of, worker_text, key_of, key_text}
+use Rattle.kcl_text.specs.Origins.{IsOrigin, origin_text, with_origin}
+use Rattle.kcl_text.specs.Fields.{◌>>=◌, field, two, number, count_of, worker_of, worker_text, key_of, key_text}
 
 -- what a checkpoint is set to: a record's number, or `end`
 abbrev pub target_of : List ℕ → Option Target
@@ -133,3 +133,7 @@ pub record IsRaw (what : Command) : Type 0 where
 -- the longer answer is that of a survey
 abbrev pub IsLong : Command → Bool → Type 0
 IsLong what long = long ≡ true → what ≡ command.Survey
+
+-- a command that may be asked so
+abbrev pub IsAsked : Command → Bool → Type 0
+IsAsked what long = IsRaw what × IsLong what long

@@ -1,0 +1,4 @@
+pub mod Fields
+pub mod Origins
+pub mod Commands
+pub mod Answers

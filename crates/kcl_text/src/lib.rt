@@ -1,0 +1,18 @@
+//! The text of a command for leases and of its answer, and the fields that lines of schedules and journals are made of.
+#![tactic(auto)]
+
+mod answer;
+mod command;
+mod fields;
+mod laws;
+mod origins;
+mod raw;
+mod words;
+
+pub use answer::print_answer;
+pub use command::{origin_field, owner_field, print_command, target_field};
+pub use fields::{count, field, key, moment, worker};
+pub use laws::one_command_text;
+pub use origins::origin;
+pub use raw::{raw_command, row, target};
+pub use words::{number_field, with_key, with_number, with_numbers};
