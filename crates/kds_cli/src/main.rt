@@ -5,7 +5,7 @@
 mod tests;
 
 use kds_ends::{StdSink, StdSource, SystemClock, TcpDoor};
-use kds_runs::run;
+use kds_program::run;
 use std::env;
 use std::process::ExitCode;
 

@@ -10,7 +10,7 @@ mod workers;
 
 use kds_base::{Items, Moment, Octets};
 use kds_ends::{MemClock, MemDoor, MemSink, MemSource};
-use kds_runs::run;
+use kds_program::run;
 use std::alloc::Global;
 use std::sync::Wait;
 use std::test::Fail;

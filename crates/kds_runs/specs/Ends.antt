@@ -1,4 +1,4 @@
--- How the run of each task ends, and the program.
+-- How the run of each task ends.
 use Rattle.std.specs.Prelude.{◌≡◌, ◌⊎◌, ℕ, List, [], Bool, true, false, IfSome}
 use Rattle.std.specs.declared.option.Option.{Option}
 use Rattle.std.specs.Io.KnownBytes.{Appends}
@@ -6,17 +6,16 @@ use Rattle.kds_audit.specs.Audited.{IsAuditStatus, IsNoJournal, IsSafely, TellsA
 use Rattle.kds_ends.specs.declared.status.Status.{Status}
 use Rattle.kds_ends.specs.declared.status.Status.TheVariants.{Done, Unsound, Usage, Write, Memory, Door}
 use Rattle.kds_ends.specs.Causes.{AppendsFront}
-use Rattle.kds_ends.specs.Status.{code_of}
 use Rattle.kds_server.specs.Texts.{IsAnswerStatus}
 use Rattle.kds_server.specs.Serving.{Served}
-use Rattle.kds_words.specs.declared.task.Task.{Task}
-use Rattle.kds_words.specs.declared.task.Task.TheVariants.{Replay, Answer, Audit, Serve, Drill}
+use Rattle.kds_tasks.specs.declared.task.Task.{Task}
+use Rattle.kds_tasks.specs.declared.task.Task.TheVariants.{Replay, Answer, Audit, Serve, Drill}
 use Rattle.kcl_script.specs.declared.line.Line.{Line}
 use Rattle.kcl_sim.specs.Output.{fresh, outputs}
 use Rattle.kds_runs.specs.Answered.{RanSafely}
 use Rattle.kds_runs.specs.Journal.{JournalTells, recorded}
 use Rattle.kds_runs.specs.Told.{IsReplayStatus, Tells}
-use Rattle.kds_runs.specs.Words.{error_text, listening}
+use Rattle.kds_runs.specs.Words.{listening}
 
 -- ---- a replay, with its answers or its journal
 
@@ -61,7 +60,7 @@ ServeTells Write held now = AppendsFront held now listening
 ServeTells Memory held now = AppendsFront held now listening
 ServeTells _ held now = ⊥
 
--- ---- the program
+-- ---- all of them
 
 -- the run of a task ended so
 abbrev pub Performed : Task → Status → Option (List ℕ) → Option (List ℕ) → Option (List ℕ) → Option (List ℕ) → Option (List ℕ) → Type 0
@@ -70,11 +69,3 @@ Performed Answer status bytes left moments held now = Answers bytes left moments
 Performed Audit status bytes left moments held now = Audited status bytes held now
 Performed (Serve port passes) status bytes left moments held now = ServeTells status held now
 Performed (Drill number workers records) status bytes left moments held now = status ≡ Usage
-
--- How the program ended: this is its exit status, the error output gained its text unless that output's own faults rose,
--- and the run of its task ended so.
-pub record EndsSo (code : ℕ) (task : Option Task) (bytes left moments held now told tells : Option (List ℕ)) (failed : Type 0) : Type 0 where
-  pub status : Status
-  pub is_code : code ≡ code_of status
-  pub error : Appends told tells (error_text status) ⊎ failed
-  pub performed : IfSome task (λ t. Performed t status bytes left moments held now)

@@ -1,20 +1,15 @@
--- The words of the command line that are offered, and the text of each end on the error output.
+-- The tasks that are offered, and the text of each end on the error output.
 use Rattle.std.specs.Prelude.{ℕ, List, [], ◌∷◌, ◌++◌, codes, decimal, Option, Some, None}
 use Rattle.kds_ends.specs.declared.status.Status.{Status}
 use Rattle.kds_ends.specs.declared.status.Status.TheVariants.{Done, Unsound, Usage, BadLine, Read, Write, Memory, Cut, Door, TooLong, Refused}
-use Rattle.kds_words.specs.declared.task.Task.{Task}
-use Rattle.kds_words.specs.declared.task.Task.TheVariants.{Drill}
-use Rattle.kds_words.specs.Words.{task_of as task_in}
+use Rattle.kds_tasks.specs.declared.task.Task.{Task}
+use Rattle.kds_tasks.specs.declared.task.Task.TheVariants.{Drill}
 
--- a drill isn't offered yet: its words are usage
+-- a drill isn't offered yet: it is usage
 abbrev pub offered : Option Task → Option Task
 offered None = None
 offered (Some (Drill number workers records)) = None
 offered (Some task) = Some task
-
--- the task of the words
-abbrev pub task_of : List (List ℕ) → Option Task
-task_of words = offered (task_in words)
 
 -- the text of each end, with its line feed; none where all went well or the answer says it
 abbrev pub error_text : Status → List ℕ

@@ -1,11 +1,14 @@
-//! The runs of the program: what its words ask for, what each of them runs, and how a run ends.
+//! The runs of the program: what each task runs, and what the error output is told of its end.
 #![tactic(auto)]
 
 mod errors;
 mod journal;
-mod program;
+mod laws;
 mod runs;
 mod schedule;
+mod tasks;
 
-pub use program::run;
-pub use runs::{run_answer, run_replay};
+pub use errors::tell;
+pub use laws::{no_room, schedules};
+pub use runs::{run_answer, run_replay, run_serve};
+pub use tasks::perform;

@@ -1,8 +1,6 @@
 //! The runs of a schedule, of a connection and of a door.
-ghost use Rattle.std.specs.Prelude.{◌≡◌, ◌≤◌, [], List, IfSome};
-ghost use Rattle.kds_defs.specs.declared.command.Turn.{Turn};
+ghost use Rattle.std.specs.Prelude.{◌≡◌, ◌≤◌, [], IfSome};
 ghost use Rattle.kds_defs.specs.Histories.{clock as clock_of, journal as journal_of};
-ghost use Rattle.kds_defs.specs.Lawful.{IsHistory};
 ghost use Rattle.kds_defs.specs.Safe.{IsSafe};
 ghost use Rattle.kds_ends.specs.Causes.{Rose};
 ghost use Rattle.kcl_sim.specs.Schedule.{history, ran};
@@ -14,8 +12,8 @@ ghost use Rattle.kds_runs.specs.Ends.{ReplayTells, ServeTells, shown};
 ghost use Rattle.kds_runs.specs.Told.{IsReplayStatus};
 
 use crate::journal::record_schedule;
+use crate::laws::safety;
 use crate::schedule::run_schedule;
-use kcl_laws::step;
 use kcl_sim::{lawful, served};
 use kcl_world::World;
 use kds_ends::{Clock, Door, Sink, Source, Status, write_all};
@@ -24,13 +22,6 @@ use kds_turn::Hall;
 use std::alloc::Global;
 use std::sync::{Mutex, Wait};
 use std::thread::Threads;
-
-/// The state of every lawful history is safe, at its clock.
-pub fn safety()
-    ensures { (h : List Turn) → IsHistory h → IsSafe (journal_of h) (clock_of h) }
-{
-    step();
-}
 
 /// Runs a schedule from its bytes, and writes the answers of its lines; with `journal`, its journal in their place: the
 /// first line, an entry for each change that the turns make, and the last line exactly with Done. Done: it was read to its

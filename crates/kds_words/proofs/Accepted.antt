@@ -9,10 +9,11 @@ use Rattle.std.proofs.lemmas.Bool.Decides.{nat_tests}
 use Rattle.clap.specs.Words.{Text, takes, subcommand_of}
 use Rattle.kds_base.specs.NumberText.{is_plain, number_of}
 use Rattle.kds_words.specs.Apps.{kds_app}
-use Rattle.kds_words.specs.Words.{task_of, told, serve_of, drill_of, within, number_in, port_of, members_of, records_of}
-use Rattle.kds_words.specs.declared.task.Task.{Task}
-use Rattle.kds_words.specs.declared.words.TheConstants.{MOST_MEMBERS, MOST_PORT, MOST_RECORDS}
-use Rattle.kds_words.specs.declared.task.Task.TheVariants.{Replay, Answer, Audit}
+use Rattle.kds_tasks.specs.Words.{task_of, serve_of, drill_of, within, number_in, port_of, members_of, records_of}
+use Rattle.kds_words.specs.Words.{told}
+use Rattle.kds_tasks.specs.declared.task.Task.{Task}
+use Rattle.kds_tasks.specs.declared.ranges.TheConstants.{MOST_MEMBERS, MOST_PORT, MOST_RECORDS}
+use Rattle.kds_tasks.specs.declared.task.Task.TheVariants.{Replay, Answer, Audit}
 use Rattle.kds_words.proofs.Taken.{IsValue, is_value, takes_replay, takes_journal, takes_answer, takes_audit, takes_serve, takes_drill, told_replay, told_journal, told_answer, told_audit, told_serve, told_drill}
 
 -- ---- texts

@@ -20,10 +20,11 @@ use Rattle.clap.specs.declared.parser.matches.ArgMatches.TheViews.{out-ArgMatche
 use Rattle.clap.specs.declared.parser.matches.Found.{Found}
 use Rattle.clap.proofs.WalkLemmas.{first_value-rows}
 use Rattle.kds_words.specs.Apps.{kds_app}
-use Rattle.kds_words.specs.Words.{drill_of, drill_told, has_hyphen, is_told, is_word, members_of, number_in, port_of, records_of, serve_of, serve_told, task_of, texts_of, told, told_with, within}
-use Rattle.kds_words.specs.declared.task.Task.{Task}
-use Rattle.kds_words.specs.declared.words.TheConstants.{MOST_MEMBERS, MOST_PORT, MOST_RECORDS}
-use Rattle.kds_words.specs.declared.task.Task.TheVariants.{Replay, Answer, Audit}
+use Rattle.kds_tasks.specs.Words.{drill_of, members_of, number_in, port_of, records_of, serve_of, task_of, texts_of, within}
+use Rattle.kds_words.specs.Words.{drill_told, has_hyphen, is_told, is_word, serve_told, told, told_with}
+use Rattle.kds_tasks.specs.declared.task.Task.{Task}
+use Rattle.kds_tasks.specs.declared.ranges.TheConstants.{MOST_MEMBERS, MOST_PORT, MOST_RECORDS}
+use Rattle.kds_tasks.specs.declared.task.Task.TheVariants.{Replay, Answer, Audit}
 use Rattle.kds_words.proofs.Accepted.{and_then, chosen, digit_is_no_hyphen, left, reads, right, same_text, some_if, then_some}
 use Rattle.kds_words.proofs.Exact.{IsWord, exact}
 use Rattle.kds_words.proofs.Taken.{is_value}

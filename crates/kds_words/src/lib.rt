@@ -2,9 +2,6 @@
 #![tactic(auto)]
 
 mod command;
-mod task;
 mod words;
 
-pub use command::kds_command;
-pub use task::Task;
-pub use words::{MOST_MEMBERS, MOST_PORT, MOST_RECORDS, find_task, limits};
+pub use words::find_task;

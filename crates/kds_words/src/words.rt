@@ -2,31 +2,16 @@
 ghost use Rattle.std.specs.Prelude.{◌≡◌, ◌≤◌, ℕ, true, Some, IfOk, IfSome, length, string_bytes};
 ghost use Rattle.std.specs.List.{list_all};
 ghost use Rattle.clap.specs.Words.{first_value, found_of, subcommand_rows_of};
-ghost use Rattle.kds_words.specs.declared.words.TheConstants.{MOST_MEMBERS, MOST_PORT, MOST_RECORDS};
-ghost use Rattle.kds_words.specs.Words.{IsWithin, drill_of, has_hyphen, is_word, number_in, serve_of, task_of, texts_of, told, told_with};
+ghost use Rattle.kds_tasks.specs.declared.ranges.TheConstants.{MOST_MEMBERS, MOST_PORT, MOST_RECORDS};
+ghost use Rattle.kds_tasks.specs.Words.{IsWithin, drill_of, number_in, serve_of, task_of, texts_of};
+ghost use Rattle.kds_words.specs.Words.{has_hyphen, is_word, told, told_with};
 
 use crate::command::kds_command;
-use crate::task::Task;
 use clap::ArgMatches;
 use clap::error::ErrorKind;
 use kds_base::{Memory, read_u64};
+use kds_tasks::{MOST_MEMBERS, MOST_PORT, MOST_RECORDS, Task};
 use std::alloc::Global;
-
-/// The greatest port (RFC 9293, section 3.1).
-pub const MOST_PORT: u64 = 65_535;
-
-/// How many connections are served at once, or how many workers a drill has, at most.
-pub const MOST_MEMBERS: u64 = 64;
-
-/// How many records a drill has, at most.
-pub const MOST_RECORDS: u64 = 1_000_000;
-
-/// The limits of the words, in numbers: the definitions name them by their constants.
-pub fn limits()
-    ensures port { MOST_PORT ≡ 65535 }
-    ensures members { MOST_MEMBERS ≡ 64 }
-    ensures records { MOST_RECORDS ≡ 1000000 }
-{}
 
 fn has_leading_hyphen(word: &str) -> bool
     ensures { result ≡ has_hyphen word.now }
@@ -150,52 +135,4 @@ pub fn find_task(alloc: Global, words: &Vec<String>) -> Result<Option<Task>, Mem
         return Ok(None);
     }
     parse_task(alloc, words)
-}
-
-#[cfg(test)]
-mod tests {
-    use super::*;
-    use std::test::Fail;
-
-    #[test]
-    fn words_of_the_table(rt: HostRuntime) -> Result<(), Fail> {
-        let alloc = rt.alloc();
-        let cases: [(&str, Option<Task>); 14] = [
-            ("replay", Some(Task::Replay { journal: false })),
-            ("replay --journal", Some(Task::Replay { journal: true })),
-            ("answer", Some(Task::Answer)),
-            ("audit", Some(Task::Audit)),
-            (
-                "serve 4567 3",
-                Some(Task::Serve {
-                    port: 4567,
-                    passes: 3,
-                }),
-            ),
-            (
-                "drill 1 2 0",
-                Some(Task::Drill {
-                    number: 1,
-                    workers: 2,
-                    records: 0,
-                }),
-            ),
-            ("drill 1 65 0", None),
-            ("drill 01 2 0", None),
-            ("drill 1 2", None),
-            ("replay x", None),
-            ("replay --journal --journal", None),
-            ("--journal replay", None),
-            ("help", None),
-            ("drill 1 2 0 0", None),
-        ];
-        for (text, task) in cases {
-            let mut words = Vec::new(alloc);
-            for word in text.split(' ') {
-                words.push(word.to_string(alloc)?)?;
-            }
-            assert_eq!(rt; find_task(alloc, &words)?, task, "{text}");
-        }
-        Ok(())
-    }
 }

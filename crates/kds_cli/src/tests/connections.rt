@@ -2,7 +2,7 @@
 use crate::tests::run_on;
 use kds_base::{Items, Octets};
 use kds_ends::{Clock, MemDoor, MemSink, MemSource, SystemClock};
-use kds_runs::run;
+use kds_program::run;
 use std::alloc::Global;
 use std::sync::Wait;
 use std::test::Fail;

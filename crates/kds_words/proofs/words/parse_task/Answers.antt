@@ -2,7 +2,8 @@ use Rattle.std.proofs.Common.{rules, ◌≡◌, [], sym, ap, ap₂, ◌∙◌}
 use Rattle.std.specs.Prelude.{map, string_bytes}
 use Rattle.clap.specs.Words.{fault_of, is_simple, is_simple_and_free, subcommand_of, takes}
 use Rattle.kds_words.specs.Apps.{kds_app}
-use Rattle.kds_words.specs.Words.{texts_of, told}
+use Rattle.kds_tasks.specs.Words.{texts_of}
+use Rattle.kds_words.specs.Words.{told}
 use Rattle.kds_words.proofs.Reading.{read_words, refused}
 use Rattle.kds_words.proofs.Refused.{free, simple}
 use Rattle.kds_words.proofs.words.parse_task.Goals as goal

@@ -1,4 +1,4 @@
--- Which words are offered, and their ends before anything is read.
+-- Want of memory before anything is read is an end of each task.
 use Rattle.std.proofs.Common.{◌≡◌, ℕ, Bool, true, false, List, [], ◌++◌, Option, Some, None, refl, inl}
 use Rattle.std.specs.Option.{IfSome}
 use Rattle.kds_defs.specs.declared.command.Turn.{Turn}
@@ -8,10 +8,9 @@ use Rattle.kds_defs.specs.Safe.{IsSafe}
 use Rattle.kds_audit.specs.Audited.{TellsAudit}
 use Rattle.kds_ends.proofs.Writing.{appends_nothing}
 use Rattle.kds_ends.specs.Moments.{Gives}
-use Rattle.kds_ends.specs.declared.status.Status.{Status}
 use Rattle.kds_ends.specs.declared.status.Status.TheVariants.{Done, Memory, Unsound}
-use Rattle.kds_words.specs.declared.task.Task.{Task}
-use Rattle.kds_words.specs.declared.task.Task.TheVariants.{Replay, Answer, Audit, Serve, Drill}
+use Rattle.kds_tasks.specs.declared.task.Task.{Task}
+use Rattle.kds_tasks.specs.declared.task.Task.TheVariants.{Replay, Answer, Audit, Serve, Drill}
 use Rattle.kds_server.specs.Texts.{Tells}
 use Rattle.kds_session.specs.Text.{commands}
 use Rattle.kcl_script.specs.declared.line.Line.{Line}
@@ -24,17 +23,6 @@ use Rattle.kds_runs.specs.Ends.{Answers, Audited, Performed, Replayed, ReplayTel
 use Rattle.kds_runs.specs.Words.{offered}
 use Rattle.kds_runs.proofs.Answering.{run_safely}
 use Rattle.kds_runs.proofs.Journaling.{nothing_written}
-
--- the end of a task is that of offered words
-pub offered_so : (task : Task) (status : Status) (bytes left moments held now : Option (List ℕ)) → Performed task status bytes left moments held now
-    → IfSome (offered (Some task)) (λ t. Performed t status bytes left moments held now)
-offered_so (Replay journal) status bytes left moments held now p = p
-offered_so Answer status bytes left moments held now p = p
-offered_so Audit status bytes left moments held now p = p
-offered_so (Serve port passes) status bytes left moments held now p = p
-offered_so (Drill number workers records) status bytes left moments held now p = tt
-
--- ---- want of memory before anything is read
 
 -- no turn ran
 still : SimValue

@@ -1,4 +1,4 @@
-use Rattle.kds_runs.proofs.program.perform_task.Goals as goal
+use Rattle.kds_runs.proofs.tasks.perform.Goals as goal
 
 pub returns-in-Replay-clause-performed : goal.returns-in-Replay-clause-performed
 returns-in-Replay-clause-performed g c =

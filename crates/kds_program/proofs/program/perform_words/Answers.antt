@@ -1,0 +1,64 @@
+use Rattle.std.proofs.Common.{◌≡◌, Some, None, refl, sym, ap, inl, inr, ◌∙◌}
+use Rattle.kds_tasks.specs.Words.{task_of as task_in, texts_of}
+use Rattle.kds_runs.specs.Words.{offered}
+use Rattle.kds_program.proofs.Codes.{no_usage}
+use Rattle.kds_program.proofs.Offered.{performed_by}
+use Rattle.kds_program.proofs.program.perform_words.Goals as goal
+
+-- ---- the words are those of a task
+
+pub returns-in-Ok-Some-clause-usage : goal.returns-in-Ok-Some-clause-usage
+returns-in-Ok-Some-clause-usage g c =
+    let is : Some c.in-Ok-Some.task ≡ task_in (texts_of c.args.words.now.items) = sym c.in-Ok-Some.field-0-is ∙ c.in-Ok-Some.ensures.task in
+    λ usage. ap offered (sym is) ∙ c.perform.ensures.usage usage
+
+pub returns-in-Ok-Some-clause-refused : goal.returns-in-Ok-Some-clause-refused
+returns-in-Ok-Some-clause-refused g c =
+    let is : Some c.in-Ok-Some.task ≡ task_in (texts_of c.args.words.now.items) = sym c.in-Ok-Some.field-0-is ∙ c.in-Ok-Some.ensures.task in
+    λ none. inl (c.perform.ensures.untouched (ap offered is ∙ none)).0
+
+pub returns-in-Ok-Some-clause-untouched : goal.returns-in-Ok-Some-clause-untouched
+returns-in-Ok-Some-clause-untouched g c =
+    let is : Some c.in-Ok-Some.task ≡ task_in (texts_of c.args.words.now.items) = sym c.in-Ok-Some.field-0-is ∙ c.in-Ok-Some.ensures.task in
+    λ none. let u = c.perform.ensures.untouched (ap offered is ∙ none) in (u.1, u.2)
+
+pub returns-in-Ok-Some-clause-performed : goal.returns-in-Ok-Some-clause-performed
+returns-in-Ok-Some-clause-performed g c =
+    performed_by (task_in (texts_of c.args.words.now.items)) c.in-Ok-Some.task c.perform.result (g.S.Source.left c.args.input.now) _ _ _ _
+    (sym c.in-Ok-Some.field-0-is ∙ c.in-Ok-Some.ensures.task) c.perform.ensures.performed
+
+pub returns-in-Ok-Some-clause-read : goal.returns-in-Ok-Some-clause-read
+returns-in-Ok-Some-clause-read g c = c.perform.ensures.read
+
+pub returns-in-Ok-Some-clause-write : goal.returns-in-Ok-Some-clause-write
+returns-in-Ok-Some-clause-write g c = c.perform.ensures.write
+
+pub returns-in-Ok-Some-clause-door : goal.returns-in-Ok-Some-clause-door
+returns-in-Ok-Some-clause-door g c = c.perform.ensures.door
+
+-- ---- the words are none's
+
+pub returns-in-Ok-None-clause-usage : goal.returns-in-Ok-None-clause-usage
+returns-in-Ok-None-clause-usage g c =
+    let is : None ≡ task_in (texts_of c.args.words.now.items) = sym c.in-Ok-None.field-0-is ∙ c.in-Ok-None.ensures.task in
+    λ usage. ap offered (sym is)
+
+pub returns-in-Ok-None-clause-refused : goal.returns-in-Ok-None-clause-refused
+returns-in-Ok-None-clause-refused g c = λ none. inl refl
+
+pub returns-in-Ok-None-clause-untouched : goal.returns-in-Ok-None-clause-untouched
+returns-in-Ok-None-clause-untouched g c = λ none. (refl, refl)
+
+-- ---- memory ran out before they were read
+
+pub returns-in-Err-clause-usage : goal.returns-in-Err-clause-usage
+returns-in-Err-clause-usage g c = λ usage. absurd (no_usage usage)
+
+pub returns-in-Err-clause-refused : goal.returns-in-Err-clause-refused
+returns-in-Err-clause-refused g c = λ none. inr refl
+
+pub returns-in-Err-clause-untouched : goal.returns-in-Err-clause-untouched
+returns-in-Err-clause-untouched g c = λ none. (refl, refl)
+
+pub returns-in-Err-clause-performed : goal.returns-in-Err-clause-performed
+returns-in-Err-clause-performed g c = c.no_room.ensures (task_in (texts_of c.args.words.now.items)) _ _ _ _

@@ -1,0 +1,43 @@
+//! Laws of every schedule, and of a task that wants memory before anything is read.
+ghost use Rattle.std.specs.Prelude.{◌≡◌, List, ℕ, IfSome};
+ghost use Rattle.std.specs.declared.option.Option.{Option};
+ghost use Rattle.kds_defs.specs.declared.command.Turn.{Turn};
+ghost use Rattle.kds_defs.specs.Histories.{clock as clock_of, journal as journal_of};
+ghost use Rattle.kds_defs.specs.Lawful.{IsHistory};
+ghost use Rattle.kds_defs.specs.Safe.{IsSafe};
+ghost use Rattle.kds_tasks.specs.declared.task.Task.{Task};
+ghost use Rattle.kcl_sim.specs.Schedule.{history, ran};
+ghost use Rattle.kcl_sim.specs.Serving.{AreAllServed};
+ghost use Rattle.kds_runs.specs.Ends.{Performed};
+ghost use Rattle.kds_runs.specs.Words.{offered};
+
+use kcl_laws::step;
+use kcl_sim::{lawful, served};
+use kds_ends::Status;
+
+/// The state of every lawful history is safe, at its clock.
+pub fn safety()
+    ensures { (h : List Turn) → IsHistory h → IsSafe (journal_of h) (clock_of h) }
+{
+    step();
+}
+
+/// The state of every schedule's turns is safe, at their clock, and its workers' processors are called for what is given.
+pub fn schedules()
+    ensures safe { (bytes : List ℕ) → IsSafe (journal_of (history bytes)) (clock_of (history bytes)) }
+    ensures served { (bytes : List ℕ) → AreAllServed (ran bytes) }
+{
+    lawful();
+    safety();
+    served();
+}
+
+/// Want of memory before anything is read is an end of each task that is offered.
+pub fn no_room()
+    ensures { (task : Option Task) (bytes left moments held : Option (List ℕ))
+        → IfSome (offered task) (λ t. Performed t Status.Memory bytes left moments held held) }
+{
+    lawful();
+    safety();
+    served();
+}

@@ -1,0 +1,8 @@
+//! What the words of the command line may ask for.
+#![tactic(auto)]
+
+mod ranges;
+mod task;
+
+pub use ranges::{MOST_MEMBERS, MOST_PORT, MOST_RECORDS, limits};
+pub use task::Task;
