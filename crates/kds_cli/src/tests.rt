@@ -1,96 +1,183 @@
-//! Runs over the ends in memory.
-ghost use Rattle.std.specs.Prelude.{◌<◌};
-
-mod connections;
-mod faults;
-mod leases;
-mod schedules;
-mod streams;
-mod workers;
-
+//! The words of the command line, over ends in memory: which of them ask for a task, and how each task ends.
 use kds_base::{Items, Moment, Octets};
-use kds_ends::{MemClock, MemDoor, MemSink, MemSource};
+use kds_ends::{MemClock, MemDoor, MemSink, MemSource, Source};
 use kds_program::run;
 use std::alloc::Global;
 use std::sync::Wait;
 use std::test::Fail;
 use std::thread::Threads;
 
-/// A row: the input, the exit status, the output and the error output.
-pub type Row = (&'static str, u8, &'static str, &'static str);
+/// A schedule of one line.
+const SCHEDULE: &str = "1000 api ListStreams {}\n";
 
-/// The room of the sinks.
-const ROOM: usize = 524_288;
+/// Its answer.
+const LISTED: &str = "200 {\"HasMoreStreams\":false,\"StreamNames\":[]}\n";
+
+/// Words of each task, an input, and the exit status, the output and the error output.
+const TASKS: [(&str, &str, u8, &str, &str); 8] = [
+    ("replay", SCHEDULE, 0, LISTED, ""),
+    ("replay", "x\n", 3, "", "line 1: not a schedule line\n"),
+    ("replay --journal", SCHEDULE, 0, "journal 2\nend 1000\n", ""),
+    ("answer", "", 0, "", ""),
+    (
+        "answer",
+        "POST / HTTP/1.1\r\n",
+        7,
+        "",
+        "input ended inside a message\n",
+    ),
+    ("audit", "journal 2\nend 0\n", 0, "sound 0\n", ""),
+    ("audit", "", 1, "entry 1 Form\n", ""),
+    ("serve 4567 3", "", 8, "listening\n", "door fault\n"),
+];
+
+/// Words that ask for no task. Those of a drill would, but it isn't offered yet.
+const OTHERS: [&str; 44] = [
+    "",
+    " ",
+    "play",
+    "Replay",
+    "repla",
+    "replays",
+    "--",
+    "-h",
+    "--help",
+    "--version",
+    "help",
+    "help replay",
+    "--journal",
+    "--journal replay",
+    "replay x",
+    "replay ",
+    "replay --",
+    "replay -- --journal",
+    "replay -j",
+    "replay --journa",
+    "replay --journal=x",
+    "replay --journal --journal",
+    "replay --help",
+    "answer x",
+    "answer ",
+    "answer --journal",
+    "audit -",
+    "serve",
+    "serve 4567",
+    "serve 0 3",
+    "serve 65536 3",
+    "serve 4567 0",
+    "serve 4567 65",
+    "serve 04567 3",
+    "serve +4567 3",
+    "serve 4567 3 3",
+    "drill 1 2",
+    "drill 01 2 0",
+    "drill 1 0 0",
+    "drill 1 65 0",
+    "drill 1 2 1000001",
+    "drill 18446744073709551616 2 0",
+    "drill 1 2 0 0",
+    "drill 1 2 0",
+];
+
+const USAGE: &str =
+    "usage: kds replay [--journal] | answer | audit | serve PORT MEMBERS | drill NUMBER WORKERS RECORDS\n";
 
 /// What the program left behind.
 #[derive(Drop)]
-pub struct Left {
-    pub code: u8,
-    pub out: MemSink,
-    pub err: MemSink,
+struct Left {
+    code: u8,
+    input: MemSource,
+    out: MemSink,
+    err: MemSink,
 }
 
 impl Left {
     /// Whether it is this, whole.
-    pub fn is(&self, code: u8, out: &[u8], err: &str) -> bool {
-        self.code == code && self.out.held() == out && self.err.held() == err.as_bytes()
+    fn is(&self, code: u8, out: &str, err: &str) -> bool {
+        self.code == code && self.out.held() == out.as_bytes() && self.err.held() == err.as_bytes()
+    }
+
+    /// Whether these, at most 64, are the bytes that weren't read.
+    fn has_left(&mut self, bytes: &[u8]) -> bool {
+        let mut room = [0u8; 64];
+        match self.input.read(room.as_mut_slice()) {
+            Ok(count) => &room[..count] == bytes,
+            Err(_) => false,
+        }
     }
 }
 
-fn numbers(alloc: Global, numbers: &[u64]) -> Result<Items<u64>, Fail> {
-    let mut items = Items::new(alloc);
-    for number in numbers {
-        items.push(*number)?;
+/// The words of a text, one behind each space; none of the empty text.
+fn words_of(alloc: Global, text: &str) -> Result<Vec<String>, Fail> {
+    let mut words = Vec::new(alloc);
+    if !text.is_empty() {
+        for word in text.split(' ') {
+            words.push(word.to_string(alloc)?)?;
+        }
     }
-    Ok(items)
+    Ok(words)
 }
 
-/// Runs the program by these words on these bytes. The reads and the writes of these numbers fail.
-pub fn run_on<R: Threads + Wait + Sync + AllocGlobal>(
+/// Runs the program by these words on this input. The reads and the writes of these numbers fail.
+fn run_on<R: Threads + Wait + Sync + AllocGlobal>(
     rt: &R,
-    words: &[&str],
-    bytes: &[u8],
-    step: usize,
-    reads: &[u64],
-    writes: &[u64],
-) -> Result<Left, Fail>
-    requires { 0 < step }
-{
+    words: &str,
+    bytes: &str,
+    reads: Items<u64>,
+    writes: Items<u64>,
+) -> Result<Left, Fail> {
     let alloc = rt.alloc();
-    let mut given = Vec::new(alloc);
-    for word in words {
-        given.push(String::from_str(alloc, word)?)?;
-    }
-    let failing = numbers(alloc, reads)?;
-    let mut input = MemSource::new(Octets::of(alloc, bytes)?, step, failing);
-    let failing = numbers(alloc, writes)?;
-    let mut out = MemSink::new(alloc, ROOM, step, failing)?;
-    let mut err = MemSink::new(alloc, ROOM, ROOM, Items::new(alloc))?;
+    let words = words_of(alloc, words)?;
+    let mut input = MemSource::new(Octets::of(alloc, bytes.as_bytes())?, 4096, reads);
+    let mut out = MemSink::new(alloc, 256, 4096, writes)?;
+    let mut err = MemSink::new(alloc, 256, 4096, Items::new(alloc))?;
     let mut moments = Items::new(alloc);
-    moments.push(Moment::new(1000).ok_or("moment")?)?;
+    moments.push(Moment::start())?;
     let clock = MemClock::new(moments);
     let mut door = MemDoor::new(alloc, rt, Items::new(alloc), 0, false)?;
     let code = run(
-        rt, alloc, &given, &mut input, &mut out, &mut err, clock, &mut door,
+        rt, alloc, &words, &mut input, &mut out, &mut err, clock, &mut door,
     );
-    Ok(Left { code, out, err })
+    Ok(Left {
+        code,
+        input,
+        out,
+        err,
+    })
 }
 
-/// Runs each row by these words and by pieces of each size, and gives the place of the first that leaves something else.
-pub fn first_other<R: Threads + Wait + Sync + AllocGlobal>(
-    rt: &R,
-    word: &str,
-    rows: &[Row],
-    steps: &[usize],
-) -> Result<Option<usize>, Fail> {
-    for (place, (input, code, out, err)) in rows.iter().enumerate() {
-        for step in steps {
-            let step = (*step).max(1);
-            let left = run_on(rt, &[word], input.as_bytes(), step, &[], &[])?;
-            if !left.is(*code, out.as_bytes(), err) {
-                return Ok(Some(place));
-            }
-        }
+#[test]
+fn words_of_a_task(rt: HostRuntime) -> Result<(), Fail> {
+    let alloc = rt.alloc();
+    for (words, bytes, code, out, err) in TASKS {
+        let left = run_on(&rt, words, bytes, Items::new(alloc), Items::new(alloc))?;
+        assert!(rt; left.is(code, out, err), "{words}");
     }
-    Ok(None)
+    Ok(())
+}
+
+#[test]
+fn words_of_no_task(rt: HostRuntime) -> Result<(), Fail> {
+    let alloc = rt.alloc();
+    for words in OTHERS {
+        let mut left = run_on(&rt, words, SCHEDULE, Items::new(alloc), Items::new(alloc))?;
+        assert!(rt; left.is(2, "", USAGE), "{words}");
+        assert!(rt; left.has_left(SCHEDULE.as_bytes()), "{words}");
+    }
+    Ok(())
+}
+
+/// A read that fails after all lines were read, and a first write that fails.
+#[test]
+fn failing_ends(rt: HostRuntime) -> Result<(), Fail> {
+    let alloc = rt.alloc();
+    let mut second = Items::new(alloc);
+    second.push(2)?;
+    let left = run_on(&rt, "replay", SCHEDULE, second, Items::new(alloc))?;
+    assert!(rt; left.is(4, LISTED, "read fault\n"));
+    let mut first = Items::new(alloc);
+    first.push(1)?;
+    let left = run_on(&rt, "replay", SCHEDULE, Items::new(alloc), first)?;
+    assert!(rt; left.is(5, "", "write fault\n"));
+    Ok(())
 }

@@ -1,5 +1,5 @@
 //! Worked rows of workers in schedules, and what each writes.
-use crate::tests::{Row, first_other};
+use kds_harness::{Row, first_other_replay};
 use std::test::Fail;
 
 /// A worker, and its restart beside it, which takes the row over: the mark of the first is refused.
@@ -191,6 +191,9 @@ give 1 = ok delivered 4
 #[test]
 fn workers(rt: HostRuntime) -> Result<(), Fail> {
     let rows = [RESTART, FIRST_NUMBER, STOPPED, AT_LATEST];
-    assert_eq!(rt; first_other(&rt, "replay", &rows, &[4096])?, None);
+    assert_eq!(rt;
+        first_other_replay(rt.alloc(), false, &rows, &[4096])?,
+        None
+    );
     Ok(())
 }

@@ -1,12 +1,10 @@
 //! Connections, and what is written to each.
-use crate::tests::run_on;
 use kds_base::{Items, Octets};
-use kds_ends::{Clock, MemDoor, MemSink, MemSource, SystemClock};
-use kds_program::run;
+use kds_ends::{Clock, MemDoor, MemSink, SystemClock};
+use kds_harness::{Left, answer_on};
+use kds_runs::run_serve;
 use std::alloc::Global;
-use std::sync::Wait;
 use std::test::Fail;
-use std::thread::Threads;
 
 /// Lists the streams.
 const LIST: &str =
@@ -105,7 +103,7 @@ fn connections(rt: HostRuntime) -> Result<(), Fail> {
         let bytes = joined(alloc, bytes)?;
         let out = joined(alloc, out)?;
         for step in [1usize, 7, 4096] {
-            let left = run_on(&rt, &["answer"], bytes.as_slice(), step, &[], &[])?;
+            let left = answer_on(alloc, bytes.as_slice(), step, &[], &[])?;
             assert!(rt; left.is(code, out.as_slice(), err), "by {step}");
         }
     }
@@ -155,41 +153,44 @@ fn refused_heads(rt: HostRuntime) -> Result<(), Fail> {
     ];
     for (head, status) in cases {
         let bytes = joined(alloc, [head, "\r\n\r\n", PUT])?;
-        assert!(rt; is_refused(&rt, bytes.as_slice(), status)?, "{status}");
+        assert!(rt; is_refused(alloc, bytes.as_slice(), status)?, "{status}");
     }
     let many = long_head(alloc, 64, 0, "\r\n\r\n")?;
-    assert!(rt; is_refused(&rt, many.as_slice(), "400 Bad Request")?);
+    assert!(rt; is_refused(alloc, many.as_slice(), "400 Bad Request")?);
     let long = long_head(alloc, 1, 16400, "")?;
-    assert!(rt; is_refused(&rt, long.as_slice(), "431 Request Header Fields Too Large")?);
+    assert!(rt;
+        is_refused(
+            alloc,
+            long.as_slice(),
+            "431 Request Header Fields Too Large"
+        )?
+    );
     Ok(())
 }
 
 /// Whether the connection is refused with this status.
-fn is_refused<R: Threads + Wait + Sync + AllocGlobal>(
-    rt: &R,
-    bytes: &[u8],
-    status: &str,
-) -> Result<bool, Fail> {
+fn is_refused(alloc: Global, bytes: &[u8], status: &str) -> Result<bool, Fail> {
     let out = joined(
-        rt.alloc(),
+        alloc,
         [
             "HTTP/1.1 ",
             status,
             "\r\nContent-Length: 0\r\nConnection: close\r\n\r\n",
         ],
     )?;
-    let left = run_on(rt, &["answer"], bytes, 4096, &[], &[])?;
+    let left = answer_on(alloc, bytes, 4096, &[], &[])?;
     Ok(left.is(10, out.as_slice(), REFUSED))
 }
 
 /// A read that fails after the first request, and a first write that fails.
 #[test]
 fn failing_ends(rt: HostRuntime) -> Result<(), Fail> {
-    let bytes = joined(rt.alloc(), [CREATE, PUT, ""])?;
+    let alloc = rt.alloc();
+    let bytes = joined(alloc, [CREATE, PUT, ""])?;
     let step = CREATE.len().max(1);
-    let left = run_on(&rt, &["answer"], bytes.as_slice(), step, &[2], &[])?;
+    let left = answer_on(alloc, bytes.as_slice(), step, &[2], &[])?;
     assert!(rt; left.is(4, CREATED.as_bytes(), "read fault\n"));
-    let left = run_on(&rt, &["answer"], bytes.as_slice(), 4096, &[], &[1])?;
+    let left = answer_on(alloc, bytes.as_slice(), 4096, &[], &[1])?;
     assert!(rt; left.is(5, b"", "write fault\n"));
     Ok(())
 }
@@ -210,21 +211,12 @@ fn served_at_once(rt: HostRuntime) -> Result<(), Fail> {
     let mut calls = Items::new(alloc);
     calls.push(Octets::of(alloc, LIST.as_bytes())?)?;
     calls.push(Octets::of(alloc, LIST.as_bytes())?)?;
-    let mut words = Vec::new(alloc);
-    for word in ["serve", "4567", "3"] {
-        words.push(String::from_str(alloc, word)?)?;
-    }
-    let mut input = MemSource::new(Octets::new(alloc), 1, Items::new(alloc));
     let mut out = MemSink::new(alloc, 64, 64, Items::new(alloc))?;
-    let mut err = MemSink::new(alloc, 64, 64, Items::new(alloc))?;
     let clock = SystemClock::new(rt);
     let mut door = MemDoor::new(alloc, rt, calls, 1024, true)?;
-    let code = run(
-        &rt, alloc, &words, &mut input, &mut out, &mut err, clock, &mut door,
-    );
-    assert_eq!(rt; code, 8);
-    assert_eq!(rt; out.held(), b"listening\n".as_slice());
-    assert_eq!(rt; err.held(), b"door fault\n".as_slice());
+    let status = run_serve(&rt, alloc, 4567, 3, &mut out, clock, &mut door);
+    let left = Left::new(alloc, status, out)?;
+    assert!(rt; left.is(8, b"listening\n", "door fault\n"));
     for place in [0usize, 1] {
         let written = door.written(alloc, place)?;
         assert_eq!(rt; written.as_slice(), LISTED.as_bytes(), "of {place}");

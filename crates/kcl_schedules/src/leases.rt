@@ -1,5 +1,5 @@
 //! Worked rows of leases in schedules, and what each writes.
-use crate::tests::{Row, first_other};
+use kds_harness::{Row, first_other_replay};
 use std::test::Fail;
 
 /// A robbed lease: what was read may still be given, and a mark by the old tenure is refused. Then the order of marks.
@@ -323,6 +323,9 @@ fn leases(rt: HostRuntime) -> Result<(), Fail> {
         LATEST_AFTER_A_SPLIT,
         MOMENTS,
     ];
-    assert_eq!(rt; first_other(&rt, "replay", &rows, &[4096])?, None);
+    assert_eq!(rt;
+        first_other_replay(rt.alloc(), false, &rows, &[4096])?,
+        None
+    );
     Ok(())
 }

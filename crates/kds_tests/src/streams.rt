@@ -1,5 +1,5 @@
 //! Worked rows of streams, shards and records, and what each writes.
-use crate::tests::{Row, first_other};
+use kds_harness::{Row, first_other_replay};
 use std::test::Fail;
 
 /// Iterators.
@@ -339,6 +339,9 @@ fn streams(rt: HostRuntime) -> Result<(), Fail> {
         NAMES,
         SCALING,
     ];
-    assert_eq!(rt; first_other(&rt, "replay", &rows, &[4096])?, None);
+    assert_eq!(rt;
+        first_other_replay(rt.alloc(), false, &rows, &[4096])?,
+        None
+    );
     Ok(())
 }

@@ -1,5 +1,5 @@
 //! What is a schedule and what isn't, by pieces of any size, and long inputs.
-use crate::tests::{Row, first_other, run_on};
+use kds_harness::{Row, first_other_replay, replay_on};
 use std::test::Fail;
 
 /// The first path.
@@ -83,15 +83,19 @@ fn schedules(rt: HostRuntime) -> Result<(), Fail> {
         NO_FEED,
         ONE_SHARD,
     ];
-    assert_eq!(rt; first_other(&rt, "replay", &rows, &[1, 2, 7, 4096])?, None);
+    assert_eq!(rt;
+        first_other_replay(rt.alloc(), false, &rows, &[1, 2, 7, 4096])?,
+        None
+    );
     Ok(())
 }
 
 /// A line of one byte more than the limit.
 #[test]
 fn too_long(rt: HostRuntime) -> Result<(), Fail> {
-    let bytes = vec![in rt.alloc(); b'1'; 16777217]?;
-    let left = run_on(&rt, &["replay"], bytes.as_slice(), 65536, &[], &[])?;
+    let alloc = rt.alloc();
+    let bytes = vec![in alloc; b'1'; 16777217]?;
+    let left = replay_on(alloc, false, bytes.as_slice(), 65536, &[], &[])?;
     assert!(rt; left.is(9, b"", "input too long\n"));
     Ok(())
 }
@@ -102,14 +106,15 @@ fn many_lines(rt: HostRuntime) -> Result<(), Fail> {
     let line = b"1000 api Nothing \n";
     let answer =
         b"400 {\"__type\":\"UnknownOperationException\",\"message\":\"unknown operation\"}\n";
-    let mut text = Vec::new(rt.alloc());
-    let mut out = Vec::new(rt.alloc());
+    let alloc = rt.alloc();
+    let mut text = Vec::new(alloc);
+    let mut out = Vec::new(alloc);
     for _ in 0..4000u32 {
         text.extend_from_slice(line)?;
         out.extend_from_slice(answer)?;
     }
     for step in [1000usize, 65536, 1048576] {
-        let left = run_on(&rt, &["replay"], text.as_slice(), step, &[], &[])?;
+        let left = replay_on(alloc, false, text.as_slice(), step, &[], &[])?;
         assert!(rt; left.is(0, out.as_slice(), ""), "by {step}");
     }
     Ok(())
@@ -131,7 +136,7 @@ fn partition_keys(rt: HostRuntime) -> Result<(), Fail> {
             text.push_str("€")?;
         }
         text.push_str("\"}\n")?;
-        let left = run_on(&rt, &["replay"], text.as_bytes(), 4096, &[], &[])?;
+        let left = replay_on(alloc, false, text.as_bytes(), 4096, &[], &[])?;
         assert!(rt; left.is(0, answer.as_bytes(), ""), "at {count}");
     }
     Ok(())
