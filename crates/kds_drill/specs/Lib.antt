@@ -1,0 +1,3 @@
+pub mod Participants
+pub mod Running
+pub mod Told
