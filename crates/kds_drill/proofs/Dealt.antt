@@ -54,11 +54,13 @@ module _ (hall : Place) (workers : ℕ) (all some rest : List Standing) (new : a
       pub dealt : (p : Participants) → p.root ≡ root → p.feeder ≡ feeder → AreMembersOf 1 rest p.members.items → hall.passes ≡ workers + 2 → workers ≤ 64 → AreDealt hall p × (length p.members.items ≡ workers)
       dealt p root_is feeder_is are passes few =
           let ms = p.members.items in
-          let count : length ms ≡ workers = as_many 1 rest ms are ∙ ap length are_rest ∙ count_new hall 3 workers in
-          (record {
-            root = root_is ∙ first.value ∙ ap (λ xs. slice_index_or xs 0 root) are_all;
-            feeder = feeder_is ∙ second.value ∙ ap (λ xs. slice_index_or xs 0 feeder) are_some;
-            members = subst (λ ps. AreMembersOf 1 ps ms) (are_rest ∙ ap (new_passes hall 3) (sym count)) are;
-            all = omega (arith, passes, count);
-            few = omega (arith, few, count);
-          }, count)
+          let count : length ms ≡ workers = as_many 1 rest ms are ∙ ap length are_rest ∙ count_new hall 3 workers in (
+            record {
+              root = root_is ∙ first.value ∙ ap (λ xs. slice_index_or xs 0 root) are_all;
+              feeder = feeder_is ∙ second.value ∙ ap (λ xs. slice_index_or xs 0 feeder) are_some;
+              members = subst (λ ps. AreMembersOf 1 ps ms) (are_rest ∙ ap (new_passes hall 3) (sym count)) are;
+              all = omega (arith, passes, count);
+              few = omega (arith, few, count);
+            },
+            count,
+          )

@@ -14,7 +14,7 @@ use Rattle.kcl_closed.specs.Closed.{AreFromHorizon, IsClosed, IsMemberAccount, a
 use Rattle.kcl_drill.specs.Fed.{IsDrill}
 use Rattle.kcl_live.specs.declared.crew.Member.{Member}
 use Rattle.kcl_world.specs.Standing.{StandsFor, WorldValue}
-use Rattle.kds_drill.specs.Running.{HasDrilled, HaveMade, HaveRun, accounts_in}
+use Rattle.kds_drill.specs.Running.{HasDrilled, HasTaken, HaveMade, HaveRun, accounts_in}
 use Rattle.kds_drill.specs.declared.participants.Participants.{Participants}
 
 -- ---- the workers' accounts
@@ -80,22 +80,6 @@ module _ {M P F G : Type 0} where
   pub all_rest : (Q : Member M P F G → Type 0) (m : Member M P F G) (rest items : List (Member M P F G)) → items ≡ m ∷ rest → All Q items → All Q rest
   all_rest Q m rest items step all = λ k d below. (subst (All Q) step all) (suc k) d (omega (arith, below))
 
--- the root has taken in the feeder, and then these accounts
-pub record HasTaken (root feeder last : Standing) (xs : List Account) : Type 0 where
-  pub by : last.by ≡ root.by
-  pub own : last.own ≡ root.own
-  pub joined : last.joined ≡ root.joined ++ (accounts_of feeder ++ xs)
-  pub seen : Continues last.seen feeder.seen
-
-pub has_taken : (root feeder mid last : Standing) (xs : List Account) → (mid.by ≡ root.by) × (mid.own ≡ root.own) → mid.joined ≡ root.joined ++ accounts_of feeder → Continues mid.seen feeder.seen
-    → (last.by ≡ mid.by) × (last.own ≡ mid.own) → last.joined ≡ mid.joined ++ xs → Continues last.seen mid.seen → HasTaken root feeder last xs
-has_taken root feeder mid last xs first joined seen then more later = record {
-  by = then.0 ∙ first.0;
-  own = then.1 ∙ first.1;
-  joined = more ∙ ap (λ js. js ++ xs) joined ∙ append_assoc root.joined (accounts_of feeder) xs;
-  seen = continues_all last.seen mid.seen feeder.seen later seen;
-}
-
 -- what the law `closed` says
 pub record HasLaws : Type 0 where
   pub drill : (number records : ℕ) (root feeder : Standing) (members : List Account) (h : List Turn) → IsClosed number records root feeder members h → IsDrill h number records
@@ -103,7 +87,7 @@ pub record HasLaws : Type 0 where
   pub short : (number records : ℕ) (root feeder : Standing) (members : List Account) (h : List Turn) → IsClosed number records root feeder members h → length h < 2 ^ 32
 
 module _ (hall : Place) (number records : ℕ) (p : Participants) (ran : HaveRun hall number records p) (last : Standing) where
-  module _ (taken : HasTaken p.root p.feeder last (flat_map accounts_in p.members.items)) where
+  module _ (taken : HasTaken p last) where
     made : AreAccounts records 3 (flat_map accounts_in p.members.items) × (length (flat_map accounts_in p.members.items) ≡ length p.members.items)
     made = accounts_made hall records 3 p.members.items ran.made
 

@@ -1,5 +1,5 @@
 -- What the threads of a drill have done.
-use Rattle.std.proofs.Common.{◌≡◌, ℕ, zero, suc, ◌+◌, ◌<◌, ◌≤◌, List, [], ◌∷◌, length, sym, ap, subst, ◌∙◌, arith, Result, Ok, Err}
+use Rattle.std.proofs.Common.{◌≡◌, ℕ, zero, suc, ◌+◌, ◌≤◌, List, [], ◌∷◌, length, sym, ap, subst, ◌∙◌, arith, Result, Ok, Err}
 use Rattle.std.specs.Prelude.{◌/◌, IsOk, OnOk}
 use Rattle.std.specs.List.{All}
 use Rattle.kcl_closed.specs.Closed.{AreDrillTurns}
@@ -60,10 +60,11 @@ module _ {M G : Type 0} (hall : Place) where
     all_made name from n [] (a ∷ after) are same ran ended = absurd (omega (arith, same))
     all_made name from n (b ∷ before) [] are same ran ended = absurd (omega (arith, same))
     all_made name from zero (b ∷ before) (a ∷ after) are same ran ended = absurd are
-    all_made name from (suc n) (b ∷ before) (a ∷ after) are same ran ended =
-        (one_made name from b a are.0 (ran 0 a (omega arith)) (ended 0 b (omega arith)),
-         all_made (name + 1) (from + 1) n before after are.1 (omega (arith, same))
-         (λ i m below. ran (suc i) m (omega (arith, below))) (λ i m below. ended (suc i) m (omega (arith, below))))
+    all_made name from (suc n) (b ∷ before) (a ∷ after) are same ran ended = (
+      one_made name from b a are.0 (ran 0 a (omega arith)) (ended 0 b (omega arith)),
+      all_made (name + 1) (from + 1) n before after are.1 (omega (arith, same))
+          (λ i m below. ran (suc i) m (omega (arith, below))) (λ i m below. ended (suc i) m (omega (arith, below))),
+    )
 
 pub have_run : (law : FromHorizon) (hall : Place) (number records : ℕ) (before after : Participants) → AreDealt hall before → records ≤ 1000000 → IsKept before.root after.root → IsKept before.feeder after.feeder
     → HasFed number records after.root after.feeder → HaveEnded StockStandsFor (200 + records / 100) before.members.items after.members.items

@@ -1,10 +1,10 @@
 -- What the threads of a drill have done, and what its machine then stands for.
-use Rattle.std.specs.Prelude.{◌≡◌, ℕ, ◌+◌, ◌^◌, ◌<◌, ◌≤◌, List, [], ◌∷◌, length}
+use Rattle.std.specs.Prelude.{◌≡◌, ℕ, ◌+◌, ◌^◌, ◌<◌, ◌≤◌, List, [], ◌∷◌, ◌++◌, length, flat_map}
 use Rattle.kds_defs.specs.declared.command.Turn.{Turn}
 use Rattle.kds_defs.specs.Histories.{journal}
 use Rattle.kds_turn.specs.declared.view.Account.{Account}
-use Rattle.kds_turn.specs.Known.{account}
-use Rattle.kds_turn.specs.Passes.{Place, accounts_of}
+use Rattle.kds_turn.specs.Known.{Continues, account}
+use Rattle.kds_turn.specs.Passes.{Place, Standing, accounts_of}
 use Rattle.kcl_closed.specs.Closed.{AreFromHorizon, IsMemberAccount}
 use Rattle.kcl_crowd.specs.Feeding.{HasFed}
 use Rattle.kcl_drill.specs.Fed.{IsDrill}
@@ -39,6 +39,13 @@ pub record HaveRun (hall : Place) (number records : ℕ) (p : Participants) : Ty
 -- the numbers and the turns of a worker's pass and of those that were joined into it
 abbrev pub accounts_in : {M P F G : Type 0} → Member M P F G → List Account
 accounts_in m = accounts_of m.pass
+
+-- the pass is the root's, which has taken in the feeder's and then those of the workers
+pub record HasTaken (p : Participants) (last : Standing) : Type 0 where
+  pub by : last.by ≡ p.root.by
+  pub own : last.own ≡ p.root.own
+  pub joined : last.joined ≡ p.root.joined ++ (accounts_of p.feeder ++ flat_map accounts_in p.members.items)
+  pub seen : Continues last.seen p.feeder.seen
 
 -- the machine stands for a drill's history, which has fewer than 2^32 turns, and whose rows begin at the trim horizon
 pub record HasDrilled (number records : ℕ) (w : WorldValue) : Type 0 where

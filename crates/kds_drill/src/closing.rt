@@ -1,26 +1,31 @@
 //! The end of a drill's hall.
-ghost use Rattle.std.specs.Prelude.{◌≡◌, ◌++◌, ℕ, All, flat_map};
-ghost use Rattle.kds_turn.specs.Known.{Continues};
-ghost use Rattle.kds_drill.specs.Running.{HasDrilled, HaveRun, accounts_in};
+ghost use Rattle.std.specs.Prelude.{◌≡◌, ℕ, All};
+ghost use Rattle.kds_drill.specs.Running.{HasDrilled, HasTaken, HaveRun};
 
-use crate::participants::{DrillMember, Participants};
+use crate::participants::Participants;
 use kcl_closed::closed;
 use kcl_live::Member;
 use kcl_world::World;
 use kds_turn::{Hall, Pass};
 
-/// Takes the passes of all workers in.
-fn join_all(hall: &Hall<World>, root: &mut Pass<World>, members: Vec<DrillMember>)
-    requires hall { root.old.hall ≡ hall.now.id }
-    requires halls { All (λ m. m.pass.hall ≡ hall.now.id) members.items }
-    ensures kept { (root.new.hall ≡ root.old.hall) × (root.new.by ≡ root.old.by) × (root.new.own ≡ root.old.own) }
-    ensures joined { root.new.joined ≡ root.old.joined ++ flat_map accounts_in members.items }
-    ensures seen { Continues root.new.seen root.old.seen }
+/// The root's pass, which has taken in the feeder's and those of all workers.
+fn join_all(hall: &Hall<World>, participants: Participants) -> Pass<World>
+    requires ends { (participants.root.hall ≡ hall.now.id) × (participants.feeder.hall ≡ hall.now.id) }
+    requires members { All (λ m. m.pass.hall ≡ hall.now.id) participants.members.items }
+    ensures hall { result.hall ≡ hall.now.id }
+    ensures taken { HasTaken participants result }
 {
+    let Participants {
+        mut root,
+        feeder,
+        members,
+    } = participants;
+    hall.join(&mut root, feeder);
     for member in members {
         let Member { pass, .. } = member;
-        hall.join(root, pass);
+        hall.join(&mut root, pass);
     }
+    root
 }
 
 /// The machine that the threads of a drill leave, once all passes were taken in and the hall was closed.
@@ -29,13 +34,7 @@ pub fn close(hall: Hall<World>, participants: Participants) -> World
     ensures { (number records : ℕ) → HaveRun hall number records participants → HasDrilled number records result }
 {
     closed();
-    let Participants {
-        mut root,
-        feeder,
-        members,
-    } = participants;
-    hall.join(&mut root, feeder);
-    join_all(&hall, &mut root, members);
+    let root = join_all(&hall, participants);
     let (world, _past) = hall.close(root);
     world
 }

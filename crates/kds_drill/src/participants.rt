@@ -53,8 +53,7 @@ fn members_of(alloc: Global, passes: Vec<Pass<World>>) -> Result<Vec<DrillMember
 /// another one. Memory: want of memory.
 pub fn assemble(alloc: Global, workers: u32) -> Result<(Hall<World>, Participants), Memory>
     requires { workers ≤ 64 }
-    ensures dealt { IfOk result (λ made. AreDealt made.0 made.1) }
-    ensures workers { IfOk result (λ made. length made.1.members.items ≡ workers) }
+    ensures { IfOk result (λ made. AreDealt made.0 made.1 × (length made.1.members.items ≡ workers)) }
 {
     let Ok((hall, mut passes)) = Hall::new(alloc, World::new(alloc), workers + 2) else {
         return Err(Memory);

@@ -1,4 +1,4 @@
-use Rattle.std.proofs.Common.{◌≡◌, ◌∙◌, ◌+◌, ◌∷◌, ◌++◌, [], suc, length, ap, sym, subst, arith, length-append, append_assoc}
+use Rattle.std.proofs.Common.{◌≡◌, ◌∙◌, ◌+◌, ◌∷◌, ◌++◌, [], length, ap, sym, subst, arith, length-append, append_assoc}
 use Rattle.std.specs.Vec.Iter.{into_iter_items}
 use Rattle.kds_drill.specs.Participants.{AreMembersOf, IsMemberOf}
 use Rattle.kds_drill.proofs.Dealt.{one_more}
@@ -16,10 +16,12 @@ loop-pass-preserved c =
     let longer = ap length items ∙ length-append made (c.member.result ∷ []) in
     let name : c.loop-pass.name + 1 ≡ 1 + length made = omega (arith, inv.named) in
     record {
-      so_far = (used ++ pass ∷ [],
-          subst (AreMembersOf 1 (used ++ pass ∷ [])) (sym items)
-          (one_more 1 used made pass c.member.result inv.so_far.1 (subst (λ n. IsMemberOf n pass c.member.result) name c.member.ensures)),
-          inv.so_far.2 ∙ ap (λ xs. used ++ xs) step ∙ sym (append_assoc used (pass ∷ []) rest));
+      so_far = (
+        used ++ pass ∷ [],
+        subst (AreMembersOf 1 (used ++ pass ∷ [])) (sym items)
+            (one_more 1 used made pass c.member.result inv.so_far.1 (subst (λ n. IsMemberOf n pass c.member.result) name c.member.ensures)),
+        inv.so_far.2 ∙ ap (λ xs. used ++ xs) step ∙ sym (append_assoc used (pass ∷ []) rest),
+      );
       named = omega (arith, longer, inv.named);
       few = let shorter = ap length step in omega (arith, inv.few, shorter);
     }

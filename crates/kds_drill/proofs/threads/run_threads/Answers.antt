@@ -1,4 +1,4 @@
-use Rattle.std.proofs.Common.{rules, ◌≡◌, ◌+◌, ◌∙◌, length, ap, sym, subst, arith}
+use Rattle.std.proofs.Common.{rules, ◌≡◌, ◌+◌, length, sym, subst, arith}
 use Rattle.std.specs.Prelude.{◌/◌, IsOk}
 use Rattle.std.specs.List.{All}
 use Rattle.std.specs.Vec.{with_items}
