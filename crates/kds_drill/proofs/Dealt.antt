@@ -34,7 +34,7 @@ pub count_new : (hall : Place) (from n : ℕ) → length (new_passes hall from n
 count_new hall from zero = refl
 count_new hall from (suc n) = ap suc (count_new hall (from + 1) n)
 
--- a place's element is taken out, and it is this one
+-- the first element was taken out; it is this one, and these are left
 pub record IsTaken (from left : List Standing) (x : Standing) : Type 0 where
   pub value : x ≡ slice_index_or from 0 x
   pub left_are : left ≡ remove from 0
@@ -48,7 +48,7 @@ module _ (hall : Place) (workers : ℕ) (all some rest : List Standing) (new : a
     are_some = first.left_are ∙ ap (λ xs. remove xs 0) are_all
 
     module _ (feeder : Standing) (second : IsTaken some rest feeder) where
-      pub are_rest : rest ≡ new_passes hall 3 workers
+      are_rest : rest ≡ new_passes hall 3 workers
       are_rest = second.left_are ∙ ap (λ xs. remove xs 0) are_some
 
       pub dealt : (p : Participants) → p.root ≡ root → p.feeder ≡ feeder → AreMembersOf 1 rest p.members.items → hall.passes ≡ workers + 2 → workers ≤ 64 → AreDealt hall p × (length p.members.items ≡ workers)

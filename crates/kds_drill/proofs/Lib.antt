@@ -1,3 +1,5 @@
 mod Dealt
 mod Ran
+mod Accounts
 mod Joined
+mod Closed

@@ -1,4 +1,5 @@
-use Rattle.kds_drill.proofs.Joined.{HasLaws, all_there, has_all, has_drilled}
+use Rattle.kds_drill.proofs.Accounts.{all_there}
+use Rattle.kds_drill.proofs.Closed.{HasLaws, has_all, has_drilled}
 use Rattle.kds_drill.proofs.closing.close.Goals as goal
 
 pub join_all-root-requires-clause-members : goal.join_all-root-requires-clause-members
