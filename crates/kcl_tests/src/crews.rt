@@ -1,52 +1,19 @@
 //! The workers of a crew run beside one another, and no turn is held while a processor is called.
-ghost use Rattle.std.specs.Prelude.{◌≡◌, ◌≤◌, [], IfOk};
-ghost use Rattle.kcl_live.specs.Members.{IsReady};
-ghost use Rattle.kcl_proc.specs.Stocks.{StandsFor};
+ghost use Rattle.std.specs.Prelude.{◌≡◌, IfOk};
 ghost use Rattle.kds_defs.specs.Lawful.{IsLawfulCommand};
 
-use kcl_defs::{Due, Settings};
-use kcl_live::{Gate, Member, run_crew};
-use kcl_proc::{Kind, Stock};
-use kcl_worker::Worker;
+use crate::meeting::member;
+use kcl_defs::Due;
+use kcl_live::run_crew;
 use kcl_world::World;
-use kds_base::{Moment, WorkerNo};
+use kds_base::Moment;
 use kds_defs::Command;
 use kds_json::ask;
 use kds_turn::{Hall, Pass};
 use std::alloc::Global;
 use std::sync::Wait;
-use std::sync::atomic::{AtomicU64, Ordering};
+use std::sync::atomic::AtomicU64;
 use std::test::Fail;
-use std::thread::yield_now;
-
-/// How often a gate looks whether the other worker's call has begun.
-const LOOKS: u32 = 10_000_000;
-
-/// Holds its worker's first Process call until the other's first one has begun.
-#[derive(Drop)]
-struct Meeting<'a> {
-    mine: &'a AtomicU64,
-    other: &'a AtomicU64,
-    has_met: bool,
-}
-
-impl<'a> Gate for Meeting<'a> {
-    fn before(&mut self, _worker: WorkerNo, due: Due) {
-        if due != Due::Process || self.mine.load(Ordering::SeqCst) > 0 {
-            return;
-        }
-        self.mine.store(1, Ordering::SeqCst);
-        for _ in 0..LOOKS {
-            if self.other.load(Ordering::SeqCst) > 0 {
-                self.has_met = true;
-                return;
-            }
-            yield_now();
-        }
-    }
-
-    fn after(&mut self, _worker: WorkerNo, _due: Due) {}
-}
 
 /// The command of a request that is one.
 fn asked(alloc: Global, operation: &str, body: &str) -> Result<Command, Fail>
@@ -97,31 +64,6 @@ fn prepare<R: Wait>(
     Ok(turn(rt, hall, pass, stream) && turn(rt, hall, pass, low) && turn(rt, hall, pass, high))
 }
 
-/// A worker that counts, with its pass.
-fn member<'a>(
-    alloc: Global,
-    hall: &Hall<World>,
-    name: u32,
-    pass: Pass<World>,
-    mine: &'a AtomicU64,
-    other: &'a AtomicU64,
-) -> Member<World, Stock, Kind, Meeting<'a>>
-    requires name { 1 ≤ name }
-    requires pass { (pass.hall ≡ hall.now.id) × (pass.own ≡ []) }
-    ensures { IsReady StandsFor hall.now result }
-{
-    Member {
-        pass,
-        worker: Worker::new(alloc, WorkerNo(name), Settings::usual(), Kind::Tally),
-        gate: Meeting {
-            mine,
-            other,
-            has_met: false,
-        },
-        outcome: Ok(()),
-    }
-}
-
 #[test]
 fn workers_of_a_crew_meet(rt: HostRuntime) -> Result<(), Fail> {
     let alloc = rt.alloc();
@@ -133,8 +75,24 @@ fn workers_of_a_crew_meet(rt: HostRuntime) -> Result<(), Fail> {
     assert!(rt; prepare(&rt, alloc, &hall, &mut root)?);
     let (first_begun, second_begun) = (AtomicU64::new(0), AtomicU64::new(0));
     let mut members = [
-        member(alloc, &hall, 1, second, &first_begun, &second_begun),
-        member(alloc, &hall, 2, third, &second_begun, &first_begun),
+        member(
+            alloc,
+            &hall,
+            1,
+            second,
+            Due::Process,
+            &first_begun,
+            &second_begun,
+        ),
+        member(
+            alloc,
+            &hall,
+            2,
+            third,
+            Due::Process,
+            &second_begun,
+            &first_begun,
+        ),
     ];
     run_crew(&rt, &hall, members.as_mut_slice(), 200, 50);
     for m in members.iter() {

@@ -9,9 +9,13 @@ mod consumers;
 #[cfg(test)]
 mod crews;
 #[cfg(test)]
+mod crowds;
+#[cfg(test)]
 mod journals;
 #[cfg(test)]
 mod lines;
+#[cfg(test)]
+mod meeting;
 #[cfg(test)]
 mod records;
 #[cfg(test)]

@@ -1,0 +1,72 @@
+//! Workers that wait for one another: a gate that holds its worker's first call of a kind until the other worker's has begun.
+ghost use Rattle.std.specs.Prelude.{◌≡◌, ◌≤◌, []};
+ghost use Rattle.kcl_live.specs.Members.{IsReady};
+ghost use Rattle.kcl_proc.specs.Stocks.{StandsFor};
+
+use kcl_defs::{Due, Settings};
+use kcl_live::{Gate, Member};
+use kcl_proc::{Kind, Stock};
+use kcl_worker::Worker;
+use kcl_world::World;
+use kds_base::WorkerNo;
+use kds_turn::{Hall, Pass};
+use std::alloc::Global;
+use std::sync::atomic::{AtomicU64, Ordering};
+use std::thread::yield_now;
+
+/// How often a gate looks whether the other worker's call has begun.
+const LOOKS: u32 = 10_000_000;
+
+/// Holds its worker's first call of a kind until the other's first one has begun.
+#[derive(Drop)]
+pub struct Meeting<'a> {
+    held: Due,
+    mine: &'a AtomicU64,
+    other: &'a AtomicU64,
+    pub has_met: bool,
+}
+
+impl<'a> Gate for Meeting<'a> {
+    fn before(&mut self, _worker: WorkerNo, due: Due) {
+        if due != self.held || self.mine.load(Ordering::SeqCst) > 0 {
+            return;
+        }
+        self.mine.store(1, Ordering::SeqCst);
+        for _ in 0..LOOKS {
+            if self.other.load(Ordering::SeqCst) > 0 {
+                self.has_met = true;
+                return;
+            }
+            yield_now();
+        }
+    }
+
+    fn after(&mut self, _worker: WorkerNo, _due: Due) {}
+}
+
+/// A worker that counts, with its pass, whose first call of this kind is held.
+pub fn member<'a>(
+    alloc: Global,
+    hall: &Hall<World>,
+    name: u32,
+    pass: Pass<World>,
+    held: Due,
+    mine: &'a AtomicU64,
+    other: &'a AtomicU64,
+) -> Member<World, Stock, Kind, Meeting<'a>>
+    requires name { 1 ≤ name }
+    requires pass { (pass.hall ≡ hall.now.id) × (pass.own ≡ []) }
+    ensures { IsReady StandsFor hall.now result }
+{
+    Member {
+        pass,
+        worker: Worker::new(alloc, WorkerNo(name), Settings::usual(), Kind::Tally),
+        gate: Meeting {
+            held,
+            mine,
+            other,
+            has_met: false,
+        },
+        outcome: Ok(()),
+    }
+}
