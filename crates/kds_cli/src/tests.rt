@@ -13,8 +13,11 @@ const SCHEDULE: &str = "1000 api ListStreams {}\n";
 /// Its answer.
 const LISTED: &str = "200 {\"HasMoreStreams\":false,\"StreamNames\":[]}\n";
 
+/// What a drill of no records prints.
+const EMPTY: &str = "shardId-000000000000 0 TRIM_HORIZON\nshardId-000000000001 0 TRIM_HORIZON\nshardId-000000000002 0 TRIM_HORIZON\nshardId-000000000003 0 TRIM_HORIZON\ntotal 0 0\n";
+
 /// Words of each task, an input, and the exit status, the output and the error output.
-const TASKS: [(&str, &str, u8, &str, &str); 8] = [
+const TASKS: [(&str, &str, u8, &str, &str); 9] = [
     ("replay", SCHEDULE, 0, LISTED, ""),
     ("replay", "x\n", 3, "", "line 1: not a schedule line\n"),
     ("replay --journal", SCHEDULE, 0, "journal 2\nend 1000\n", ""),
@@ -29,10 +32,11 @@ const TASKS: [(&str, &str, u8, &str, &str); 8] = [
     ("audit", "journal 2\nend 0\n", 0, "sound 0\n", ""),
     ("audit", "", 1, "entry 1 Form\n", ""),
     ("serve 4567 3", "", 8, "listening\n", "door fault\n"),
+    ("drill 1 2 0", "", 0, EMPTY, ""),
 ];
 
-/// Words that ask for no task. Those of a drill would, but it isn't offered yet.
-const OTHERS: [&str; 44] = [
+/// Words that ask for no task.
+const OTHERS: [&str; 43] = [
     "",
     " ",
     "play",
@@ -76,7 +80,6 @@ const OTHERS: [&str; 44] = [
     "drill 1 2 1000001",
     "drill 18446744073709551616 2 0",
     "drill 1 2 0 0",
-    "drill 1 2 0",
 ];
 
 const USAGE: &str =

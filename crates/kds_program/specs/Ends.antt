@@ -5,13 +5,8 @@ use Rattle.std.specs.Io.KnownBytes.{Appends}
 use Rattle.kds_ends.specs.declared.status.Status.{Status}
 use Rattle.kds_ends.specs.Status.{code_of}
 use Rattle.kds_tasks.specs.declared.task.Task.{Task}
-use Rattle.kds_tasks.specs.Words.{task_of as task_in}
 use Rattle.kds_runs.specs.Ends.{Performed}
-use Rattle.kds_runs.specs.Words.{error_text, offered}
-
--- the task that is asked for by these words, where it is offered
-abbrev pub task_of : List (List ℕ) → Option Task
-task_of words = offered (task_in words)
+use Rattle.kds_runs.specs.Words.{error_text}
 
 -- How the program ended: this is its exit status, the error output gained its text unless that output's own faults rose,
 -- and the run of its task ended so.

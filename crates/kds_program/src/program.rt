@@ -3,12 +3,12 @@ ghost use Rattle.std.specs.Prelude.{◌≡◌, ◌⊎◌, Bool, None, Some, IfSo
 ghost use Rattle.kds_defs.specs.Histories.{clock as clock_of, journal as journal_of};
 ghost use Rattle.kds_defs.specs.Safe.{IsSafe};
 ghost use Rattle.kds_ends.specs.Causes.{Rose};
-ghost use Rattle.kds_tasks.specs.Words.{texts_of};
+ghost use Rattle.kds_tasks.specs.Words.{task_of, texts_of};
 ghost use Rattle.kds_tasks.specs.declared.task.Task.TheVariants.{Replay};
 ghost use Rattle.kcl_sim.specs.Schedule.{history, ran};
 ghost use Rattle.kcl_sim.specs.Serving.{AreAllServed};
 ghost use Rattle.kds_runs.specs.Ends.{Performed};
-ghost use Rattle.kds_program.specs.Ends.{EndsSo, task_of};
+ghost use Rattle.kds_program.specs.Ends.{EndsSo};
 
 use kds_ends::{Clock, Door, Sink, Source, Status};
 use kds_runs::{no_room, perform, schedules, tell};

@@ -20,7 +20,6 @@ use Rattle.kcl_sim.specs.Serving.{AreAllServed}
 use Rattle.kcl_sim.specs.Standing.{SimValue}
 use Rattle.kds_runs.specs.Answered.{RanBy}
 use Rattle.kds_runs.specs.Ends.{Answers, Audited, Performed, Replayed, ReplayTells, shown}
-use Rattle.kds_runs.specs.Words.{offered}
 use Rattle.kds_runs.proofs.Answering.{run_safely}
 use Rattle.kds_runs.proofs.Journaling.{nothing_written}
 
@@ -96,10 +95,9 @@ module _ (lawful : (bytes : List ℕ) (lines later : List Line) → (judged byte
     ran = run_safely (shown journal Memory) Memory bytes held held still lawful safe served (none_ran (shown journal Memory) bytes held);
   }
 
-  pub wanting : (task : Option Task) (bytes left moments held : Option (List ℕ)) → IfSome (offered task) (λ t. Performed t Memory bytes left moments held held)
-  wanting None bytes left moments held = tt
-  wanting (Some (Replay journal)) bytes left moments held = unreplayed journal bytes left held
-  wanting (Some Answer) bytes left moments held = unserved bytes left moments held
-  wanting (Some Audit) bytes left moments held = unaudited bytes held
-  wanting (Some (Serve port passes)) bytes left moments held = nothing_written held _
-  wanting (Some (Drill number workers records)) bytes left moments held = tt
+  pub wanting : (task : Task) (bytes left moments held : Option (List ℕ)) → Performed task Memory bytes left moments held held
+  wanting (Replay journal) bytes left moments held = unreplayed journal bytes left held
+  wanting Answer bytes left moments held = unserved bytes left moments held
+  wanting Audit bytes left moments held = unaudited bytes held
+  wanting (Serve port passes) bytes left moments held = nothing_written held _
+  wanting (Drill number workers records) bytes left moments held = appends_nothing held

@@ -4,7 +4,7 @@ use Rattle.std.specs.declared.option.Option.{Option}
 use Rattle.std.specs.Io.KnownBytes.{Appends}
 use Rattle.kds_audit.specs.Audited.{IsAuditStatus, IsNoJournal, IsSafely, TellsAudit}
 use Rattle.kds_ends.specs.declared.status.Status.{Status}
-use Rattle.kds_ends.specs.declared.status.Status.TheVariants.{Done, Unsound, Usage, Write, Memory, Door}
+use Rattle.kds_ends.specs.declared.status.Status.TheVariants.{Done, Unsound, Write, Memory, Door}
 use Rattle.kds_ends.specs.Causes.{AppendsFront}
 use Rattle.kds_server.specs.Texts.{IsAnswerStatus}
 use Rattle.kds_server.specs.Serving.{Served}
@@ -12,6 +12,7 @@ use Rattle.kds_tasks.specs.declared.task.Task.{Task}
 use Rattle.kds_tasks.specs.declared.task.Task.TheVariants.{Replay, Answer, Audit, Serve, Drill}
 use Rattle.kcl_script.specs.declared.line.Line.{Line}
 use Rattle.kcl_sim.specs.Output.{fresh, outputs}
+use Rattle.kds_drill.specs.Told.{DrillTells}
 use Rattle.kds_runs.specs.Answered.{RanSafely}
 use Rattle.kds_runs.specs.Journal.{JournalTells, recorded}
 use Rattle.kds_runs.specs.Told.{IsReplayStatus, Tells}
@@ -68,4 +69,4 @@ Performed (Replay journal) status bytes left moments held now = Replayed journal
 Performed Answer status bytes left moments held now = Answers bytes left moments held now status
 Performed Audit status bytes left moments held now = Audited status bytes held now
 Performed (Serve port passes) status bytes left moments held now = ServeTells status held now
-Performed (Drill number workers records) status bytes left moments held now = status ≡ Usage
+Performed (Drill number workers records) status bytes left moments held now = DrillTells status number records held now

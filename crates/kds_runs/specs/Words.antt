@@ -1,15 +1,7 @@
--- The tasks that are offered, and the text of each end on the error output.
-use Rattle.std.specs.Prelude.{ℕ, List, [], ◌∷◌, ◌++◌, codes, decimal, Option, Some, None}
+-- The text of each end on the error output, and of a door that listens.
+use Rattle.std.specs.Prelude.{ℕ, List, [], ◌∷◌, ◌++◌, codes, decimal}
 use Rattle.kds_ends.specs.declared.status.Status.{Status}
 use Rattle.kds_ends.specs.declared.status.Status.TheVariants.{Done, Unsound, Usage, BadLine, Read, Write, Memory, Cut, Door, TooLong, Refused}
-use Rattle.kds_tasks.specs.declared.task.Task.{Task}
-use Rattle.kds_tasks.specs.declared.task.Task.TheVariants.{Drill}
-
--- a drill isn't offered yet: it is usage
-abbrev pub offered : Option Task → Option Task
-offered None = None
-offered (Some (Drill number workers records)) = None
-offered (Some task) = Some task
 
 -- the text of each end, with its line feed; none where all went well or the answer says it
 abbrev pub error_text : Status → List ℕ

@@ -1,5 +1,5 @@
 //! Laws of every schedule, and of a task that wants memory before anything is read.
-ghost use Rattle.std.specs.Prelude.{◌≡◌, List, ℕ, IfSome};
+ghost use Rattle.std.specs.Prelude.{◌≡◌, List, ℕ};
 ghost use Rattle.std.specs.declared.option.Option.{Option};
 ghost use Rattle.kds_defs.specs.declared.command.Turn.{Turn};
 ghost use Rattle.kds_defs.specs.Histories.{clock as clock_of, journal as journal_of};
@@ -9,7 +9,6 @@ ghost use Rattle.kds_tasks.specs.declared.task.Task.{Task};
 ghost use Rattle.kcl_sim.specs.Schedule.{history, ran};
 ghost use Rattle.kcl_sim.specs.Serving.{AreAllServed};
 ghost use Rattle.kds_runs.specs.Ends.{Performed};
-ghost use Rattle.kds_runs.specs.Words.{offered};
 
 use kcl_laws::step;
 use kcl_sim::{lawful, served};
@@ -32,10 +31,9 @@ pub fn schedules()
     served();
 }
 
-/// Want of memory before anything is read is an end of each task that is offered.
+/// Want of memory before anything is read is an end of each task.
 pub fn no_room()
-    ensures { (task : Option Task) (bytes left moments held : Option (List ℕ))
-        → IfSome (offered task) (λ t. Performed t Status.Memory bytes left moments held held) }
+    ensures { (task : Task) (bytes left moments held : Option (List ℕ)) → Performed task Status.Memory bytes left moments held held }
 {
     lawful();
     safety();

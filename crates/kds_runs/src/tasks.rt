@@ -1,20 +1,20 @@
 //! What each task runs.
-ghost use Rattle.std.specs.Prelude.{◌≡◌, None, Some};
+ghost use Rattle.std.specs.Prelude.{◌≡◌};
 ghost use Rattle.kds_ends.specs.Causes.{Rose};
 ghost use Rattle.kds_tasks.specs.Words.{IsWithin};
 ghost use Rattle.kds_runs.specs.Ends.{Performed};
-ghost use Rattle.kds_runs.specs.Words.{offered};
 
 use crate::runs::{run_answer, run_replay, run_serve};
 use kds_audit::run_audit;
+use kds_drill::run_drill;
 use kds_ends::{Clock, Door, Sink, Source, Status};
-use kds_tasks::Task;
+use kds_tasks::{Task, limits};
 use std::alloc::Global;
 use std::sync::Wait;
 use std::thread::Threads;
 
-/// Does a task, and gives its end. Condition: its numbers are within the table's ranges. Usage: exactly where the task isn't
-/// offered; then the input and the output are as they were. Read, Write, Door: the source, the sink or the door failed.
+/// Does a task, and gives its end. Condition: its numbers are within the table's ranges. Read, Write, Door: the source, the
+/// sink or the door failed.
 pub fn perform<R, S, K, C, D>(
     rt: &R,
     alloc: Global,
@@ -34,12 +34,12 @@ where
     D::Output: Send,
     requires { IsWithin task }
     ensures performed { Performed task result (S.left input.old) (S.left input.new) (C.moments clock) (K.held out.old) (K.held out.new) }
-    ensures usage { result ≡ Status.Usage → offered (Some task) ≡ None }
-    ensures untouched { offered (Some task) ≡ None → (result ≡ Status.Usage) × (input.new ≡ input.old) × (out.new ≡ out.old) }
+    ensures usage { result ≡ Status.Usage → ⊥ }
     ensures read { result ≡ Status.Read → Rose (S.faults input.old) (S.faults input.new) }
     ensures write { result ≡ Status.Write → Rose (K.faults out.old) (K.faults out.new) }
     ensures door { result ≡ Status.Door → Rose (D.faults door.old) (D.faults door.new) }
 {
+    limits();
     match task {
         Task::Replay { journal } => run_replay(alloc, input, out, journal),
         Task::Answer => {
@@ -48,7 +48,10 @@ where
         }
         Task::Audit => run_audit(alloc, input, out),
         Task::Serve { port, passes } => run_serve(rt, alloc, port, passes, out, clock, door),
-        // not offered yet
-        Task::Drill { .. } => Status::Usage,
+        Task::Drill {
+            number,
+            workers,
+            records,
+        } => run_drill(rt, alloc, number, workers, records, out),
     }
 }

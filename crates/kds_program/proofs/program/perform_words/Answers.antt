@@ -1,30 +1,30 @@
-use Rattle.std.proofs.Common.{◌≡◌, Some, None, refl, sym, ap, inl, inr, ◌∙◌}
-use Rattle.kds_tasks.specs.Words.{task_of as task_in, texts_of}
-use Rattle.kds_runs.specs.Words.{offered}
-use Rattle.kds_program.proofs.Codes.{no_usage}
-use Rattle.kds_program.proofs.Offered.{performed_by}
+use Rattle.std.proofs.Common.{◌≡◌, Some, None, refl, sym, inl, inr, ◌∙◌}
+use Rattle.kds_ends.specs.declared.status.Status.TheVariants.{Memory}
+use Rattle.kds_tasks.specs.Words.{task_of, texts_of}
+use Rattle.kds_runs.specs.Ends.{Performed}
+use Rattle.kds_program.proofs.Asked.{not_none, performed_by}
+use Rattle.kds_program.proofs.Codes.{each, no_usage}
 use Rattle.kds_program.proofs.program.perform_words.Goals as goal
 
 -- ---- the words are those of a task
 
 pub returns-in-Ok-Some-clause-usage : goal.returns-in-Ok-Some-clause-usage
 returns-in-Ok-Some-clause-usage g c =
-    let is : Some c.in-Ok-Some.task ≡ task_in (texts_of c.args.words.now.items) = sym c.in-Ok-Some.field-0-is ∙ c.in-Ok-Some.ensures.task in
-    λ usage. ap offered (sym is) ∙ c.perform.ensures.usage usage
+    λ usage. absurd (c.perform.ensures.usage usage)
 
 pub returns-in-Ok-Some-clause-refused : goal.returns-in-Ok-Some-clause-refused
 returns-in-Ok-Some-clause-refused g c =
-    let is : Some c.in-Ok-Some.task ≡ task_in (texts_of c.args.words.now.items) = sym c.in-Ok-Some.field-0-is ∙ c.in-Ok-Some.ensures.task in
-    λ none. inl (c.perform.ensures.untouched (ap offered is ∙ none)).0
+    let is : Some c.in-Ok-Some.task ≡ task_of (texts_of c.args.words.now.items) = sym c.in-Ok-Some.field-0-is ∙ c.in-Ok-Some.ensures.task in
+    λ none. absurd (not_none _ _ is none)
 
 pub returns-in-Ok-Some-clause-untouched : goal.returns-in-Ok-Some-clause-untouched
 returns-in-Ok-Some-clause-untouched g c =
-    let is : Some c.in-Ok-Some.task ≡ task_in (texts_of c.args.words.now.items) = sym c.in-Ok-Some.field-0-is ∙ c.in-Ok-Some.ensures.task in
-    λ none. let u = c.perform.ensures.untouched (ap offered is ∙ none) in (u.1, u.2)
+    let is : Some c.in-Ok-Some.task ≡ task_of (texts_of c.args.words.now.items) = sym c.in-Ok-Some.field-0-is ∙ c.in-Ok-Some.ensures.task in
+    λ none. absurd (not_none _ _ is none)
 
 pub returns-in-Ok-Some-clause-performed : goal.returns-in-Ok-Some-clause-performed
 returns-in-Ok-Some-clause-performed g c =
-    performed_by (task_in (texts_of c.args.words.now.items)) c.in-Ok-Some.task c.perform.result (g.S.Source.left c.args.input.now) _ _ _ _
+    performed_by (task_of (texts_of c.args.words.now.items)) c.in-Ok-Some.task c.perform.result (g.S.Source.left c.args.input.now) _ _ _ _
     (sym c.in-Ok-Some.field-0-is ∙ c.in-Ok-Some.ensures.task) c.perform.ensures.performed
 
 pub returns-in-Ok-Some-clause-read : goal.returns-in-Ok-Some-clause-read
@@ -40,8 +40,7 @@ returns-in-Ok-Some-clause-door g c = c.perform.ensures.door
 
 pub returns-in-Ok-None-clause-usage : goal.returns-in-Ok-None-clause-usage
 returns-in-Ok-None-clause-usage g c =
-    let is : None ≡ task_in (texts_of c.args.words.now.items) = sym c.in-Ok-None.field-0-is ∙ c.in-Ok-None.ensures.task in
-    λ usage. ap offered (sym is)
+    λ usage. sym (sym c.in-Ok-None.field-0-is ∙ c.in-Ok-None.ensures.task)
 
 pub returns-in-Ok-None-clause-refused : goal.returns-in-Ok-None-clause-refused
 returns-in-Ok-None-clause-refused g c = λ none. inl refl
@@ -61,4 +60,4 @@ pub returns-in-Err-clause-untouched : goal.returns-in-Err-clause-untouched
 returns-in-Err-clause-untouched g c = λ none. (refl, refl)
 
 pub returns-in-Err-clause-performed : goal.returns-in-Err-clause-performed
-returns-in-Err-clause-performed g c = c.no_room.ensures (task_in (texts_of c.args.words.now.items)) _ _ _ _
+returns-in-Err-clause-performed g c = each (λ task. Performed task Memory _ _ _ _ _) (λ task. c.no_room.ensures task _ _ _ _) (task_of (texts_of c.args.words.now.items))
