@@ -89,7 +89,8 @@ fn robbed(
 /// The audit of the schedule's journal.
 fn audited(alloc: Global, lines: &str) -> Result<Left, Fail> {
     let journal = replay_on(alloc, true, lines.as_bytes(), 4096, &[], &[])?;
-    audit_on(alloc, journal.out.held(), 4096, &[], &[])
+    let audit = audit_on(alloc, journal.out.held(), 4096, &[], &[])?;
+    Ok(audit)
 }
 
 #[test]
