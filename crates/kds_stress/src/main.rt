@@ -5,16 +5,9 @@
 
 ghost use Rattle.std.specs.Prelude.{◌≤◌, IfSome};
 
-mod checking;
-mod commands;
-mod joining;
-mod play;
-mod relay;
-mod run;
-
+use kcl_world::World;
 use kds_base::read_u64;
-use relay::relay;
-use run::{Outcome, run};
+use kds_load::{Outcome, Relayed, relay, run};
 use std::process::ExitCode;
 use std::{env, io};
 
@@ -59,18 +52,31 @@ fn show(rt: &HostRuntime, passes: u32, outcome: Outcome) -> io::Result<u8> {
     }
 }
 
+/// Prints what a second pass read after a note.
+fn show_relayed(rt: &HostRuntime, relayed: Relayed) -> io::Result<()> {
+    let turns = relayed.turns;
+    match relayed.number {
+        Some(seq) => {
+            println!(rt;
+                "after a note a second pass reads record {}, {turns} turns",
+                seq.0
+            )
+        }
+        None => println!(rt; "after a note a second pass reads no record, {turns} turns"),
+    }
+}
+
 fn main(rt: HostRuntime) -> io::Result<ExitCode> {
     let Some((passes, rounds)) = given(&rt) else {
         println!(rt; "usage: kds_stress PASSES ROUNDS")?;
         return Ok(ExitCode::from(2));
     };
-    if let Some(relayed) = relay(&rt, rt.alloc()) {
-        println!(rt;
-            "after a note a second pass reads record {}, {} turns",
-            relayed.number, relayed.turns
-        )?;
+    let alloc = rt.alloc();
+    if let Some(relayed) = relay(&rt, alloc, World::new(alloc)) {
+        show_relayed(&rt, relayed)?;
     }
-    let first = show(&rt, 4, run(&rt, rt.alloc(), 4, 0))?;
-    let second = show(&rt, passes, run(&rt, rt.alloc(), passes, rounds))?;
+    let first = show(&rt, 4, run(&rt, alloc, World::new(alloc), 4, 0))?;
+    let loaded = run(&rt, alloc, World::new(alloc), passes, rounds);
+    let second = show(&rt, passes, loaded)?;
     Ok(ExitCode::from(if first == 0 { second } else { first }))
 }

@@ -1,7 +1,6 @@
-//! The records of the closed machine.
+//! The records of a machine.
 
 use crate::commands::{SHARDS, put, read};
-use kcl_world::World;
 use kds_base::{Items, Memory, Moment, read_u64};
 use kds_defs::{Answer, Command, Machine, Reply, Stored, Turn};
 use std::alloc::Global;
@@ -50,7 +49,7 @@ impl Next {
 }
 
 /// The records of an answer, and where reading goes on.
-fn records_of(answer: Answer) -> Option<(Items<Stored>, u64)> {
+pub fn records_of(answer: Answer) -> Option<(Items<Stored>, u64)> {
     match answer {
         Ok(
             Reply::Records {
@@ -68,9 +67,9 @@ fn records_of(answer: Answer) -> Option<(Items<Stored>, u64)> {
 }
 
 /// Reads a shard, and goes past its records. The answer is whether each was the next one of its pass.
-fn read_shard(
+fn read_shard<M: Machine>(
     alloc: Global,
-    world: &mut World,
+    machine: &mut M,
     shard: u64,
     next: &mut Next,
 ) -> Result<bool, Memory> {
@@ -82,7 +81,7 @@ fn read_shard(
             at: now,
             what: read(shard, position, MOST, now),
         };
-        let Some((batch, position_after)) = records_of(world.apply(turn)?) else {
+        let Some((batch, position_after)) = records_of(machine.apply(turn)?) else {
             return Ok(false);
         };
         if batch.as_slice().is_empty() {
@@ -99,12 +98,17 @@ fn read_shard(
 }
 
 /// Whether the records are, of each pass with a number from 1 to the last, those of its rounds, each once and in order.
-pub fn is_sound(alloc: Global, world: &mut World, last: u32, rounds: u32) -> Result<bool, Memory> {
+pub fn is_sound<M: Machine>(
+    alloc: Global,
+    machine: &mut M,
+    last: u32,
+    rounds: u32,
+) -> Result<bool, Memory> {
     let mut next = Next {
         rounds: vec![in alloc; 0u32; last as usize + 1]?,
     };
     for shard in 0..SHARDS {
-        if !read_shard(alloc, world, shard, &mut next)? {
+        if !read_shard(alloc, machine, shard, &mut next)? {
             return Ok(false);
         }
     }

@@ -1,8 +1,8 @@
-use Rattle.std.proofs.Common.{◌≡◌, length, map, List, sym, subst, refl, rules}
+use Rattle.std.proofs.Common.{◌≡◌, List, sym, subst, refl, rules}
 use Rattle.std.specs.List.{All, range_with_len}
 use Rattle.std.proofs.lemmas.List.Elements.{All-map}
 use Rattle.kds_turn.specs.Passes.{Standing, new_pass}
-use Rattle.kds_stress.proofs.run.made.Goals as goal
+use Rattle.kds_load.proofs.running.made.Goals as goal
 
 pub play-requires : goal.play-requires
 play-requires g c =

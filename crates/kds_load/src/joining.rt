@@ -2,12 +2,12 @@
 ghost use Rattle.std.specs.Prelude.{◌≡◌, All, IfSome};
 ghost use Rattle.kds_turn.specs.Passes.{HasAll};
 
-use kcl_world::World;
+use kds_defs::Machine;
 use kds_turn::{Hall, Pass};
 
 /// The last pass, with all others joined into it, where they are those with the numbers from 1 to a last one, in their
 /// order.
-pub fn join_all(hall: &Hall<World>, passes: Vec<Pass<World>>, last: u32) -> Option<Pass<World>>
+pub fn join_all<M: Machine>(hall: &Hall<M>, passes: Vec<Pass<M>>, last: u32) -> Option<Pass<M>>
     requires { All (λ p. p.hall ≡ hall.now.id) passes.items }
     ensures hall { IfSome result (λ p. p.hall ≡ hall.now.id) }
     ensures all { IfSome result (HasAll last) }

@@ -3,19 +3,36 @@ ghost use Rattle.std.specs.Prelude.{◌≡◌, All};
 ghost use Rattle.kds_defs.specs.Lawful.{IsLawfulCommand};
 
 use crate::commands::{create, other, put};
-use kcl_world::World;
 use kds_base::{Memory, Moment};
-use kds_defs::Command;
+use kds_defs::{Answer, Command, Machine};
 use kds_turn::{Hall, Pass};
 use std::alloc::Global;
 use std::sync::Wait;
 use std::thread::{Threads, for_each_mut};
 
-/// Makes one turn.
-pub fn turn<R: Wait>(
+/// Makes one turn, and tells its answer.
+pub fn ask<M: Machine, R: Wait>(
     rt: &R,
-    hall: &Hall<World>,
-    pass: &mut Pass<World>,
+    hall: &Hall<M>,
+    pass: &mut Pass<M>,
+    now: Moment,
+    what: Command,
+) -> Result<Answer, Memory>
+    requires hall { pass.old.hall ≡ hall.now.id }
+    requires lawful { IsLawfulCommand what }
+    ensures { pass.new.hall ≡ hall.now.id }
+{
+    match hall.turn(rt, pass, now, what) {
+        Ok(answer) => Ok(answer),
+        Err(_) => Err(Memory),
+    }
+}
+
+/// Makes one turn.
+pub fn turn<M: Machine, R: Wait>(
+    rt: &R,
+    hall: &Hall<M>,
+    pass: &mut Pass<M>,
     now: Moment,
     what: Command,
 ) -> Result<(), Memory>
@@ -23,18 +40,16 @@ pub fn turn<R: Wait>(
     requires lawful { IsLawfulCommand what }
     ensures { pass.new.hall ≡ hall.now.id }
 {
-    match hall.turn(rt, pass, now, what) {
-        Ok(_) => Ok(()),
-        Err(_) => Err(Memory),
-    }
+    let _answer = ask(rt, hall, pass, now, what)?;
+    Ok(())
 }
 
 /// Makes the two turns of a round.
-fn round<R: Wait>(
+fn round<M: Machine, R: Wait>(
     rt: &R,
     alloc: Global,
-    hall: &Hall<World>,
-    pass: &mut Pass<World>,
+    hall: &Hall<M>,
+    pass: &mut Pass<M>,
     number: u32,
 ) -> Result<(), Memory>
     requires { pass.old.hall ≡ hall.now.id }
@@ -47,11 +62,11 @@ fn round<R: Wait>(
 }
 
 /// Makes the stream, where no pass has made it yet, and the turns of so many rounds.
-fn rounds<R: Wait>(
+fn rounds<M: Machine, R: Wait>(
     rt: &R,
     alloc: Global,
-    hall: &Hall<World>,
-    pass: &mut Pass<World>,
+    hall: &Hall<M>,
+    pass: &mut Pass<M>,
     count: u32,
 ) -> Result<(), Memory>
     requires { pass.old.hall ≡ hall.now.id }
@@ -66,7 +81,13 @@ fn rounds<R: Wait>(
 }
 
 /// Makes the turns of a pass, as far as there is memory.
-fn play_one<R: Wait>(rt: &R, alloc: Global, hall: &Hall<World>, pass: &mut Pass<World>, count: u32)
+fn play_one<M: Machine, R: Wait>(
+    rt: &R,
+    alloc: Global,
+    hall: &Hall<M>,
+    pass: &mut Pass<M>,
+    count: u32,
+)
     requires { pass.old.hall ≡ hall.now.id }
     ensures { pass.new.hall ≡ hall.now.id }
 {
@@ -74,11 +95,11 @@ fn play_one<R: Wait>(rt: &R, alloc: Global, hall: &Hall<World>, pass: &mut Pass<
 }
 
 /// All passes make their turns at once, each in a thread of its own.
-pub fn play<R: Threads + Wait + Sync>(
+pub fn play<M: Machine + Send, R: Threads + Wait + Sync>(
     rt: &R,
     alloc: Global,
-    hall: &Hall<World>,
-    passes: &mut [Pass<World>],
+    hall: &Hall<M>,
+    passes: &mut [Pass<M>],
     count: u32,
 )
     requires { All (λ p. p.hall ≡ hall.now.id) passes.old }
@@ -90,7 +111,7 @@ pub fn play<R: Threads + Wait + Sync>(
             rt,
             passes,
             threads,
-            &|_, pass: &mut Pass<World>|
+            &|_, pass: &mut Pass<M>|
                 requires { pass.now.hall ≡ hall.now.id }
                 ensures { pass.exit.now.hall ≡ hall.entry.now.id }
             { play_one(rt, alloc, hall, pass, count) },

@@ -1,9 +1,9 @@
 use Rattle.std.proofs.Common.{◌≡◌, ◌+◌, ◌∙◌, sym, rules}
-use Rattle.kds_stress.proofs.Joined.{has_more, all_front}
-use Rattle.kds_stress.proofs.joining.join_all.Goals as goal
+use Rattle.kds_load.proofs.Joined.{has_more, all_front}
+use Rattle.kds_load.proofs.joining.join_all.Goals as goal
 
 pub loop-pass-preserved : goal.loop-pass-preserved
-loop-pass-preserved c =
+loop-pass-preserved g c =
     let was = c.loop-pass.invariant in
     let next : c.by-by.result + 1 ≡ c.loop-pass.least = search rules in
     let of : c.in-Some.pass.by ≡ c.by-by.result = sym c.by-by.ensures in record {
