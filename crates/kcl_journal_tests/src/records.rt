@@ -1,7 +1,10 @@
 //! The journal of a schedule in place of its answers.
+ghost use Rattle.std.specs.Prelude.{[]};
+
 use kcl_recorder::Recorder;
 use kcl_world::World;
 use kds_base::{Memory, Octets};
+use kds_defs::Machine;
 use kds_lines::Taker;
 use std::alloc::Global;
 use std::test::Fail;
@@ -33,9 +36,15 @@ const ENTRIES: &str = "1000 0 made 1 s 1
 3000 1 given 1
 ";
 
-/// What a recorder writes for these lines, and its clock behind it.
-fn record(alloc: Global, lines: &[&str]) -> Result<(Octets, u64), Memory> {
-    let mut recorder = Recorder::new(alloc, World::new(alloc));
+/// What a recorder over a new machine writes for these lines, and its clock behind it.
+fn record<M: Machine + Drop>(
+    alloc: Global,
+    machine: M,
+    lines: &[&str],
+) -> Result<(Octets, u64), Memory>
+    requires { M.stands_for machine [] }
+{
+    let mut recorder = Recorder::new(alloc, machine);
     let mut out = Octets::new(alloc);
     for line in lines {
         if !recorder.take(alloc, line.as_bytes(), &mut out)? {
@@ -47,10 +56,12 @@ fn record(alloc: Global, lines: &[&str]) -> Result<(Octets, u64), Memory> {
 
 #[test]
 fn records(rt: HostRuntime) -> Result<(), Fail> {
-    let (out, clock) = record(rt.alloc(), &ROBBED)?;
+    let alloc = rt.alloc();
+    let (out, clock) = record(alloc, World::new(alloc), &ROBBED)?;
     assert!(rt; out.as_slice() == ENTRIES.as_bytes());
     assert!(rt; clock == 3000);
-    let (out, clock) = record(rt.alloc(), &["1000 raw 1 make", "1000 raw 1 survey"])?;
+    let bad = ["1000 raw 1 make", "1000 raw 1 survey"];
+    let (out, clock) = record(alloc, World::new(alloc), &bad)?;
     assert!(rt; out.as_slice().is_empty());
     assert!(rt; clock == 0);
     Ok(())

@@ -7,8 +7,8 @@ use kcl_defs::{Due, Settings};
 use kcl_live::{Gate, Member};
 use kcl_proc::{Kind, Stock};
 use kcl_worker::Worker;
-use kcl_world::World;
 use kds_base::WorkerNo;
+use kds_defs::Machine;
 use kds_turn::{Hall, Pass};
 use std::alloc::Global;
 use std::sync::atomic::{AtomicU64, Ordering};
@@ -45,15 +45,15 @@ impl<'a> Gate for Meeting<'a> {
 }
 
 /// A worker that counts, with its pass, whose first call of this kind is held.
-pub fn member<'a>(
+pub fn member<'a, M: Machine>(
     alloc: Global,
-    hall: &Hall<World>,
+    hall: &Hall<M>,
     name: u32,
-    pass: Pass<World>,
+    pass: Pass<M>,
     held: Due,
     mine: &'a AtomicU64,
     other: &'a AtomicU64,
-) -> Member<World, Stock, Kind, Meeting<'a>>
+) -> Member<M, Stock, Kind, Meeting<'a>>
     requires name { 1 ≤ name }
     requires pass { (pass.hall ≡ hall.now.id) × (pass.own ≡ []) }
     ensures { IsReady StandsFor hall.now result }

@@ -7,7 +7,7 @@ use kcl_defs::Due;
 use kcl_live::run_crew;
 use kcl_world::World;
 use kds_base::Moment;
-use kds_defs::Command;
+use kds_defs::{Command, Machine};
 use kds_json::ask;
 use kds_turn::{Hall, Pass};
 use std::alloc::Global;
@@ -25,43 +25,42 @@ fn asked(alloc: Global, operation: &str, body: &str) -> Result<Command, Fail>
     }
 }
 
-/// A turn at moment 0, and whether it was accepted.
-fn turn<R: Wait>(rt: &R, hall: &Hall<World>, pass: &mut Pass<World>, what: Command) -> bool
-    requires hall { pass.old.hall ≡ hall.now.id }
-    requires lawful { IsLawfulCommand what }
+/// Makes the turn of a request at moment 0, and tells whether it was accepted.
+fn request<M: Machine, R: Wait>(
+    rt: &R,
+    alloc: Global,
+    hall: &Hall<M>,
+    pass: &mut Pass<M>,
+    operation: &str,
+    body: &str,
+) -> Result<bool, Fail>
+    requires { pass.old.hall ≡ hall.now.id }
     ensures { pass.new.hall ≡ hall.now.id }
 {
+    let what = asked(alloc, operation, body)?;
     match hall.turn(rt, pass, Moment::start(), what) {
-        Ok(answer) => answer.is_ok(),
-        Err(_) => false,
+        Ok(answer) => Ok(answer.is_ok()),
+        Err(_) => Ok(false),
     }
 }
 
 /// Makes a stream of two shards, and puts a record into each.
-fn prepare<R: Wait>(
+fn prepare<M: Machine, R: Wait>(
     rt: &R,
     alloc: Global,
-    hall: &Hall<World>,
-    pass: &mut Pass<World>,
+    hall: &Hall<M>,
+    pass: &mut Pass<M>,
 ) -> Result<bool, Fail>
     requires { pass.old.hall ≡ hall.now.id }
 {
-    let stream = asked(
-        alloc,
-        "CreateStream",
-        "{\"StreamName\":\"s\",\"ShardCount\":2}",
-    )?;
-    let low = asked(
-        alloc,
-        "PutRecord",
-        "{\"StreamName\":\"s\",\"Data\":\"aGk=\",\"PartitionKey\":\"a\"}",
-    )?;
-    let high = asked(
-        alloc,
-        "PutRecord",
-        "{\"StreamName\":\"s\",\"Data\":\"aGk=\",\"PartitionKey\":\"b\"}",
-    )?;
-    Ok(turn(rt, hall, pass, stream) && turn(rt, hall, pass, low) && turn(rt, hall, pass, high))
+    let stream = "{\"StreamName\":\"s\",\"ShardCount\":2}";
+    let low = "{\"StreamName\":\"s\",\"Data\":\"aGk=\",\"PartitionKey\":\"a\"}";
+    let high = "{\"StreamName\":\"s\",\"Data\":\"aGk=\",\"PartitionKey\":\"b\"}";
+    Ok(
+        request(rt, alloc, hall, pass, "CreateStream", stream)?
+            && request(rt, alloc, hall, pass, "PutRecord", low)?
+            && request(rt, alloc, hall, pass, "PutRecord", high)?,
+    )
 }
 
 #[test]

@@ -1,6 +1,4 @@
 //! Lines as text: no run prints one.
-ghost use Rattle.std.specs.Prelude.{◌≡◌, false};
-ghost use Rattle.kds_defs.specs.Kinds.{is_service};
 
 use kcl_script::{one_spelling, print_line, read_line};
 use kcl_text::print_command;

@@ -1,0 +1,14 @@
+//! Tests of the texts of schedules and journals, of recorders, scribes and audits, of what no schedule reaches. They stand
+//! apart, so that no crate is proved a second time beside its tests.
+#![tactic(auto)]
+
+#[cfg(test)]
+mod audits;
+#[cfg(test)]
+mod journals;
+#[cfg(test)]
+mod lines;
+#[cfg(test)]
+mod records;
+#[cfg(test)]
+mod scribes;
