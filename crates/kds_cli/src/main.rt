@@ -1,9 +1,6 @@
 //! The program: its runs over the real ends.
 #![tactic(auto)]
 
-#[cfg(test)]
-mod tests;
-
 use kds_ends::{StdSink, StdSource, SystemClock, TcpDoor};
 use kds_program::run;
 use std::env;

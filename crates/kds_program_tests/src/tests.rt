@@ -14,7 +14,8 @@ const SCHEDULE: &str = "1000 api ListStreams {}\n";
 const LISTED: &str = "200 {\"HasMoreStreams\":false,\"StreamNames\":[]}\n";
 
 /// What a drill of no records prints.
-const EMPTY: &str = "shardId-000000000000 0 TRIM_HORIZON\nshardId-000000000001 0 TRIM_HORIZON\nshardId-000000000002 0 TRIM_HORIZON\nshardId-000000000003 0 TRIM_HORIZON\ntotal 0 0\n";
+const EMPTY: &str =
+    "shardId-000000000000 0 TRIM_HORIZON\nshardId-000000000001 0 TRIM_HORIZON\nshardId-000000000002 0 TRIM_HORIZON\nshardId-000000000003 0 TRIM_HORIZON\ntotal 0 0\n";
 
 /// Words of each task, an input, and the exit status, the output and the error output.
 const TASKS: [(&str, &str, u8, &str, &str); 9] = [
