@@ -17,6 +17,11 @@ def free_port():
         return probe.getsockname()[1]
 
 
+def heed_interrupts():
+    """Lets an interrupt end the process again: what a shell starts in the background ignores it, and so would the server."""
+    signal.signal(signal.SIGINT, signal.SIG_DFL)
+
+
 class Server:
     """A process of `kds serve`, and where it listens."""
 
@@ -28,6 +33,7 @@ class Server:
             stdin=subprocess.DEVNULL,
             stdout=subprocess.PIPE,
             stderr=subprocess.PIPE,
+            preexec_fn=heed_interrupts,
         )
         ready, _, _ = select.select([self.process.stdout], [], [], 1200)
         line = self.process.stdout.readline() if ready else b''
