@@ -14,10 +14,10 @@ ghost use Rattle.kcl_streams.specs.Verdict.{IsFit, same_flag, same_list, same_or
 
 use kcl_book::Book;
 use kcl_leases::{Shards, cut, free, give, make, mark, open, reader, renew, start, take};
-use kcl_streams::{Rule, Streams, live, place_after};
+use kcl_streams::{Rule, Streams, live};
 use kcl_table::Table;
 use kds_base::{Memory, Seq, ShardNo, ShardRef, StreamNo, TenureNo, WorkerNo};
-use kds_defs::{Answer, Entry, Origin, Refusal, Shard, Target};
+use kds_defs::{Answer, Entry, Origin, Refusal, Shard, Target, place_after_numbers};
 use std::alloc::Global;
 
 /// An answer as a judgement, of an entry that tells all that its command gives.
@@ -124,7 +124,7 @@ fn read(
     if !same_numbers(batch.as_slice(), numbers) {
         return Ok(Err(Rule::Entry));
     }
-    book.read(no, place_after(position, batch.as_slice()), ends);
+    book.read(no, place_after_numbers(position, batch.as_slice()), ends);
     Ok(Ok(()))
 }
 

@@ -17,7 +17,7 @@ use crate::records::{Sized, batch, first_since, from_position, is_throttled, non
 use crate::rule::Rule;
 use kds_base::{Items, Memory, Moment, Name, Seq, ShardNo};
 use kds_defs::limits::{FIRST_HOURS, HOUR};
-use kds_defs::{Origin, Refusal, Shard};
+use kds_defs::{Origin, Refusal, Shard, place_after_numbers};
 use kds_tree::ShardTree;
 use std::alloc::Global;
 use std::marker::Model;
@@ -250,7 +250,7 @@ impl Stream {
         let floor = self.floor(clock);
         let ahead = from_position(&self.records, position);
         let numbers = batch(alloc, ahead, shard, floor, position, limit)?;
-        let place = place_after(position, numbers.as_slice());
+        let place = place_after_numbers(position, numbers.as_slice());
         let closed = match self.tree.shard(shard) {
             Some(shown) => shown.end.is_some(),
             None => false,
@@ -348,16 +348,5 @@ impl Stream {
         let before = self.floor(clock);
         self.hours = hours;
         self.floor = before.max(floor_at(clock, hours));
-    }
-}
-
-/// One above the last of these numbers, or the same position where there are none.
-pub fn place_after(position: u64, numbers: &[Seq]) -> u64
-    requires { AllByRecursion (λ n. n < 2 ^ 64 - 1) numbers.now }
-    ensures { result ≡ place_after position numbers.now }
-{
-    match numbers.last() {
-        Some(last) => last.0 + 1,
-        None => position,
     }
 }

@@ -9,10 +9,10 @@ ghost use Rattle.kcl_world.specs.Standing.{Leads, world};
 
 use crate::shards::ServiceShards;
 use kcl_book::Book;
-use kcl_leases::{place_after, reader};
+use kcl_leases::reader;
 use kcl_table::Table;
 use kds_base::{Memory, TenureNo};
-use kds_defs::{Answer, Reply};
+use kds_defs::{Answer, Reply, place_after};
 use kds_service::{Service, lease_lines};
 
 /// All listed shards, and all rows.

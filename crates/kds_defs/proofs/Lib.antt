@@ -7,3 +7,4 @@ pub mod KindLemmas
 pub mod Homes
 pub mod ScalingExamples
 pub mod ThroughputExamples
+mod LastPlaces

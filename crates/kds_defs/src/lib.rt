@@ -9,6 +9,7 @@ mod laws;
 mod limit_laws;
 pub mod limits;
 pub mod machine;
+mod places;
 pub mod reply;
 pub mod scale;
 
@@ -17,5 +18,6 @@ pub use entry::Entry;
 pub use laws::{lease_answers, service_answers};
 pub use limit_laws::{lease_limits, rate_limits, request_limits, schedule_limits, service_limits};
 pub use machine::{Answer, Machine};
+pub use places::{place_after, place_after_numbers};
 pub use reply::{About, Iter, Outcome, Page, Place, Refusal, Reply, Row, Shard, Stored};
 pub use scale::ScaleStep;

@@ -6,7 +6,7 @@ use Rattle.kds_defs.specs.declared.reply.Shard.{Shard}
 use Rattle.kds_defs.specs.declared.reply.Stored.{Stored}
 use Rattle.kds_defs.specs.declared.limits.TheConstants.{BATCH_BYTES}
 use Rattle.kds_defs.specs.Listings.{last_no}
-use Rattle.kds_defs.specs.Records.{Logged, beginning, first_at, is_left, numbers_of, place_after, stored}
+use Rattle.kds_defs.specs.Records.{Logged, beginning, first_at, is_left, numbers_of, stored}
 use Rattle.kds_log.specs.Log.{IsOrderly, IsUpTo, LogValue, first_number, since}
 use Rattle.kds_shards.proofs.LogLemmas.{all-filter, all_weaker}
 use Rattle.kds_shards.specs.Reading.{batch_among}
@@ -16,11 +16,6 @@ use Rattle.kds_shards.specs.Logs.{IsBelow, IsUnder}
 
 one_less : (n : ℕ) → suc (suc n) - 1 ≡ suc (suc n - 1)
 one_less n = omega arith
-
-pub last_place : (place : ℕ) (items : List Stored) (item : Stored) → slice_get items (length items - 1) ≡ Some item → place_after place (map (λ (r : Stored). r.seq) items) ≡ item.seq + 1
-last_place place [] item is = absurd cc
-last_place place (x ∷ []) item is = let e : x ≡ item = cc in ap (λ (r : Stored). r.seq + 1) e
-last_place place (x ∷ y ∷ items) item is = last_place (x.seq + 1) (y ∷ items) item (ap (slice_get (x ∷ y ∷ items)) (sym (one_less (length items))) ∙ is)
 
 pub last_shard : (shards : List Shard) (shard : Shard) → slice_get shards (length shards - 1) ≡ Some shard → shard.no ≡ last_no shards
 last_shard [] shard is = absurd cc

@@ -11,7 +11,7 @@ ghost use Rattle.kds_shards.specs.Reading.{batch_among, behind_by, position_from
 ghost use Rattle.kds_shards.specs.Logs.{IsBelow, IsUnder};
 
 use kds_base::{Items, Memory, Moment, Seq, ShardNo};
-use kds_defs::{Origin, Shard, Start, Stored};
+use kds_defs::{Origin, Shard, Start, Stored, place_after};
 use kds_log::ShardLog;
 use std::alloc::Global;
 
@@ -85,20 +85,6 @@ pub fn position(
         Start::TrimHorizon => Some(0),
         Start::Latest => Some(latest),
         Start::Time(moment) => Some(first_since(log, cut, moment, next)),
-    }
-}
-
-/// Where reading goes on after a batch: one above its last number, or the same position after an empty one.
-fn place_after(position: u64, batch: &[Stored]) -> u64
-    requires { AllByRecursion (λ r. r.seq < 2 ^ 64 - 1) batch.now }
-    ensures { result ≡ place_after position (map (λ r. r.seq) batch.now) }
-{
-    match batch.last() {
-        Some(item) => {
-            let seq = item.seq;
-            seq.0 + 1
-        }
-        None => position,
     }
 }
 

@@ -64,8 +64,8 @@ returns-clause-judged c =
     let e_is : e ≡ (is_closed_at (slice_get v.tree y.key.shard) && are_none (left_among (floor_in v w.clock) (place_after p ms) (records_in v.records y.key.shard))) = search rules in
     let same : same_flag e a.end ≡ true = search rules in
     let all : same_list ms a.numbers.now ≡ true = search rules in
-    let at : c.place_after.result ≡ place_after p ms = search rules in
-    λ log st. read_entry w a.table.now a.book.now.tenures a.by a.no a.limit p a.end a.numbers.now c.reach-position.ensures log st y (c.in-Ok.ensures.value log st.shows) v live ms ms_are e e_is c.read-2.new.self.tenures c.place_after.result (λ log line sh at none. shows_lease w log line sh at none) at (of_book (tenure_at a.book.now.tenures a.no) c.read-2.new.self a.book.now (λ x. slice_set a.book.now.tenures (a.no - 1) (with_read c.place_after.result e x)) c.read-2.ensures) same all
+    let at : c.place_after_numbers.result ≡ place_after p ms = search rules in
+    λ log st. read_entry w a.table.now a.book.now.tenures a.by a.no a.limit p a.end a.numbers.now c.reach-position.ensures log st y (c.in-Ok.ensures.value log st.shows) v live ms ms_are e e_is c.read-2.new.self.tenures c.place_after_numbers.result (λ log line sh at none. shows_lease w log line sh at none) at (of_book (tenure_at a.book.now.tenures a.no) c.read-2.new.self a.book.now (λ x. slice_set a.book.now.tenures (a.no - 1) (with_read c.place_after_numbers.result e x)) c.read-2.ensures) same all
 
 pub read-requires-2-clause-room : goal.read-requires-2-clause-room
 read-requires-2-clause-room c =
@@ -85,9 +85,9 @@ read-requires-2-clause-onward c =
     let live : live_at w.streams y.key.stream ≡ Some v = search rules in
     let ms_are : ms ≡ numbers_of (beginning a.limit BATCH_BYTES (left_among (floor_in v w.clock) p (records_in v.records y.key.shard))) = search rules in
     let e_is : e ≡ (is_closed_at (slice_get v.tree y.key.shard) && are_none (left_among (floor_in v w.clock) (place_after p ms) (records_in v.records y.key.shard))) = search rules in
-    let at : c.place_after.result ≡ place_after p ms = search rules in
+    let at : c.place_after_numbers.result ≡ place_after p ms = search rules in
     let log = c.requires.stands.0 in
     let st = c.requires.stands.1 in
     let ns = numbers_are w a.table.now a.book.now.tenures a.by a.no a.limit p a.end a.numbers.now c.reach-position.ensures log st y (c.in-Ok.ensures.value log st.shows) v live ms ms_are e e_is in
-    reads_from (tenure_at a.book.now.tenures a.no) a.by log w.clock p c.place_after.result y (c.in-Ok.ensures.value log st.shows)
+    reads_from (tenure_at a.book.now.tenures a.no) a.by log w.clock p c.place_after_numbers.result y (c.in-Ok.ensures.value log st.shows)
     (subst (λ n. p ≤ n) (sym (at ∙ ap (place_after p) ns)) (goes_onward log w.clock y.key.stream y.key.shard p a.limit))

@@ -3,8 +3,8 @@ use Rattle.kds_defs.specs.declared.limits.TheConstants.{BATCH_BYTES}
 use Rattle.kcl_streams.proofs.BatchSteps.{batch_below}
 use Rattle.kcl_streams.proofs.stream.Stream.read.Goals as goal
 
-pub place_after-place-requires : goal.place_after-place-requires
-place_after-place-requires c =
+pub place_after_numbers-place-requires : goal.place_after_numbers-place-requires
+place_after_numbers-place-requires c =
     let a = c.args in
     rw (c.as_slice.ensures, c.in_ok-numbers.ensures, c.from_position-ahead.ensures a.shard c.floor-floor.result, c.deref.ensures.value) (batch_below (2 ^ 64 - 1) a.shard c.floor-floor.result a.position a.limit BATCH_BYTES c.self.inside.records.items c.self.invariant.1.0)
 
