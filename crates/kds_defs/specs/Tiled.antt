@@ -1,8 +1,8 @@
 -- What holds of the shards of a stream in every state: their open ranges partition the keys, and they are
 -- numbered in their order.
-use Rattle.std.specs.Prelude.{ℕ, ◌≡◌, ◌+◌, ◌^◌, ◌<◌, ◌≤◌, Bool, true, false, if◌then◌else◌, List, [], ◌∷◌}
+use Rattle.std.specs.Prelude.{ℕ, ◌≡◌, ◌+◌, ◌^◌, ◌<◌, ◌≤◌, Bool, true, false, if◌then◌else◌, List, [], ◌∷◌, Some, slice_get}
 use Rattle.std.specs.List.{AllByRecursion}
-use Rattle.kds_base.specs.Span.{Span, covers}
+use Rattle.kds_base.specs.Span.{Span, are_adjacent, covers, is_inside}
 use Rattle.kds_defs.specs.Shards.{ShardState, is_open}
 
 -- 1 where the range contains the key
@@ -30,3 +30,20 @@ pub record IsTiled (xs : List ShardState) : Type 0 where
 abbrev pub AreNumbered : ℕ → List ShardState → Type 0
 AreNumbered n [] = Unit {0}
 AreNumbered n (x ∷ xs) = (x.no ≡ n) × AreNumbered (n + 1) xs
+
+-- the key lies inside the range of an open shard, which may be split there
+pub record IsSplittable (xs : List ShardState) (shard at : ℕ) : Type 0 where
+  pub state : ShardState
+  pub stands : slice_get xs shard ≡ Some state
+  pub is_open_now : is_open state ≡ true
+  pub inside : is_inside state.range at ≡ true
+
+-- the ranges of two open shards touch, so that they may be merged
+pub record AreMergeable (xs : List ShardState) (shard other : ℕ) : Type 0 where
+  pub state : ShardState
+  pub adjacent : ShardState
+  pub stands : slice_get xs shard ≡ Some state
+  pub stands_beside : slice_get xs other ≡ Some adjacent
+  pub is_open_now : is_open state ≡ true
+  pub is_open_beside : is_open adjacent ≡ true
+  pub touch : are_adjacent state.range adjacent.range ≡ true

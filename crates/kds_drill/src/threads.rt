@@ -35,8 +35,8 @@ pub fn run_threads<R: Threads + Wait + Sync>(
     ensures { OnOk result (HaveRun hall.now number records participants.new) }
 {
     horizon();
-    // None of these errors is Spent: that comes where a history has 2^64 - 1 turns, and a drill's has those of its passes
-    // alone, which are fewer than 2^32.
+    // Spent would come only where a history has 2^64 - 1 turns. That a drill's passes make fewer than 2^32 isn't proved, so
+    // it would be told as want of memory.
     match crowd(
         rt,
         alloc,
