@@ -1,5 +1,5 @@
 -- What is judged of an entry of a stream, and kept of a good one, by what is known of the streams.
-use Rattle.std.specs.Prelude.{ℕ, zero, suc, ◌+◌, ◌-◌, ◌*◌, max, Bool, true, false, ◌==◌, ◌&&◌, ◌||◌, not, nat_le, nat_lt, if◌then◌else◌, List, [], ◌∷◌, ◌++◌, length, Option, Some, None, Ok, Err}
+use Rattle.std.specs.Prelude.{ℕ, zero, suc, ◌+◌, ◌-◌, ◌*◌, max, Bool, true, false, ◌==◌, ◌&&◌, ◌||◌, not, nat_le, nat_lt, if◌then◌else◌, List, [], ◌∷◌, ◌++◌, length, slice_get, Option, Some, None, Ok, Err}
 use Rattle.std.specs.List.{filter}
 use Rattle.kds_defs.specs.declared.command.Origin.{Origin}
 use Rattle.kds_defs.specs.declared.command.Origin.TheVariants as origin
@@ -9,7 +9,8 @@ use Rattle.kds_defs.specs.declared.limits.TheConstants.{FIRST_HOURS, HOUR, LIVE_
 use Rattle.kds_defs.specs.declared.reply.Refusal.{Refusal}
 use Rattle.kds_defs.specs.declared.reply.Refusal.TheVariants as refusal
 use Rattle.kds_defs.specs.Rates.{is_throttled}
-use Rattle.kds_defs.specs.Records.{first_at, left_among}
+use Rattle.kds_defs.specs.Listings.{are_none, is_closed_at}
+use Rattle.kds_defs.specs.Records.{Logged, first_at, left_among, place_after}
 use Rattle.kds_defs.specs.Shards.{home_among, is_open, made_shards, merged_shards, split_shards}
 use Rattle.kds_defs.specs.StreamCommands.{last_number}
 use Rattle.kds_defs.specs.Streams.{floor_at, same_name}
@@ -63,11 +64,19 @@ merge_verdict v clock sh other number child =
     if is_spent v 0 then refused refusal.Spent else
     agrees ((number == v.next) && (child == length v.tree)))
 
+-- what is left at a clock of a shard from a position on
+abbrev pub left_in : StreamValue → ℕ → ℕ → ℕ → List Logged
+left_in v clock sh position = left_among (floor_in v clock) position (records_in v.records sh)
+
+-- the shard is closed, and nothing of it is left after a batch of these numbers
+abbrev pub is_end_in : StreamValue → ℕ → ℕ → ℕ → List ℕ → Bool
+is_end_in v clock sh position numbers = is_closed_at (slice_get v.tree sh) && are_none (left_in v clock sh (place_after position numbers))
+
 -- the position where reading of a shard begins from an origin at a clock
 abbrev pub position_in : StreamValue → ℕ → ℕ → Origin → ℕ
 position_in v clock sh origin.TrimHorizon = 0
 position_in v clock sh origin.Latest = v.next
-position_in v clock sh (origin.Time moment) = first_at (left_among (floor_in v clock) 0 (records_in v.records sh)) moment v.next
+position_in v clock sh (origin.Time moment) = first_at (left_in v clock sh 0) moment v.next
 
 -- ---- all streams
 

@@ -1,17 +1,16 @@
 //! A stream, as a judge keeps it.
-ghost use Rattle.std.specs.Prelude.{◌≡◌, ◌≢◌, ◌+◌, ◌-◌, ◌*◌, ◌<◌, ◌≤◌, ◌^◌, ◌&&◌, if◌then◌else◌, slice_get, length, None, Some, IfOk, OnOk, OnErr};
+ghost use Rattle.std.specs.Prelude.{◌≡◌, ◌≢◌, ◌+◌, ◌-◌, ◌*◌, ◌<◌, ◌≤◌, ◌^◌, if◌then◌else◌, slice_get, None, Some, IfOk, OnOk, OnErr};
 ghost use Rattle.std.specs.Option.{option_map};
 ghost use Rattle.std.specs.List.{AllByRecursion};
 ghost use Rattle.kds_defs.specs.declared.limits.TheConstants.{BATCH_BYTES, HOUR};
-ghost use Rattle.kds_defs.specs.Listings.{are_none, is_closed_at};
-ghost use Rattle.kds_defs.specs.Records.{beginning, left_among, numbers_of, place_after};
+ghost use Rattle.kds_defs.specs.Records.{beginning, numbers_of, place_after};
 ghost use Rattle.kds_defs.specs.Shards.{shown};
 ghost use Rattle.kds_defs.specs.StreamCommands.{last_number};
 ghost use Rattle.kds_defs.specs.Streams.{floor_at, floor_of};
 ghost use Rattle.kds_tree.specs.Tree.{merge_refusal, split_refusal};
 ghost use Rattle.kcl_streams.specs.declared.rule.Rule.TheVariants as rule;
-ghost use Rattle.kcl_streams.specs.Judging.{agrees, is_spent, merge_verdict, new_stream, position_in, put_verdict, refused, split_verdict, with_gone, with_hours, with_limits, with_merge, with_put, with_split};
-ghost use Rattle.kcl_streams.specs.Standing.{floor_in, is_listed_in, records_in};
+ghost use Rattle.kcl_streams.specs.Judging.{agrees, is_end_in, is_spent, left_in, merge_verdict, new_stream, position_in, put_verdict, refused, split_verdict, with_gone, with_hours, with_limits, with_merge, with_put, with_split};
+ghost use Rattle.kcl_streams.specs.Standing.{floor_in, is_listed_in};
 
 use crate::records::{Sized, batch, first_since, from_position, is_throttled, none_left};
 use crate::rule::Rule;
@@ -243,9 +242,9 @@ impl Stream {
         position: u64,
         limit: u32,
     ) -> Result<(Items<Seq>, bool), Memory>
-        ensures numbers { IfOk result (λ r. r.0 ≡ numbers_of (beginning limit BATCH_BYTES (left_among (floor_in self.now clock) position (records_in self.now.records shard)))) }
+        ensures numbers { IfOk result (λ r. r.0 ≡ numbers_of (beginning limit BATCH_BYTES (left_in self.now clock shard position))) }
         ensures small { IfOk result (λ r. AllByRecursion (λ n. n < 2 ^ 64 - 1) r.0) }
-        ensures end { IfOk result (λ r. r.1 ≡ (is_closed_at (slice_get self.now.tree shard) && are_none (left_among (floor_in self.now clock) (place_after position r.0) (records_in self.now.records shard)))) }
+        ensures end { IfOk result (λ r. r.1 ≡ is_end_in self.now clock shard position r.0) }
     {
         let floor = self.floor(clock);
         let ahead = from_position(&self.records, position);

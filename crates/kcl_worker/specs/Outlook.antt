@@ -1,17 +1,21 @@
 -- What decides the next command, by the consumers and the leases as the code keeps them.
-use Rattle.std.specs.Prelude.{◌≡◌, false, List, Option, Some, None}
-use Rattle.std.specs.List.{AllByRecursion}
+use Rattle.std.specs.Prelude.{ℕ, ◌≡◌, false, List, Option, Some, None}
+use Rattle.std.specs.List.{AllByRecursion, find}
 use Rattle.kds_defs.specs.declared.command.Command.{Command}
+use Rattle.kcl_defs.specs.declared.consumer.Call.{Call}
 use Rattle.kcl_defs.specs.declared.consumer.WorkerMade.{WorkerMade}
+use Rattle.kcl_defs.specs.declared.plans.Held.{Held}
 use Rattle.kcl_defs.specs.declared.plans.SyncStep.{SyncStep}
 use Rattle.kcl_defs.specs.declared.plans.TakeStep.{TakeStep}
 use Rattle.kcl_defs.specs.Consumers.{due_call, over_at}
 use Rattle.kds_defs.specs.Kinds.{is_service}
 use Rattle.kds_defs.specs.Lawful.{IsLawfulCommand}
-use Rattle.kcl_defs.specs.Workers.{Chore, WorkerState, command_of}
+use Rattle.kcl_defs.specs.Workers.{Chore, WorkerState, chore_from, command_of, is_giving, stopping_chore}
 use Rattle.kcl_consumer.specs.Standing.{Standing}
 use Rattle.kcl_worker.specs.declared.round.Asked.{Asked}
-use Rattle.kcl_worker.specs.Parts.{chore_of}
+use Rattle.kcl_worker.specs.declared.round.Part.{Part}
+use Rattle.kcl_worker.specs.Parts.{chore_of, round_of}
+use Rattle.kcl_worker.specs.Standing.{ConsumersStand}
 use Rattle.kcl_round.specs.Lists.{due_in}
 
 -- no call of it is due, and it is not over
@@ -24,6 +28,25 @@ pub record IsGiven (made : WorkerMade) (s : WorkerState) (syncs : List SyncStep)
   pub is : chore ≡ Some which
   pub asks : chore_of asked syncs takes ≡ Some which
   pub command : command_of made s which ≡ Some what
+
+-- each state with these consumers and leases has this chore, which is asked with its command
+abbrev pub IsNext : {P : Type 0} → (P → List Call → Type 0) → List (Standing P) → List Held → WorkerMade → List SyncStep → List TakeStep → (WorkerState → Option Chore) → Asked × Command → Type 0
+IsNext stands cs held made syncs takes chore given = (s : WorkerState) → ConsumersStand stands cs s.consumers → held ≡ s.held → IsGiven made s syncs takes (chore s) given.0 given.1
+
+-- whoever the worker is, and whatever it has planned
+abbrev pub IsNextOfAny : {P : Type 0} → (P → List Call → Type 0) → List (Standing P) → List Held → (WorkerState → Option Chore) → Asked × Command → Type 0
+IsNextOfAny stands cs held chore given = (made : WorkerMade) (syncs : List SyncStep) (takes : List TakeStep) → IsNext stands cs held made syncs takes chore given
+
+-- no state with these consumers and leases has such a chore
+abbrev pub HasNoChore : {P : Type 0} → (P → List Call → Type 0) → List (Standing P) → List Held → (WorkerState → Option Chore) → Type 0
+HasNoChore stands cs held chore = (s : WorkerState) → ConsumersStand stands cs s.consumers → held ≡ s.held → chore s ≡ None
+
+-- the chore of a state in this part of the round, and at a stop
+abbrev pub chore_in : WorkerMade → ℕ → Part → List SyncStep → List TakeStep → WorkerState → Option Chore
+chore_in made now part syncs takes s = chore_from made.settings.failover now s (round_of part syncs takes)
+
+abbrev pub chore_at_stop : WorkerState → Option Chore
+chore_at_stop s = stopping_chore s (find is_giving s.consumers)
 
 -- the command may be asked, and is one for leases
 abbrev pub IsLeaseCommand : Command → Type 0

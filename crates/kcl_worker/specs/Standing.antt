@@ -1,5 +1,5 @@
 -- A worker as callers see it, and the record that it stands for.
-use Rattle.std.specs.Prelude.{ℕ, ◌≡◌, Bool, not, ◌&&◌, List, [], ◌∷◌, ◌++◌, Option, Some}
+use Rattle.std.specs.Prelude.{ℕ, ◌≡◌, Bool, not, ◌&&◌, List, [], ◌∷◌, ◌++◌, Option, Some, Result}
 use Rattle.std.specs.List.{list_any, AllByRecursion}
 use Rattle.std.specs.Option.{option_map}
 use Rattle.kds_base.specs.declared.lease_key.ShardRef.{ShardRef}
@@ -12,11 +12,15 @@ use Rattle.kcl_defs.specs.Consumers.{over_at, calls_after}
 use Rattle.kcl_defs.specs.Plans.{seen_at}
 use Rattle.kcl_defs.specs.Workers.{Round, Chore, Known, WorkerState, WorkerPast, worker_after, phase_of_known, is_stopping, is_giving_phase, is_nothing_held}
 use Rattle.kds_defs.specs.declared.command.Turn.{Turn}
+use Rattle.kds_defs.specs.declared.reply.Refusal.{Refusal}
+use Rattle.kds_defs.specs.declared.reply.Reply.{Reply}
 use Rattle.kcl_defs.specs.Lives.{IsLifeIn, IsWholeLifeIn}
 use Rattle.kcl_defs.specs.WorkerLives.{IsOrderly}
 use Rattle.kcl_consumer.specs.Standing.{Standing, StandsFor as ConsumerStandsFor}
+use Rattle.kcl_round.specs.declared.planning.Planned.{Planned}
 use Rattle.kcl_round.specs.Changes.{live_among, retired_among}
 use Rattle.kcl_round.specs.Lists.{Retirement, is_due}
+use Rattle.kcl_round.specs.Planning.{IsPlannedAfter}
 
 -- the fields of a worker
 pub record WorkerStanding (P F : Type 0) : Type 0 where
@@ -32,6 +36,10 @@ pub record WorkerStanding (P F : Type 0) : Type 0 where
 -- consumers that are over are retired
 abbrev pub settled_in : {P F : Type 0} → WorkerStanding P F → WorkerStanding P F
 settled_in w = record w { consumers = live_among w.consumers; retired = w.retired ++ retired_among w.consumers }
+
+-- what is planned of an answer at a moment, by what it has seen and the leases that it has
+abbrev pub IsPlannedIn : {P F : Type 0} → WorkerStanding P F → ℕ → Result Reply Refusal → Option Planned → Type 0
+IsPlannedIn w now answer p = IsPlannedAfter w.made w.seen w.held now answer p
 
 -- ---- what a caller can see of it
 

@@ -42,6 +42,10 @@ pub record Leaves {P : Type 0} (stands : P → List Call → Type 0) (s t : Work
   pub seen : t.seen ≡ s.seen
   pub retired : t.retired ≡ s.retired
 
+-- of each state with the leases and consumers before, those after show what the change makes of it
+abbrev pub LeadsTo : {P : Type 0} → (P → List Call → Type 0) → (WorkerState → WorkerState) → List Held → List (Standing P) → List Held → List (Standing P) → Type 0
+LeadsTo stands change held cs held_after cs_after = (s : WorkerState) → held ≡ s.held → ConsumersStand stands cs s.consumers → Leaves stands s (change s) held_after cs_after
+
 -- what a Take was answered
 abbrev pub IsTaken : Result Reply Refusal → Option Taken → Type 0
 IsTaken (Ok (reply.Taken tenure counter start)) o = o ≡ Some (record { tenure = tenure; counter = counter; start = start })

@@ -3,11 +3,10 @@ ghost use Rattle.std.specs.Prelude.{◌≡◌, ◌+◌, ◌<◌, []};
 ghost use Rattle.std.specs.Vec.{vec_capacity, vec_len};
 ghost use Rattle.kcl_defs.specs.Consumers.{Opening, is_loss};
 ghost use Rattle.kds_defs.specs.Lawful.{IsLimit};
-ghost use Rattle.kcl_defs.specs.Workers.{WorkerState, after_renewal, with_held};
+ghost use Rattle.kcl_defs.specs.Workers.{after_renewal, with_held};
 ghost use Rattle.kcl_worker.specs.Asks.{processors};
 ghost use Rattle.kcl_round.specs.Changes.{answered_among, held_in, with_consumer};
-ghost use Rattle.kcl_worker.specs.Standing.{ConsumersStand};
-ghost use Rattle.kcl_worker.specs.Written.{IsTaken, IsWritten, Leaves, held_by};
+ghost use Rattle.kcl_worker.specs.Written.{IsTaken, IsWritten, LeadsTo, held_by};
 
 use kcl_consumer::{Ahead, Consumer, Processor};
 use kcl_defs::{Held, LeaseId, Tenancy};
@@ -71,7 +70,7 @@ pub fn after_renewal<P: Processor>(
     now: Moment,
     answer: &Answer,
 )
-    ensures leaves { (s : WorkerState) → held.old.items ≡ s.held → ConsumersStand P.stands_for consumers.old.items s.consumers → Leaves P.stands_for s (after_renewal now h.now answer.now s) held.new.items consumers.new.items }
+    ensures leaves { LeadsTo P.stands_for (after_renewal now h.now answer.now) held.old.items consumers.old.items held.new.items consumers.new.items }
     ensures processors { processors consumers.new.items ≡ processors consumers.old.items }
     ensures len { vec_len consumers.new ≡ vec_len consumers.old }
 {

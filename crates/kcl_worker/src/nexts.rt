@@ -1,15 +1,12 @@
 //! The command that comes next. A part of the round that has nothing left is passed over.
-ghost use Rattle.std.specs.Prelude.{◌≡◌, ◌≤◌, List, Option, None, Some, IfNone, IfSome, IsSome};
+ghost use Rattle.std.specs.Prelude.{◌≡◌, ◌≤◌, List, Some, IfNone, IfSome, IsSome};
 ghost use Rattle.std.specs.List.{AllByRecursion};
 ghost use Rattle.kds_defs.specs.declared.command.Command.TheVariants as command;
 ghost use Rattle.kcl_defs.specs.declared.plans.SyncStep.{SyncStep};
 ghost use Rattle.kcl_defs.specs.declared.plans.TakeStep.{TakeStep};
-ghost use Rattle.kcl_defs.specs.declared.consumer.WorkerMade.{WorkerMade};
-ghost use Rattle.kcl_defs.specs.Workers.{WorkerState, chore_from, from_consumers, from_renewals, from_sync, from_takes, is_giving, stopping_chore, sync_command};
-ghost use Rattle.std.specs.List.{find};
-ghost use Rattle.kcl_worker.specs.Outlook.{IsGiven, IsLeaseCommand, IsReady};
-ghost use Rattle.kcl_worker.specs.Parts.{chore_of, round_of};
-ghost use Rattle.kcl_worker.specs.Standing.{ConsumersStand};
+ghost use Rattle.kcl_defs.specs.Workers.{from_consumers, from_renewals, from_sync, from_takes, sync_command};
+ghost use Rattle.kcl_worker.specs.Outlook.{HasNoChore, IsLeaseCommand, IsNext, IsNextOfAny, IsReady, chore_at_stop, chore_in};
+ghost use Rattle.kcl_worker.specs.Parts.{chore_of};
 
 use crate::round::{Asked, Part};
 use kcl_consumer::{Consumer, Processor};
@@ -26,7 +23,7 @@ pub fn from_consumers<P: Processor>(
     place: Option<LeaseId>,
 ) -> (Asked, Command)
     requires { AllByRecursion IsReady consumers.now }
-    ensures given { (made : WorkerMade) (s : WorkerState) (syncs : List SyncStep) (takes : List TakeStep) → ConsumersStand P.stands_for consumers.now s.consumers → held.now ≡ s.held → IsGiven made s syncs takes (Some (from_consumers place s)) result.0 result.1 }
+    ensures given { IsNextOfAny P.stands_for consumers.now held.now (λ s. Some (from_consumers place s)) result }
     ensures lawful { IsLeaseCommand result.1 }
     ensures asks { (syncs : List SyncStep) (takes : List TakeStep) → IsSome (chore_of result.0 syncs takes) }
 {
@@ -59,7 +56,7 @@ pub fn from_renewals<P: Processor>(
     failover: u64,
 ) -> (Asked, Command)
     requires { AllByRecursion IsReady consumers.now }
-    ensures given { (made : WorkerMade) (s : WorkerState) (syncs : List SyncStep) (takes : List TakeStep) → ConsumersStand P.stands_for consumers.now s.consumers → held.now ≡ s.held → IsGiven made s syncs takes (Some (from_renewals failover now place s)) result.0 result.1 }
+    ensures given { IsNextOfAny P.stands_for consumers.now held.now (λ s. Some (from_renewals failover now place s)) result }
     ensures lawful { IsLeaseCommand result.1 }
     ensures asks { (syncs : List SyncStep) (takes : List TakeStep) → IsSome (chore_of result.0 syncs takes) }
 {
@@ -79,7 +76,7 @@ pub fn from_takes<P: Processor>(
 ) -> (Asked, Command)
     requires ready { AllByRecursion IsReady consumers.now }
     requires name { 1 ≤ made.now.name }
-    ensures given { (s : WorkerState) (syncs : List SyncStep) → ConsumersStand P.stands_for consumers.now s.consumers → held.now ≡ s.held → IsGiven made.now s syncs takes.now (Some (from_takes made.now.settings.failover now takes.now s)) result.0 result.1 }
+    ensures given { (syncs : List SyncStep) → IsNext P.stands_for consumers.now held.now made.now syncs takes.now (λ s. Some (from_takes made.now.settings.failover now takes.now s)) result }
     ensures lawful { IsLeaseCommand result.1 }
     ensures asks { (syncs : List SyncStep) → IsSome (chore_of result.0 syncs takes.now) }
 {
@@ -124,7 +121,7 @@ pub fn from_sync<P: Processor>(
 ) -> (Asked, Command)
     requires ready { AllByRecursion IsReady consumers.now }
     requires name { 1 ≤ made.now.name }
-    ensures given { (s : WorkerState) → ConsumersStand P.stands_for consumers.now s.consumers → held.now ≡ s.held → IsGiven made.now s syncs.now takes.now (Some (from_sync made.now.settings.failover now syncs.now takes.now s)) result.0 result.1 }
+    ensures given { IsNext P.stands_for consumers.now held.now made.now syncs.now takes.now (λ s. Some (from_sync made.now.settings.failover now syncs.now takes.now s)) result }
     ensures lawful { IsLeaseCommand result.1 }
     ensures asks { IsSome (chore_of result.0 syncs.now takes.now) }
 {
@@ -139,8 +136,8 @@ pub fn at_stopping<P: Processor>(
     consumers: &[Consumer<P>],
     held: &[Held],
 ) -> Option<(Asked, Command)>
-    ensures none { IfNone result ((s : WorkerState) → ConsumersStand P.stands_for consumers.now s.consumers → held.now ≡ s.held → stopping_chore s (find is_giving s.consumers) ≡ None) }
-    ensures some { IfSome result (λ given. (made : WorkerMade) (s : WorkerState) (syncs : List SyncStep) (takes : List TakeStep) → ConsumersStand P.stands_for consumers.now s.consumers → held.now ≡ s.held → IsGiven made s syncs takes (stopping_chore s (find is_giving s.consumers)) given.0 given.1) }
+    ensures none { IfNone result (HasNoChore P.stands_for consumers.now held.now chore_at_stop) }
+    ensures some { IfSome result (IsNextOfAny P.stands_for consumers.now held.now chore_at_stop) }
     ensures lawful { IfSome result (λ given. IsLeaseCommand given.1) }
     ensures asks { IfSome result (λ given. (syncs : List SyncStep) (takes : List TakeStep) → IsSome (chore_of given.0 syncs takes)) }
 {
@@ -174,8 +171,8 @@ pub fn given<P: Processor>(
 ) -> Option<(Asked, Command)>
     requires ready { AllByRecursion IsReady consumers.now }
     requires name { 1 ≤ made.now.name }
-    ensures none { IfNone result ((s : WorkerState) → ConsumersStand P.stands_for consumers.now s.consumers → held.now ≡ s.held → chore_from made.now.settings.failover now s (round_of part syncs.now takes.now) ≡ None) }
-    ensures some { IfSome result (λ given. (s : WorkerState) → ConsumersStand P.stands_for consumers.now s.consumers → held.now ≡ s.held → IsGiven made.now s syncs.now takes.now (chore_from made.now.settings.failover now s (round_of part syncs.now takes.now)) given.0 given.1) }
+    ensures none { IfNone result (HasNoChore P.stands_for consumers.now held.now (chore_in made.now now part syncs.now takes.now)) }
+    ensures some { IfSome result (IsNext P.stands_for consumers.now held.now made.now syncs.now takes.now (chore_in made.now now part syncs.now takes.now)) }
     ensures lawful { IfSome result (λ given. IsLeaseCommand given.1) }
     ensures asks { IfSome result (λ given. IsSome (chore_of given.0 syncs.now takes.now)) }
 {

@@ -1,18 +1,17 @@
 //! The worker.
-ghost use Rattle.std.specs.Prelude.{◌≡◌, ◌<◌, ℕ, IfOk, Result, ◌≤◌, true, false, [], ◌∷◌, None, Some, IfErr, IsSome, OnErr, OnOk, map};
+ghost use Rattle.std.specs.Prelude.{◌≡◌, ◌<◌, ℕ, IfOk, Result, ◌≤◌, false, [], None, Some, IfErr, IsSome, OnErr, OnOk, map};
 ghost use Rattle.kds_defs.specs.declared.reply.Refusal.{Refusal};
 ghost use Rattle.kds_defs.specs.declared.reply.Reply.{Reply};
 ghost use Rattle.kcl_worker.specs.Parts.{IsSyncing, IsTaking};
-ghost use Rattle.kcl_round.specs.Planning.{IsPlannedAfter};
 ghost use Rattle.kcl_worker.specs.Written.{IsTaken};
 ghost use Rattle.kds_defs.specs.Kinds.{is_service};
 ghost use Rattle.kds_defs.specs.Lawful.{IsLawfulCommand, IsLimit};
 ghost use Rattle.kcl_worker.specs.Adding.{AddsAnswer, AddsCall, AddsCommand, AddsNothing, AddsStop};
 ghost use Rattle.kcl_worker.specs.Asks.{AllowsSame};
-ghost use Rattle.kcl_defs.specs.Workers.{Consuming, Finishing, Freeing, Got_answer, Renewing, Surveying, WorkerPast};
+ghost use Rattle.kcl_defs.specs.Workers.{Consuming, Finishing, Freeing, Renewing, Surveying};
 ghost use Rattle.kcl_round.specs.Retirements.{retirement};
 ghost use Rattle.kcl_round.specs.Lists.{due_count, due_in};
-ghost use Rattle.kcl_worker.specs.Standing.{StandsFor, is_idle_in};
+ghost use Rattle.kcl_worker.specs.Standing.{IsPlannedIn, StandsFor, is_idle_in};
 
 use crate::answers::{Taken, add_taken, after_consumer, after_renewal, taken_of, tenancy_of};
 use crate::nexts::given;
@@ -272,7 +271,7 @@ impl<P: Processor, F: Maker<P>> Worker<P, F> {
         ensures made { self.new.made ≡ self.old.made }
         ensures maker { self.new.maker ≡ self.old.maker }
         ensures free { self.new.waiting ≡ None }
-        ensures absorbed { (past : WorkerPast) (now : ℕ) (answer : Result Reply Refusal) → IsPlannedAfter self.old.made self.old.seen self.old.held now answer (Some p) → StandsFor P.stands_for self.old past → StandsFor P.stands_for self.new (Got_answer now answer ∷ past) }
+        ensures absorbed { (now : ℕ) (answer : Result Reply Refusal) → IsPlannedIn self.old now answer (Some p) → AddsAnswer P.stands_for self.old self.new now answer }
     {
         let Planned {
             observed,
@@ -299,7 +298,7 @@ impl<P: Processor, F: Maker<P>> Worker<P, F> {
         ensures made { self.new.made ≡ self.old.made }
         ensures maker { self.new.maker ≡ self.old.maker }
         ensures free { self.new.waiting ≡ None }
-        ensures absorbed { (past : WorkerPast) (now : ℕ) (answer : Result Reply Refusal) → IsPlannedAfter self.old.made self.old.seen self.old.held now answer None → StandsFor P.stands_for self.old past → StandsFor P.stands_for self.new (Got_answer now answer ∷ past) }
+        ensures absorbed { (now : ℕ) (answer : Result Reply Refusal) → IsPlannedIn self.old now answer None → AddsAnswer P.stands_for self.old self.new now answer }
     {
         self.asked = Asked::Nothing;
         settle(&mut self.consumers, &mut self.retired);
@@ -307,7 +306,7 @@ impl<P: Processor, F: Maker<P>> Worker<P, F> {
 
     /// What was planned after the answer to the worker's survey.
     fn plans(&self, now: Moment, answer: &Answer) -> Result<Option<Planned>, Memory>
-        ensures { IfOk result (λ o. IsPlannedAfter self.now.made self.now.seen self.now.held now answer.now o) }
+        ensures { IfOk result (λ o. IsPlannedIn self.now now answer.now o) }
     {
         plan_after(
             *self.held.allocator(),
@@ -350,7 +349,7 @@ impl<P: Processor, F: Maker<P>> Worker<P, F> {
         ensures made { self.new.made ≡ self.old.made }
         ensures maker { self.new.maker ≡ self.old.maker }
         ensures free { self.new.waiting ≡ None }
-        ensures absorbed { (past : WorkerPast) (now : ℕ) (answer : Result Reply Refusal) → IsTaken answer None → StandsFor P.stands_for self.old past → StandsFor P.stands_for self.new (Got_answer now answer ∷ past) }
+        ensures absorbed { (now : ℕ) (answer : Result Reply Refusal) → IsTaken answer None → AddsAnswer P.stands_for self.old self.new now answer }
     {
         self.takes.advance();
         self.part = Part::Takes;
@@ -364,7 +363,7 @@ impl<P: Processor, F: Maker<P>> Worker<P, F> {
         ensures made { self.new.made ≡ self.old.made }
         ensures maker { self.new.maker ≡ self.old.maker }
         ensures free { self.new.waiting ≡ None }
-        ensures absorbed { (past : WorkerPast) (now : ℕ) (answer : Result Reply Refusal) → StandsFor P.stands_for self.old past → StandsFor P.stands_for self.new (Got_answer now answer ∷ past) }
+        ensures absorbed { (now : ℕ) (answer : Result Reply Refusal) → AddsAnswer P.stands_for self.old self.new now answer }
     {
         self.syncs.advance();
         self.part = Part::Sync;
@@ -380,7 +379,7 @@ impl<P: Processor + Drop, F: Maker<P>> Worker<P, F> {
         ensures made { self.new.made ≡ self.old.made }
         ensures asks { OnOk result (AllowsSame (F.asks self.new.maker) (F.asks self.old.maker)) }
         ensures free { OnOk result (self.new.waiting ≡ None) }
-        ensures ok { OnOk result ((past : WorkerPast) (answer : Result Reply Refusal) → IsTaken answer (Some taken) → StandsFor P.stands_for self.old past → StandsFor P.stands_for self.new (Got_answer now answer ∷ past)) }
+        ensures ok { OnOk result ((answer : Result Reply Refusal) → IsTaken answer (Some taken) → AddsAnswer P.stands_for self.old self.new now answer) }
         ensures err { OnErr result (self.new ≡ self.old) }
     {
         let step = self.takes.rest()[0];

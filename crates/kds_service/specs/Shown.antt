@@ -57,6 +57,10 @@ pub record ShowsAll (w : ServiceValue) (log : Journal) : Type 0 where
   pub others : (s : ℕ) → is_among (numbers_of w.streams) s ≡ false → is_live log s ≡ false
   pub unmade : (s : ℕ) → w.made < s → IsFresh log s
 
+-- it holds at whatever clock, of every journal that the streams show at it
+abbrev pub InJournalsOf : List StreamValue → (Journal → ℕ → Type 0) → Type 0
+InJournalsOf vs holds = (c b n : ℕ) (log : Journal) → ShowsAll (service c b n vs) log → holds log c
+
 -- ---- what the lines of one stream leave of the others
 
 module _ (c b n : ℕ) (vs : List StreamValue) (log : Journal) where

@@ -1,15 +1,14 @@
 //! Shards by their keys, over streams that all stand at the clock.
-ghost use Rattle.std.specs.Prelude.{◌≡◌, ◌-◌, ◌^◌, ◌<◌, ℕ, map, true, IfOk};
+ghost use Rattle.std.specs.Prelude.{◌≡◌, ◌-◌, ◌^◌, ◌<◌, map, true, IfOk};
 ghost use Rattle.std.specs.List.{AllByRecursion};
 ghost use Rattle.std.specs.Option.{option_map};
 ghost use Rattle.indexmap.specs.IndexMap.{values};
-ghost use Rattle.kds_defs.specs.Journal.{Journal};
 ghost use Rattle.kds_defs.specs.Origins.{origin_position};
 ghost use Rattle.kds_defs.specs.Records.{batch, stored};
 ghost use Rattle.kds_defs.specs.Shards.{shown};
 ghost use Rattle.kds_stream.specs.Reading.{read_ends};
 ghost use Rattle.kds_service.specs.Keyed.{is_listed_in, listed_keys, state_in, stream_at};
-ghost use Rattle.kds_service.specs.Shown.{ShowsAll, service};
+ghost use Rattle.kds_service.specs.Shown.{InJournalsOf};
 
 use crate::places::{Streams, find_number};
 use kds_base::{Items, Memory, ShardRef, StreamNo};
@@ -58,7 +57,7 @@ pub fn listed(alloc: Global, streams: &Streams) -> Result<Items<ShardRef>, Memor
 /// The position where reading of a listed shard begins from an origin.
 pub fn position(streams: &Streams, key: &ShardRef, from: Origin) -> u64
     requires { is_listed_in (values streams.now) key.now ≡ true }
-    ensures { (c b n : ℕ) (log : Journal) → ShowsAll (service c b n (values streams.now)) log → result ≡ origin_position log c key.now from }
+    ensures { InJournalsOf (values streams.now) (λ log c. result ≡ origin_position log c key.now from) }
 {
     match find(streams, key.stream) {
         Some(stream) => stream.position(key.shard, from),
@@ -75,9 +74,9 @@ pub fn read(
     limit: u32,
 ) -> Result<(Items<Stored>, bool), Memory>
     requires { is_listed_in (values streams.now) key.now ≡ true }
-    ensures batch { (c b n : ℕ) (log : Journal) → ShowsAll (service c b n (values streams.now)) log → IfOk result (λ r. r.0 ≡ map stored (batch log c key.now.stream key.now.shard position limit)) }
+    ensures batch { InJournalsOf (values streams.now) (λ log c. IfOk result (λ r. r.0 ≡ map stored (batch log c key.now.stream key.now.shard position limit))) }
     ensures numbers { IfOk result (λ r. AllByRecursion (λ x. x.seq < 2 ^ 64 - 1) r.0) }
-    ensures end { (c b n : ℕ) (log : Journal) → ShowsAll (service c b n (values streams.now)) log → IfOk result (λ r. r.1 ≡ read_ends log c key.now.stream key.now.shard position limit) }
+    ensures end { InJournalsOf (values streams.now) (λ log c. IfOk result (λ r. r.1 ≡ read_ends log c key.now.stream key.now.shard position limit)) }
 {
     match find(streams, key.stream) {
         Some(stream) => stream.read(alloc, key.shard, position, limit),

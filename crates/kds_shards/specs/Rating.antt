@@ -17,6 +17,10 @@ abbrev pub StandFor : (ℕ → List SizedPut) → ℕ → List WindowValue → T
 StandFor f n [] = Unit {0}
 StandFor f n (w ∷ ws) = StandsFor w (f n) × StandFor f (n + 1) ws
 
+-- it holds of whatever puts of the shards the windows stand for
+abbrev pub ForPutsOf : List WindowValue → ((ℕ → List SizedPut) → Type 0) → Type 0
+ForPutsOf ws holds = (f : ℕ → List SizedPut) → StandFor f 0 ws → holds f
+
 -- the puts of the shards, with one more in this shard
 abbrev pub with_put : ℕ → SizedPut → (ℕ → List SizedPut) → ℕ → List SizedPut
 with_put sh p f n = if sh == n then p ∷ f n else f n

@@ -5,7 +5,7 @@ ghost use Rattle.kds_defs.specs.Lawful.{item_bytes};
 ghost use Rattle.kds_defs.specs.Rates.{SizedPut, is_throttled};
 ghost use Rattle.kds_defs.specs.Streams.{floor_of};
 ghost use Rattle.kds_log.specs.Log.{log_of};
-ghost use Rattle.kds_shards.specs.Rating.{IsCounted, StandFor, with_put};
+ghost use Rattle.kds_shards.specs.Rating.{ForPutsOf, IsCounted, StandFor, with_put};
 ghost use Rattle.kds_shards.specs.Routes.{AreInTurn, ArePlaced, AreRouted, CanTake, CanTakeAll, IsRouted, is_held, is_place_of, place_of, room_at, settled_each, stored_item, taken, with_each};
 
 use crate::logs::settle_at;
@@ -127,8 +127,8 @@ fn route_one(
 ) -> Result<bool, Memory>
     requires many { length windows.old ≡ length tree.now.shards }
     requires counted { AllByRecursion (IsCounted clock) windows.old }
-    ensures routed { IfOk result (λ more. more ≡ true → (f : ℕ → List SizedPut) → StandFor f 0 windows.old → IsRouted tree.now.shards clock enforced f item routes.old routes.new windows.new) }
-    ensures spent { IfOk result (λ more. more ≡ false → (f : ℕ → List SizedPut) → StandFor f 0 windows.old → (is_held tree.now.shards clock enforced f item ≡ false) × (routes.old.next + 1 ≡ 2 ^ 64)) }
+    ensures routed { IfOk result (λ more. more ≡ true → ForPutsOf windows.old (λ f. IsRouted tree.now.shards clock enforced f item routes.old routes.new windows.new)) }
+    ensures spent { IfOk result (λ more. more ≡ false → ForPutsOf windows.old (λ f. (is_held tree.now.shards clock enforced f item ≡ false) × (routes.old.next + 1 ≡ 2 ^ 64))) }
     ensures placed { IfOk result (λ more. more ≡ true → (first : ℕ) → ArePlaced tree.now.shards clock first routes.old → ArePlaced tree.now.shards clock first routes.new) }
     ensures counted { AllByRecursion (IsCounted clock) windows.new }
 {
@@ -158,9 +158,9 @@ pub fn route_all(
 ) -> Result<Option<Routes>, Memory>
     requires many { length windows.old ≡ length tree.now.shards }
     requires counted { AllByRecursion (IsCounted clock) windows.old }
-    ensures routed { IfOk result (λ o. IfSome o (λ r. (f : ℕ → List SizedPut) → StandFor f 0 windows.old → AreRouted tree.now.shards clock enforced f first items.items r windows.new)) }
+    ensures routed { IfOk result (λ o. IfSome o (λ r. ForPutsOf windows.old (λ f. AreRouted tree.now.shards clock enforced f first items.items r windows.new))) }
     ensures placed { IfOk result (λ o. IfSome o (λ r. ArePlaced tree.now.shards clock first r)) }
-    ensures spent { IfOk result (λ o. IfNone o ((f : ℕ → List SizedPut) → StandFor f 0 windows.old → 2 ^ 64 ≤ first + length (taken tree.now.shards clock enforced f items.items))) }
+    ensures spent { IfOk result (λ o. IfNone o (ForPutsOf windows.old (λ f. 2 ^ 64 ≤ first + length (taken tree.now.shards clock enforced f items.items)))) }
     ensures counted { AllByRecursion (IsCounted clock) windows.new }
 {
     let mut routes = Routes::new(alloc, first);

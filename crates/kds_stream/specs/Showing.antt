@@ -76,6 +76,10 @@ abbrev pub IsDecidedBy : Option Refusal → Line → Decision → Type 0
 IsDecidedBy (Some r) line d = d ≡ Refused r
 IsDecidedBy None line d = d ≡ Accepted (line ∷ []) reply.Done
 
+-- what a call refused, and else the line it adds, is the decision at the stream, of every journal that this shows
+abbrev pub RefusesAs : StreamValue → Option Refusal → (Journal → ℕ → ℕ → ℕ → Line) → (Journal → ℕ → ℕ → ℕ → Decision) → Type 0
+RefusesAs v o line d = (log : Journal) (by : ℕ) → Shows v log → IsDecidedBy o (line log v.clock by v.no) (d log v.clock by v.no)
+
 -- no further shard may be open, as a caller tells, or since as many are open in this stream alone
 abbrev pub is_full : StreamValue → Bool → Bool
 is_full v room = not room || nat_le OPEN_SHARDS (length (filter is_open v.tree))

@@ -1,7 +1,7 @@
 -- The shards of a stream as a tree keeps them, and what its calls answer.
 use Rattle.std.specs.Prelude.{ℕ, ◌≡◌, ◌+◌, ◌<◌, ◌^◌, Bool, true, false, ◌&&◌, not, is_some, if◌then◌else◌, List, slice_get, Option, Some, None, Result, Ok, Err}
 use Rattle.std.specs.List.{AllByRecursion}
-use Rattle.kds_base.specs.Span.{Covers, is_inside, are_adjacent}
+use Rattle.kds_base.specs.Span.{Span, Covers, is_inside, are_adjacent, lower_part, upper_part}
 use Rattle.kds_defs.specs.declared.reply.Refusal.{Refusal}
 use Rattle.kds_defs.specs.declared.reply.Refusal.TheVariants as refusal
 use Rattle.kds_defs.specs.Shards.{ShardState, is_open, is_closed_below, range_of, split_shards, merged_shards}
@@ -34,6 +34,10 @@ pub record IsHome (xs : List ShardState) (key sh : ℕ) : Type 0 where
 abbrev pub was_expired : ℕ → Option ShardState → Bool
 was_expired floor None = false
 was_expired floor (Some x) = is_closed_below floor x
+
+-- the two ranges of a split of a shard at a key
+abbrev pub split_parts : List ShardState → ℕ → ℕ → Span × Span
+split_parts xs sh at = (lower_part (range_of (slice_get xs sh)) at, upper_part (range_of (slice_get xs sh)) at)
 
 -- ---- refusals, the first that holds
 

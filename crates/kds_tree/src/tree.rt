@@ -2,7 +2,7 @@
 ghost use Rattle.std.specs.Prelude.{◌≡◌, ◌+◌, ◌-◌, ◌^◌, ◌<◌, ◌≤◌, ℕ, min, length, nat_lt, map, take, slice_get, Some, IsSome, IfOk, IfSome, OnOk, OnErr, IsOk};
 ghost use Rattle.std.specs.List.{AllByRecursion, filter, position_or_len};
 ghost use Rattle.std.specs.Option.{option_map};
-ghost use Rattle.kds_base.specs.Span.{joined, lower_part, upper_part};
+ghost use Rattle.kds_base.specs.Span.{joined};
 ghost use Rattle.kds_defs.specs.declared.limits.TheConstants.{MOST_SHARDS};
 ghost use Rattle.kds_defs.specs.Listings.{are_more, is_after_shard};
 ghost use Rattle.kds_defs.specs.Scaling as scaling;
@@ -12,7 +12,7 @@ ghost use Rattle.kds_defs.specs.Shards.{children_among, home_among, is_open, lis
 ghost use Rattle.kds_defs.specs.Streams.{floor_of};
 ghost use Rattle.kds_defs.specs.Tiled.{AreNumbered, IsTiled};
 ghost use Rattle.kds_tree.specs.Starts.{AreStarts};
-ghost use Rattle.kds_tree.specs.Tree.{IsHome, IsWithinKeys, after_merge, after_split, answer_by, merge_refusal, split_refusal, was_expired};
+ghost use Rattle.kds_tree.specs.Tree.{IsHome, IsWithinKeys, after_merge, after_split, answer_by, merge_refusal, split_parts, split_refusal, was_expired};
 
 use crate::kept::Kept;
 use crate::start::{Start, home_of, put_in_order, take_away};
@@ -169,7 +169,7 @@ impl ShardTree {
 
     /// The two ranges of a split, or why it is refused.
     fn split_ranges(&self, shard: ShardNo, at: u128) -> Result<(Range, Range), Refusal>
-        ensures { result ≡ answer_by (split_refusal self.now.shards shard at) (lower_part (range_of (slice_get self.now.shards shard)) at, upper_part (range_of (slice_get self.now.shards shard)) at) }
+        ensures { result ≡ answer_by (split_refusal self.now.shards shard at) (split_parts self.now.shards shard at) }
     {
         match self.shards.get(shard.0 as usize) {
             None => Err(Refusal::NoShard),

@@ -1,8 +1,7 @@
 //! Merges of a stream's shards.
-ghost use Rattle.std.specs.Prelude.{◌≡◌, ◌≢◌, ℕ, IfOk, IfNone, None, OnErr, OnOk};
-ghost use Rattle.kds_defs.specs.Journal.{Journal};
+ghost use Rattle.std.specs.Prelude.{◌≡◌, ◌≢◌, IfOk, IfNone, None, OnErr, OnOk};
 ghost use Rattle.kds_defs.specs.StreamCommands.{last_number, merge};
-ghost use Rattle.kds_stream.specs.Showing.{Decides, IsDecidedBy, Shows, merge_line};
+ghost use Rattle.kds_stream.specs.Showing.{Decides, RefusesAs, merge_line};
 ghost use Rattle.kds_stream.specs.Value.{IsChangedAt};
 ghost use Rattle.kds_tree.specs.Tree.{merge_refusal};
 
@@ -15,7 +14,7 @@ use kds_rate::Window;
 impl Stream {
     /// Why a merge of the shard with the other is refused, if it is.
     fn merge_refusal(&self, shard: ShardNo, other: ShardNo) -> Option<Refusal>
-        ensures decided { (log : Journal) (by : ℕ) → let v = self.now in Shows v log → IsDecidedBy result (merge_line log v.clock by v.no shard other) (merge log v.clock by v.no shard other) }
+        ensures decided { RefusesAs self.now result (λ log c by s. merge_line log c by s shard other) (λ log c by s. merge log c by s shard other) }
         ensures merges { IfNone result (merge_refusal self.now.tree shard other ≡ None) }
         ensures free { IfNone result (self.now.next ≢ last_number) }
     {

@@ -1,11 +1,10 @@
 //! Splits of a stream's shards.
-ghost use Rattle.std.specs.Prelude.{◌≡◌, ◌≢◌, ◌<◌, length, ℕ, IfOk, IfNone, None, OnErr, OnOk};
+ghost use Rattle.std.specs.Prelude.{◌≡◌, ◌≢◌, ◌<◌, length, IfOk, IfNone, None, OnErr, OnOk};
 ghost use Rattle.std.specs.List.{filter};
 ghost use Rattle.kds_defs.specs.declared.limits.TheConstants.{OPEN_SHARDS};
-ghost use Rattle.kds_defs.specs.Journal.{Journal};
 ghost use Rattle.kds_defs.specs.Shards.{is_open};
 ghost use Rattle.kds_defs.specs.StreamCommands.{last_number, split_where};
-ghost use Rattle.kds_stream.specs.Showing.{Decides, IsDecidedBy, Shows, is_full, split_line};
+ghost use Rattle.kds_stream.specs.Showing.{Decides, RefusesAs, is_full, split_line};
 ghost use Rattle.kds_stream.specs.Value.{IsChangedAt};
 ghost use Rattle.kds_tree.specs.Tree.{split_refusal};
 
@@ -26,7 +25,7 @@ impl Stream {
 
     /// Why a split of the shard at the key is refused, if it is.
     fn split_refusal(&self, shard: ShardNo, at: u128, room: bool) -> Option<Refusal>
-        ensures decided { (log : Journal) (by : ℕ) → let v = self.now in Shows v log → IsDecidedBy result (split_line log v.clock by v.no shard at) (split_where (is_full v room) log v.clock by v.no shard at) }
+        ensures decided { RefusesAs self.now result (λ log c by s. split_line log c by s shard at) (λ log c by s. split_where (is_full self.now room) log c by s shard at) }
         ensures splits { IfNone result (split_refusal self.now.tree shard at ≡ None) }
         ensures free { IfNone result (self.now.next ≢ last_number) }
         ensures few { IfNone result (length (filter is_open self.now.tree) < OPEN_SHARDS) }

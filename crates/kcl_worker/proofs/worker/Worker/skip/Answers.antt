@@ -10,6 +10,6 @@ pub invariant_of-self : goal.invariant_of-self
 invariant_of-self g c = (subst NoneOver (sym c.settle.ensures.live) (live_on c.self.inside.consumers.items), tt, c.settle.ensures.room, c.self.invariant.3, c.self.invariant.4, within_settled g.P.Processor.asks (g.F.Maker.asks c.self.inside.maker) c.self.inside.consumers.items _ c.settle.ensures.live (c.self.invariant.5))
 
 pub returns-clause-absorbed : goal.returns-clause-absorbed
-returns-clause-absorbed g c = λ past now answer none st.
+returns-clause-absorbed g c = λ now answer none past st.
     unplanned_leaves g.P.Processor.stands_for _ _ c.self.view_is now answer
     c.settle.new.consumers.items (map retirement c.settle.new.retired.items) past c.requires none c.settle.ensures.live c.settle.ensures.over st

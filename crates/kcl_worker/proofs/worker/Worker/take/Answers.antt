@@ -30,7 +30,7 @@ invariant_of-self-2 g c =
     )
 
 pub returns-clause-ok : goal.returns-clause-ok
-returns-clause-ok g c = λ past answer took st.
+returns-clause-ok g c = λ answer took past st.
     let k = taking_so c.self.inside.asked c.self.inside.syncs c.self.inside.takes (subst (λ v. IsTaking v.waiting) (sym c.self.view_is) c.requires) in
     let key = c.index-rest-0.result.key in
     let taken = c.args.taken in
