@@ -69,6 +69,22 @@ is_lease_entry (entry.Kept s hours) = false
 is_lease_entry (entry.Enforced s on) = false
 is_lease_entry _ = true
 
+-- the entry is of a tenure
+abbrev pub is_tenure_entry : Entry → Bool
+is_tenure_entry (entry.Renewed t counter) = true
+is_tenure_entry (entry.Freed t counter) = true
+is_tenure_entry (entry.Opened t) = true
+is_tenure_entry (entry.Read t limit ended numbers) = true
+is_tenure_entry (entry.Given t) = true
+is_tenure_entry (entry.Marked t counter to) = true
+is_tenure_entry _ = false
+
+-- the entry is a split or a merge
+abbrev pub is_resharding : Entry → Bool
+is_resharding (entry.Split s sh at number low high) = true
+is_resharding (entry.Merged s sh other number child) = true
+is_resharding _ = false
+
 -- a text of this version can have the line
 pub record IsEntryLine (version : ℕ) (line : EntryLine) : Type 0 where
   pub clock : line.clock < 2 ^ 62

@@ -1,7 +1,7 @@
 //! Lines of a journal as text of the second version, each made in a room of its own and added whole.
 ghost use Rattle.std.specs.Prelude.{◌≡◌, ◌∷◌, ◌++◌, decimal, true, OnOk, OnErr};
 ghost use Rattle.kcl_journal.specs.Entries.{end_spelling, ended_text, entry_spelling, entry_text, heading, numbers_text, switch_text};
-ghost use Rattle.kcl_journal.specs.Ranges.{is_lease_entry};
+ghost use Rattle.kcl_journal.specs.Ranges.{is_lease_entry, is_resharding, is_tenure_entry};
 
 use crate::line::EntryLine;
 use kcl_text::{
@@ -60,27 +60,12 @@ fn number_fields(alloc: Global, numbers: &[Seq], to: &mut Octets) -> Result<(), 
     Ok(())
 }
 
-/// Adds the text of an entry of a lease.
-fn fill_lease(alloc: Global, what: &Entry, to: &mut Octets) -> Result<(), Memory>
-    requires { is_lease_entry what.now ≡ true }
+/// Adds the text of an entry of a tenure.
+fn fill_tenure(alloc: Global, what: &Entry, to: &mut Octets) -> Result<(), Memory>
+    requires { is_tenure_entry what.now ≡ true }
     ensures { OnOk result (to.new ≡ to.old ++ entry_text 2 what.now) }
 {
     match what {
-        Entry::LeaseMade { key, from } => {
-            with_key(alloc, b"lease".as_slice(), *key, to)?;
-            origin_field(alloc, *from, to)
-        }
-        Entry::Taken {
-            key,
-            tenure,
-            counter,
-            owner,
-        } => {
-            with_key(alloc, b"taken".as_slice(), *key, to)?;
-            number_field(alloc, tenure.0, to)?;
-            number_field(alloc, *counter, to)?;
-            owner_field(alloc, *owner, to)
-        }
         Entry::Renewed { tenure, counter } => {
             with_numbers(alloc, b"renewed".as_slice(), tenure.0, *counter, to)
         }
@@ -107,9 +92,66 @@ fn fill_lease(alloc: Global, what: &Entry, to: &mut Octets) -> Result<(), Memory
             with_numbers(alloc, b"marked".as_slice(), tenure.0, *counter, to)?;
             target_field(alloc, *target, to)
         }
+        _ => unreachable!(),
+    }
+}
+
+/// Adds the text of an entry of a lease.
+fn fill_lease(alloc: Global, what: &Entry, to: &mut Octets) -> Result<(), Memory>
+    requires { is_lease_entry what.now ≡ true }
+    ensures { OnOk result (to.new ≡ to.old ++ entry_text 2 what.now) }
+{
+    match what {
+        Entry::LeaseMade { key, from } => {
+            with_key(alloc, b"lease".as_slice(), *key, to)?;
+            origin_field(alloc, *from, to)
+        }
+        Entry::Taken {
+            key,
+            tenure,
+            counter,
+            owner,
+        } => {
+            with_key(alloc, b"taken".as_slice(), *key, to)?;
+            number_field(alloc, tenure.0, to)?;
+            number_field(alloc, *counter, to)?;
+            owner_field(alloc, *owner, to)
+        }
         Entry::LeaseCut { key, counter } => {
             with_key(alloc, b"cut".as_slice(), *key, to)?;
             number_field(alloc, *counter, to)
+        }
+        _ => fill_tenure(alloc, what, to),
+    }
+}
+
+/// Adds the text of a split or a merge.
+fn fill_resharding(alloc: Global, what: &Entry, to: &mut Octets) -> Result<(), Memory>
+    requires { is_resharding what.now ≡ true }
+    ensures { OnOk result (to.new ≡ to.old ++ entry_text 2 what.now) }
+{
+    match what {
+        Entry::Split {
+            stream,
+            shard,
+            at,
+            seq,
+            low,
+            high,
+        } => {
+            with_numbers(alloc, b"split".as_slice(), stream.0, shard.0, to)?;
+            hash_field(alloc, *at, to)?;
+            three_numbers(alloc, seq.0, low.0, high.0, to)
+        }
+        Entry::Merged {
+            stream,
+            shard,
+            other,
+            seq,
+            child,
+        } => {
+            with_numbers(alloc, b"merged".as_slice(), stream.0, shard.0, to)?;
+            three_numbers(alloc, other.0, seq.0, child.0, to)
         }
         _ => unreachable!(),
     }
@@ -145,28 +187,7 @@ fn fill_entry(alloc: Global, what: &Entry, to: &mut Octets) -> Result<(), Memory
             number_field(alloc, *bytes, to)?;
             number_field(alloc, *key_bytes, to)
         }
-        Entry::Split {
-            stream,
-            shard,
-            at,
-            seq,
-            low,
-            high,
-        } => {
-            with_numbers(alloc, b"split".as_slice(), stream.0, shard.0, to)?;
-            hash_field(alloc, *at, to)?;
-            three_numbers(alloc, seq.0, low.0, high.0, to)
-        }
-        Entry::Merged {
-            stream,
-            shard,
-            other,
-            seq,
-            child,
-        } => {
-            with_numbers(alloc, b"merged".as_slice(), stream.0, shard.0, to)?;
-            three_numbers(alloc, other.0, seq.0, child.0, to)
-        }
+        Entry::Split { .. } | Entry::Merged { .. } => fill_resharding(alloc, what, to),
         Entry::Kept { stream, hours } => {
             with_numbers(alloc, b"kept".as_slice(), stream.0, *hours as u64, to)
         }

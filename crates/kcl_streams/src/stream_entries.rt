@@ -3,7 +3,7 @@ ghost use Rattle.std.specs.Prelude.{ℕ, Bool, ◌≡◌, ◌≤◌, ◌-◌, �
 ghost use Rattle.kds_defs.specs.declared.reply.Refusal.TheVariants as refusal;
 ghost use Rattle.kcl_streams.specs.declared.rule.Rule.TheVariants as rule;
 ghost use Rattle.kcl_streams.specs.Verdict.{IsFit};
-ghost use Rattle.kcl_streams.specs.Judging.{changed_at, in_live, made_verdict, merge_verdict, new_stream, put_verdict, split_verdict, stream_verdict, streams_after, with_gone, with_hours, with_limits, with_merge, with_put, with_split};
+ghost use Rattle.kcl_streams.specs.Judging.{changed_at, in_live, lacks_room, made_verdict, merge_verdict, new_stream, put_verdict, split_verdict, stream_verdict, streams_after, with_gone, with_hours, with_limits, with_merge, with_put, with_split};
 ghost use Rattle.kcl_streams.specs.Standing.{live_at};
 
 use crate::rule::Rule;
@@ -33,6 +33,23 @@ fn in_stream(streams: &[Stream], no: StreamNo) -> Result<&Stream, Rule>
         Some(stream) => Ok(stream),
         None => Err(Rule::By(Refusal::NoStream)),
     }
+}
+
+/// Whether a split of a shard of a live stream is good at a clock.
+fn judge_split(
+    streams: &[Stream],
+    clock: Moment,
+    no: StreamNo,
+    shard: ShardNo,
+    at: u128,
+    seq: Seq,
+    low: ShardNo,
+    high: ShardNo,
+) -> Result<(), Rule>
+    ensures { result ≡ in_live (live_at streams.now no) (λ v. split_verdict v clock shard at (lacks_room streams.now 1) seq low high) }
+{
+    let stream = in_stream(streams, no)?;
+    stream.judge_split(clock, shard, at, lacks_room(streams, 1), seq, low, high)
 }
 
 /// Whether an entry of a stream is good at a clock.
@@ -68,15 +85,7 @@ pub fn judge(streams: &[Stream], clock: Moment, what: &Entry) -> Result<(), Rule
             seq,
             low,
             high,
-        } => in_stream(streams, *stream)?.judge_split(
-            clock,
-            *shard,
-            *at,
-            lacks_room(streams, 1),
-            *seq,
-            *low,
-            *high,
-        ),
+        } => judge_split(streams, clock, *stream, *shard, *at, *seq, *low, *high),
         Entry::Merged {
             stream,
             shard,
@@ -191,11 +200,8 @@ pub fn add(
             stream: _,
             name,
             shards,
-        } => add_made(alloc, streams, name, shards),
-        Entry::Gone { stream } => {
-            add_gone(streams, stream);
-            Ok(())
-        }
+        } => add_made(alloc, streams, name, shards)?,
+        Entry::Gone { stream } => add_gone(streams, stream),
         Entry::Put {
             stream,
             shard,
@@ -203,7 +209,7 @@ pub fn add(
             hash: _,
             bytes,
             key_bytes,
-        } => add_put(streams, clock, stream, shard, seq, bytes + key_bytes),
+        } => add_put(streams, clock, stream, shard, seq, bytes + key_bytes)?,
         Entry::Split {
             stream,
             shard,
@@ -211,22 +217,17 @@ pub fn add(
             seq,
             low: _,
             high: _,
-        } => add_split(streams, clock, stream, shard, at, seq),
+        } => add_split(streams, clock, stream, shard, at, seq)?,
         Entry::Merged {
             stream,
             shard,
             other,
             seq,
             child: _,
-        } => add_merge(streams, clock, stream, shard, other, seq),
-        Entry::Kept { stream, hours } => {
-            add_kept(streams, clock, stream, hours);
-            Ok(())
-        }
-        Entry::Enforced { stream, on } => {
-            add_limits(streams, stream, on);
-            Ok(())
-        }
-        _ => Ok(()),
+        } => add_merge(streams, clock, stream, shard, other, seq)?,
+        Entry::Kept { stream, hours } => add_kept(streams, clock, stream, hours),
+        Entry::Enforced { stream, on } => add_limits(streams, stream, on),
+        _ => (),
     }
+    Ok(())
 }

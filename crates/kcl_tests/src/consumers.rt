@@ -66,6 +66,17 @@ fn asked(rt: &impl Abort, c: &Consumer<Refusing>) -> Command {
     c.next(1)
 }
 
+/// Whether it sets a checkpoint to the end of its shard.
+fn marks_end(what: &Command) -> bool {
+    matches!(
+        what,
+        Command::Mark {
+            to: Target::End,
+            ..
+        }
+    )
+}
+
 fn record(rt: &HostRuntime) -> Result<Items<Stored>, Fail> {
     let mut batch = Items::new(rt.alloc());
     batch.push(Stored {
@@ -108,15 +119,7 @@ fn a_refused_call_is_due_again(rt: HostRuntime) -> Result<(), Fail> {
     assert!(rt; matches!(asked(&rt, &c), Command::Give { .. }));
     c.absorb(Ok(Reply::Given { delivered: 6 }));
     refused_and_granted(&rt, &mut c, Due::ShardEnded);
-    assert!(rt;
-        matches!(
-            asked(&rt, &c),
-            Command::Mark {
-                to: Target::End,
-                ..
-            }
-        )
-    );
+    assert!(rt; marks_end(&asked(&rt, &c)));
     c.lose();
     refused_and_granted(&rt, &mut c, Due::LeaseLost);
     assert!(rt; c.over().is_some());

@@ -1,6 +1,6 @@
 //! Commands for leases as text, each made in a room of its own and added whole.
-ghost use Rattle.std.specs.Prelude.{◌≡◌, ◌∷◌, ◌++◌, false, OnOk, OnErr};
-ghost use Rattle.kds_defs.specs.Kinds.{is_service};
+ghost use Rattle.std.specs.Prelude.{◌≡◌, ◌∷◌, ◌++◌, false, true, OnOk, OnErr};
+ghost use Rattle.kds_defs.specs.Kinds.{is_counted, is_service};
 ghost use Rattle.kcl_text.specs.Fields.{worker_text};
 ghost use Rattle.kcl_text.specs.Commands.{target_text, command_text};
 ghost use Rattle.kcl_text.specs.Origins.{origin_text};
@@ -40,6 +40,39 @@ pub fn origin_field(alloc: Global, from: Origin, to: &mut Octets) -> Result<(), 
     }
 }
 
+/// Adds the one text of a command that names a tenure, and a counter or a place. After `Memory` a front of it may have
+/// been added.
+fn fill_counted(alloc: Global, what: &Command, to: &mut Octets) -> Result<(), Memory>
+    requires { is_counted what.now ≡ true }
+    ensures { OnOk result (to.new ≡ to.old ++ command_text what.now) }
+{
+    match what {
+        Command::Renew { tenure, counter } => {
+            with_numbers(alloc, b"renew".as_slice(), tenure.0, *counter, to)
+        }
+        Command::Free { tenure, counter } => {
+            with_numbers(alloc, b"free".as_slice(), tenure.0, *counter, to)
+        }
+        Command::Read {
+            tenure,
+            position,
+            limit,
+        } => {
+            with_numbers(alloc, b"read".as_slice(), tenure.0, *position, to)?;
+            number_field(alloc, *limit as u64, to)
+        }
+        Command::Mark {
+            tenure,
+            counter,
+            to: target,
+        } => {
+            with_numbers(alloc, b"mark".as_slice(), tenure.0, *counter, to)?;
+            target_field(alloc, *target, to)
+        }
+        _ => unreachable!(),
+    }
+}
+
 /// Adds the one text of a command. After `Memory` a front of it may have been added.
 fn fill_command(alloc: Global, what: &Command, to: &mut Octets) -> Result<(), Memory>
     requires { is_service what.now ≡ false }
@@ -60,35 +93,13 @@ fn fill_command(alloc: Global, what: &Command, to: &mut Octets) -> Result<(), Me
             number_field(alloc, *counter, to)?;
             owner_field(alloc, *owner, to)
         }
-        Command::Renew { tenure, counter } => {
-            with_numbers(alloc, b"renew".as_slice(), tenure.0, *counter, to)
-        }
-        Command::Free { tenure, counter } => {
-            with_numbers(alloc, b"free".as_slice(), tenure.0, *counter, to)
-        }
         Command::OpenShard { tenure } => with_number(alloc, b"open".as_slice(), tenure.0, to),
-        Command::Read {
-            tenure,
-            position,
-            limit,
-        } => {
-            with_numbers(alloc, b"read".as_slice(), tenure.0, *position, to)?;
-            number_field(alloc, *limit as u64, to)
-        }
         Command::Give { tenure } => with_number(alloc, b"give".as_slice(), tenure.0, to),
-        Command::Mark {
-            tenure,
-            counter,
-            to: target,
-        } => {
-            with_numbers(alloc, b"mark".as_slice(), tenure.0, *counter, to)?;
-            target_field(alloc, *target, to)
-        }
         Command::CutLease { key, counter } => {
             with_key(alloc, b"cut".as_slice(), *key, to)?;
             number_field(alloc, *counter, to)
         }
-        _ => unreachable!(),
+        _ => fill_counted(alloc, what, to),
     }
 }
 

@@ -4,12 +4,13 @@ ghost use Rattle.serde_json.specs.View.{view};
 ghost use Rattle.serde_json.specs.Written.{compact_text, has_float};
 ghost use Rattle.kds_defs.specs.Kinds.{is_service_answer, is_service_reply};
 ghost use Rattle.kds_reply.specs.Replies.{reply_text, reply_of};
+ghost use Rattle.kds_reply.specs.Streams.{described_data};
 
 use crate::shards::shards_value;
 use crate::streams::{described_value, scaled_value, streams_value, summary_value};
 use kds_base::{Memory, Octets};
 use kds_body::{BAD_REQUEST, batch_text, iterator_text, outcomes_text, place_text, refusal_body};
-use kds_defs::{Answer, Reply};
+use kds_defs::{About, Answer, Reply, Shard};
 use serde_json::Value;
 use std::alloc::Global;
 
@@ -22,6 +23,19 @@ fn value_text(alloc: Global, value: &Value) -> Result<Octets, Memory>
     ensures { IfOk result (λ o. o ≡ compact_text (view value.now)) }
 {
     Ok(Octets::unshared(value.to_vec(alloc)?))
+}
+
+/// The text of what DescribeStream tells.
+fn described_text(
+    alloc: Global,
+    about: &About,
+    shards: &[Shard],
+    more: bool,
+) -> Result<Octets, Memory>
+    ensures { IfOk result (λ o. o ≡ compact_text (described_data about.now shards.now more)) }
+{
+    let value = described_value(alloc, about, shards, more)?;
+    value_text(alloc, &value)
 }
 
 fn reply_body(alloc: Global, reply: &Reply) -> Result<Octets, Memory>
@@ -38,10 +52,7 @@ fn reply_body(alloc: Global, reply: &Reply) -> Result<Octets, Memory>
             about,
             shards,
             more,
-        } => {
-            let value = described_value(alloc, about, shards.as_slice(), *more)?;
-            value_text(alloc, &value)
-        }
+        } => described_text(alloc, about, shards.as_slice(), *more),
         Reply::Summary { about, open_shards } => {
             let value = summary_value(alloc, about, *open_shards)?;
             value_text(alloc, &value)

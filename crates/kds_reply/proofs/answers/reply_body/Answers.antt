@@ -1,11 +1,8 @@
-use Rattle.kds_reply.proofs.Plain.{streams_plain, described_plain, summary_plain, scaled_plain, shards_plain}
+use Rattle.kds_reply.proofs.Plain.{streams_plain, summary_plain, scaled_plain, shards_plain}
 use Rattle.kds_reply.proofs.answers.reply_body.Goals as goal
 
 pub value_text-requires : goal.value_text-requires
 value_text-requires c = rw c.in_ok-value-in-Streams.ensures (streams_plain _ _)
-
-pub value_text-requires-in-Described : goal.value_text-requires-in-Described
-value_text-requires-in-Described c = rw c.in_ok-value-in-Described.ensures (described_plain _ _ _)
 
 pub value_text-requires-in-Summary : goal.value_text-requires-in-Summary
 value_text-requires-in-Summary c = rw c.in_ok-value-in-Summary.ensures (summary_plain _ _)
