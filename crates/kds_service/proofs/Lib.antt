@@ -6,6 +6,7 @@ pub mod KeyedShards
 pub mod Leading
 pub mod Lives
 pub mod Lists
+pub mod NameOrder
 pub mod Names
 pub mod Numbers
 pub mod Readings

@@ -1,9 +1,9 @@
 //! The names of the streams.
-ghost use Rattle.std.specs.Prelude.{◌≡◌, ◌≤◌, IfOk, OnErr, OnOk, filter, insert, length, take};
+ghost use Rattle.std.specs.Prelude.{◌≡◌, IfOk, filter, map, take};
 ghost use Rattle.indexmap.specs.IndexMap.{values};
 ghost use Rattle.kds_defs.specs.declared.command.Command.TheVariants as command;
 ghost use Rattle.kds_defs.specs.Lawful.{IsLimit};
-ghost use Rattle.kds_defs.specs.Listings.{are_more, is_after_name, name_before, names_in_order, with_name};
+ghost use Rattle.kds_defs.specs.Listings.{are_more, is_after_name, name_before, names_in_order};
 ghost use Rattle.kds_service.specs.Shown.{LeadsTo, names_of};
 
 use crate::places::Streams;
@@ -18,39 +18,15 @@ fn is_before(a: &Name, b: &Name) -> bool
     a.bytes().cmp(b.bytes()).is_lt()
 }
 
-/// The place of the first of the names that the name comes before, or their number.
-fn place_before(names: &[Name], name: &Name) -> usize
-    ensures within { result ≤ length names.now }
-    ensures value { insert names.now result name.now ≡ with_name name.now names.now }
-{
-    for (i, other) in names.iter().enumerate() {
-        if is_before(name, other) {
-            return i;
-        }
-    }
-    names.len()
-}
-
-/// Adds a name to names in order.
-fn add(names: &mut Vec<Name>, name: Name) -> Result<(), Memory>
-    ensures ok { OnOk result (names.new.items ≡ with_name name names.old.items) }
-{
-    let place = place_before(names.as_slice(), &name);
-    names.insert(place, name)?;
-    Ok(())
-}
-
 /// The names of the streams in the order of their bytes.
-fn in_order(alloc: Global, streams: &Streams) -> Result<Vec<Name>, Memory>
-    ensures { IfOk result (λ names. names.items ≡ names_in_order (names_of (values streams.now))) }
+fn in_order(alloc: Global, streams: &Streams) -> Result<Vec<&Name>, Memory>
+    ensures { IfOk result (λ names. map (λ n. n.now) names.items ≡ names_in_order (names_of (values streams.now))) }
 {
     let mut names = Vec::new(alloc);
-    let mut left = streams.len();
-    while left > 0 {
-        left -= 1;
-        let name = streams[left].name().copy(alloc)?;
-        add(&mut names, name)?;
+    for i in 0..streams.len() {
+        names.push(streams[i].name())?;
     }
+    names.sort_unstable_by(|a, b| a.bytes().cmp(b.bytes()));
     Ok(names)
 }
 
@@ -67,12 +43,12 @@ fn is_after(after: &Option<Name>, name: &Name) -> bool
 /// At most `limit` of the names, from after the one at which the listing begins, and whether more follow.
 fn first_after(
     alloc: Global,
-    names: &[Name],
+    names: &[&Name],
     after: &Option<Name>,
     limit: u32,
 ) -> Result<(Items<Name>, bool), Memory>
-    ensures names { IfOk result (λ r. r.0 ≡ take limit (filter (is_after_name after.now) names.now)) }
-    ensures more { IfOk result (λ r. r.1 ≡ are_more limit (filter (is_after_name after.now) names.now)) }
+    ensures names { IfOk result (λ r. r.0 ≡ take limit (filter (is_after_name after.now) (map (λ n. n.now) names.now))) }
+    ensures more { IfOk result (λ r. r.1 ≡ are_more limit (filter (is_after_name after.now) (map (λ n. n.now) names.now))) }
 {
     let mut first = Items::new(alloc);
     for name in names {

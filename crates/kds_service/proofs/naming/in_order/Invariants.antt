@@ -1,15 +1,8 @@
-use Rattle.std.proofs.Common.{◌≡◌, ◌≤◌, length, drop}
+use Rattle.std.proofs.Common.{◌≡◌, ◌++◌, drop, map}
 use Rattle.indexmap.specs.IndexMap.{values}
-use Rattle.kds_defs.specs.Listings.{names_in_order}
 use Rattle.kds_service.specs.Shown.{names_of}
 use Rattle.kds_service.proofs.naming.in_order.Given as goal
 
--- the names of the streams that are done are in order
-abbrev pub invariant-loop-left : goal.invariant-loop-left
-invariant-loop-left l = record {
-  sorted : l.names.items ≡ names_in_order (names_of (drop l.left (values l.streams)));
-  within : l.left ≤ length (values l.streams);
-}
-
-abbrev pub decreases-loop-left : goal.decreases-loop-left
-decreases-loop-left l = l.left
+-- with the names that are left, the names so far are all of them
+abbrev pub invariant-loop-i : goal.invariant-loop-i
+invariant-loop-i l = map (λ n. n.now) l.names.items ++ names_of (drop l.i (values l.streams)) ≡ names_of (values l.streams)
