@@ -13,6 +13,3 @@ pub use generator::{Generator, generate};
 pub use laws::{apart, one_order, one_text, untrimmed};
 pub use limits::drill_limits;
 pub use records::stream_name;
-
-#[cfg(test)]
-mod tests;

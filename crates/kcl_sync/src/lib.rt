@@ -10,9 +10,6 @@ use kds_base::{Items, Memory, ShardRef};
 use kds_defs::{Origin, Row};
 use std::alloc::Global;
 
-#[cfg(test)]
-mod tests;
-
 fn is_same(a: ShardRef, b: ShardRef) -> bool
     ensures { result ≡ same_key a b }
 {

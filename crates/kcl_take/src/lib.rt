@@ -3,8 +3,6 @@
 
 mod observed;
 mod taking;
-#[cfg(test)]
-mod tests;
 
 pub use kcl_defs::{Held, TakeStep};
 pub use observed::Observed;

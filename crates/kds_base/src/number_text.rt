@@ -83,33 +83,3 @@ pub fn write_u128(_alloc: Global, n: u128, to: &mut Octets) -> Result<(), Memory
     let mut digits = Buffer::new();
     to.extend(digits.format(n).as_bytes())
 }
-
-#[cfg(test)]
-mod tests {
-    use super::*;
-    use std::test::Fail;
-
-    #[test]
-    fn texts_of_numbers(rt: HostRuntime) -> Result<(), Fail> {
-        let texts: [(&str, Option<u128>); 7] = [
-            ("", None),
-            ("0", Some(0)),
-            ("00", None),
-            ("01", None),
-            ("+1", None),
-            ("340282366920938463463374607431768211455", Some(u128::MAX)),
-            ("340282366920938463463374607431768211456", None),
-        ];
-        for (text, number) in texts {
-            assert_eq!(rt; read_u128(text.as_bytes()), number, "of {text}");
-            if let Some(n) = number {
-                let mut written = Octets::new(rt.alloc());
-                write_u128(rt.alloc(), n, &mut written)?;
-                assert_eq!(rt; written.as_slice(), text.as_bytes(), "of {text}");
-            }
-        }
-        assert_eq!(rt; read_u64(b"18446744073709551615"), Some(u64::MAX));
-        assert_eq!(rt; read_u64(b"18446744073709551616"), None);
-        Ok(())
-    }
-}

@@ -9,8 +9,6 @@ mod judge;
 mod laws;
 mod numbers;
 mod target;
-#[cfg(test)]
-mod tests;
 mod values;
 mod write;
 

@@ -101,20 +101,3 @@ fn is_too_much(taken: &Taken, bytes: u64) -> bool
     taken.records >= SECOND_RECORDS
         || (taken.records > 0 && taken.bytes.saturating_add(bytes) > SECOND_BYTES)
 }
-
-#[cfg(test)]
-mod tests {
-    use super::*;
-
-    #[test]
-    fn a_second_of_bytes(rt: HostRuntime) {
-        let mut window = Window::new();
-        let now = Moment::start();
-        assert!(rt; window.admits(now, 2_000_000));
-        window.count(now, 1_048_576);
-        assert!(rt; window.admits(now, 0));
-        assert!(rt; !window.admits(now, 1));
-        let later = Moment::new(1_000).unwrap_or(now);
-        assert!(rt; window.admits(later, 2_000_000));
-    }
-}

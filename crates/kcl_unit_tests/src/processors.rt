@@ -1,7 +1,7 @@
 //! What stock processors keep and ask, of two batches.
-use crate::{Kind, Lines, Stock, Tally};
 use kcl_consumer::{Maker, Processor};
 use kcl_defs::Ask;
+use kcl_proc::{Kind, Lines, Stock, Tally};
 use kds_base::{Checkpoint, Moment, Octets, Seq, ShardNo, ShardRef, StreamNo};
 use kds_defs::Stored;
 use std::test::Fail;

@@ -1,5 +1,5 @@
 //! The first commands of a worked drill.
-use crate::generate;
+use kcl_drill::generate;
 use kds_defs::Command;
 use std::test::Fail;
 

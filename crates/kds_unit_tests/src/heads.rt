@@ -1,6 +1,6 @@
 //! Heads at the edges of the table, and the text of responses.
-use crate::{Found, head, response};
 use kds_base::Octets;
+use kds_head::{Found, head, response};
 use std::test::Fail;
 
 /// The status of a finding: 0 where more is needed, 200 for a whole head.

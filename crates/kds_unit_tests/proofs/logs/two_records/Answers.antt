@@ -2,7 +2,7 @@ use Rattle.std.proofs.Common.{◌≡◌, ℕ, ◌≤◌, List, [], ◌∷◌, �
 use Rattle.std.specs.List.{AllByRecursion}
 use Rattle.kds_defs.specs.Records.{Logged}
 use Rattle.kds_log.specs.Log.{LogValue}
-use Rattle.kds_log.proofs.shard_log.tests.two_records.Goals as goal
+use Rattle.kds_unit_tests.proofs.logs.two_records.Goals as goal
 
 -- what holds of the one record of a log
 of_one : (new old : List Logged) (r : Logged) (moment : ℕ) → new ≡ old ++ r ∷ [] → old ≡ [] → r.arrival ≤ moment → AllByRecursion (λ (x : Logged). x.arrival ≤ moment) new

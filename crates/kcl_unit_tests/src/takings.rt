@@ -1,5 +1,6 @@
 //! The worked row on stealing: five rows of one worker, six rows of two, and when a row is expired.
-use crate::{Held, Observed, TakeStep, plan};
+use kcl_defs::{Held, TakeStep};
+use kcl_take::{Observed, plan};
 use kds_base::{Checkpoint, Moment, Seq, ShardNo, ShardRef, StreamNo, TenureNo, WorkerNo};
 use kds_defs::Row;
 use std::test::Fail;

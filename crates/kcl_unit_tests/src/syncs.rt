@@ -1,5 +1,6 @@
 //! A worked row: a listed shard has no row, and a row's shard isn't listed.
-use crate::{SyncStep, plan};
+use kcl_defs::SyncStep;
+use kcl_sync::plan;
 use kds_base::{Checkpoint, Items, Seq, ShardNo, ShardRef, StreamNo, TenureNo};
 use kds_defs::{Origin, Row};
 use std::test::Fail;

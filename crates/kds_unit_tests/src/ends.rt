@@ -1,5 +1,5 @@
 //! What no clause says of the ends over the machine.
-use crate::{Door, Sink, Source, StdSink, StdSource, TcpDoor, write_all};
+use kds_ends::{Door, Sink, Source, StdSink, StdSource, TcpDoor, write_all};
 use std::io;
 use std::io::{Read, Write};
 use std::net::{TcpListener, TcpStream};
