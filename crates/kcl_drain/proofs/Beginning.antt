@@ -17,7 +17,8 @@ use Rattle.kds_defs.specs.Decision.{Accepted}
 use Rattle.kds_defs.specs.Histories.{journal}
 use Rattle.kds_defs.specs.Journal.{Journal}
 use Rattle.kds_defs.specs.Keys.{same_key}
-use Rattle.kds_defs.specs.LeaseCommands.{least, open_shard}
+use Rattle.kds_defs.specs.LeaseCommands.{open_shard}
+use Rattle.kds_defs.specs.RowWrites.{least}
 use Rattle.kds_defs.specs.Leases.{is_end, place_of, row, taken_count, taken_row}
 use Rattle.kds_defs.specs.Records.{Logged, next_number}
 use Rattle.kds_defs.specs.Shards.{start_of}

@@ -19,7 +19,8 @@ use Rattle.kds_defs.specs.Decision.{Accepted}
 use Rattle.kds_defs.specs.Histories.{journal}
 use Rattle.kds_defs.specs.Journal.{Journal, plain_line}
 use Rattle.kds_defs.specs.Keys.{is_listed_key, same_key}
-use Rattle.kds_defs.specs.LeaseCommands.{give, least, mark, read, read_reply}
+use Rattle.kds_defs.specs.LeaseCommands.{give, mark, read, read_reply}
+use Rattle.kds_defs.specs.RowWrites.{least}
 use Rattle.kds_defs.specs.Leases.{ReadDone, is_key, marked_row, row, taken_count}
 use Rattle.kds_defs.specs.Listings.{are_none, is_closed_at}
 use Rattle.kds_defs.specs.Records.{Logged, batch, beginning, numbers_of, place_after, stored}

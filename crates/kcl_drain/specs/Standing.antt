@@ -8,7 +8,7 @@ use Rattle.kds_defs.specs.declared.reply.Reply.TheVariants as reply
 use Rattle.kds_defs.specs.declared.reply.Row.{Row}
 use Rattle.kds_defs.specs.Histories.{clock, journal}
 use Rattle.kds_defs.specs.Journal.{Journal}
-use Rattle.kds_defs.specs.LeaseCommands.{least}
+use Rattle.kds_defs.specs.RowWrites.{least}
 use Rattle.kds_defs.specs.Leases.{ReadDone, is_end, row, taken_count}
 use Rattle.kds_defs.specs.Listings.{ends_at}
 use Rattle.kds_defs.specs.Records.{Logged, batch, numbers_of, place_after, stored}

@@ -14,7 +14,8 @@ use Rattle.kds_defs.specs.Decision.{Decision, Refused, Accepted, refuse◌if◌e
 use Rattle.kcl_laws.specs.ShownLines.{blank, entry_line, shown_journal, shown_line}
 use Rattle.kds_defs.specs.Journal.{Line, Journal, plain_line}
 use Rattle.kds_defs.specs.Keys.{ref}
-use Rattle.kds_defs.specs.LeaseCommands.{is_unread, least, past_parent, past_parents, past_target, with_held, with_tenure}
+use Rattle.kds_defs.specs.LeaseCommands.{is_unread, past_parent, past_parents, past_target, with_held, with_tenure}
+use Rattle.kds_defs.specs.RowWrites.{least}
 use Rattle.kds_defs.specs.Leases.{TenureState, checkpoint_in, counter_in, floor_in, reach, reads_end, row, tenure_in}
 use Rattle.kds_defs.specs.Legal.{IsGood, IsLegal, IsReached, in_stream, reach_in, told}
 use Rattle.kds_defs.specs.Records.{place_after}

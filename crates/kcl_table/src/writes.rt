@@ -1,7 +1,7 @@
 //! The conditions of a write of one row, and the row after it.
 ghost use Rattle.std.specs.Prelude.{◌≡◌, ◌≢◌, ◌<◌, ◌≤◌, ◌-◌, ◌^◌, ℕ, Some, IfErr, IfOk, Result, Err};
 ghost use Rattle.kds_defs.specs.declared.reply.Refusal.{Refusal};
-ghost use Rattle.kds_defs.specs.LeaseCommands.{least};
+ghost use Rattle.kds_defs.specs.RowWrites.{least};
 ghost use Rattle.kds_defs.specs.Leases.{checkpoint_at, freed_row, marked_row, renewed_row, taken_row};
 ghost use Rattle.kcl_table.specs.Rows.{AreInOrder, row_of};
 ghost use Rattle.kcl_table.specs.Writes.{counted, held_answer, take_answer, target_answer};

@@ -12,7 +12,8 @@ use Rattle.kds_defs.specs.declared.reply.Row.{Row}
 use Rattle.kds_defs.specs.Decision.{Decision, Accepted}
 use Rattle.kds_defs.specs.Journal.{Journal}
 use Rattle.kds_defs.specs.Keys.{is_listed_key}
-use Rattle.kds_defs.specs.LeaseCommands.{with_tenure, with_held, take_lease, open_shard, read, read_reply, give, mark, least}
+use Rattle.kds_defs.specs.LeaseCommands.{with_tenure, with_held, take_lease, open_shard, read, read_reply, give, mark}
+use Rattle.kds_defs.specs.RowWrites.{least}
 use Rattle.kds_defs.specs.Leases.{TenureState, ReadDone, row, tenure, tenure_in, counter_in, checkpoint_in, floor_in, reads_end, reach, delivered, pending, given_reads, last_ended, is_end, taken_count}
 use Rattle.kds_defs.specs.Records.{batch, numbers_of, place_after}
 use Rattle.kds_defs.specs.StreamCommands.{last_number}

@@ -10,7 +10,8 @@ use Rattle.kds_defs.specs.declared.reply.Row.{Row}
 use Rattle.kds_defs.specs.Decision.{Decision, Accepted}
 use Rattle.kds_defs.specs.Journal.{Line, Journal, plain_line}
 use Rattle.kds_defs.specs.Keys.{is_listed_key}
-use Rattle.kds_defs.specs.LeaseCommands.{give, least, mark, open_shard, past_parents, read, read_reply, take_lease}
+use Rattle.kds_defs.specs.LeaseCommands.{give, mark, open_shard, past_parents, read, read_reply, take_lease}
+use Rattle.kds_defs.specs.RowWrites.{least}
 use Rattle.kds_defs.specs.Leases.{ReadDone, TenureState, checkpoint_at, delivered, given_reads, is_end, key_of, last_ended, place_of, reach, row, taken_count, tenure}
 use Rattle.kds_defs.specs.Records.{batch, numbers_of, place_after}
 use Rattle.kds_defs.specs.Shards.{shard_at}

@@ -6,6 +6,7 @@ pub mod Shards
 pub mod Keys
 pub mod Origins
 pub mod Leases
+pub mod RowWrites
 pub mod Decision
 pub mod StreamCommands
 pub mod Listings
