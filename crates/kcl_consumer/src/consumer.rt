@@ -157,8 +157,8 @@ fn after_ending(answer: &Answer) -> (Stage, Progress)
     }
 }
 
-/// What is told of a consumer at this stage.
-fn told_over(stage: Stage) -> Progress
+/// What is told of a consumer that waits for no answer at this stage: this one isn't needed.
+fn told_over(stage: Stage, _answer: Answer) -> Progress
     ensures { (reach : ℕ) (waiting : List Fetched) (asked : Option Target) (lost : Bool) → result ≡ told_over (over_at (phase_of stage reach waiting asked lost)) }
 {
     match stage {
@@ -423,10 +423,7 @@ impl<P: Processor> Consumer<P> {
                 let_go(answer);
                 progress
             }
-            stage => {
-                let_go(answer);
-                told_over(stage)
-            }
+            stage => told_over(stage, answer),
         }
     }
 

@@ -37,16 +37,8 @@ fn members_of_a_crowd_meet(rt: HostRuntime) -> Result<(), Fail> {
             &first_begun,
         ),
     ];
-    let fed = crowd(
-        &rt,
-        alloc,
-        &hall,
-        &mut root,
-        &mut feeder,
-        members.as_mut_slice(),
-        1,
-        0,
-    );
+    let crew = members.as_mut_slice();
+    let fed = crowd(&rt, alloc, &hall, &mut root, &mut feeder, crew, 1, 0);
     assert_eq!(rt; fed, Ok(()));
     for m in members.iter() {
         assert_eq!(rt; m.outcome, Ok(()));

@@ -16,7 +16,7 @@ use kcl_book::Book;
 use kcl_leases::{Shards, cut, free, give, make, mark, open, reader, renew, start, take};
 use kcl_streams::{Rule, Streams, live};
 use kcl_table::Table;
-use kds_base::{Memory, Seq, ShardNo, ShardRef, StreamNo, TenureNo, WorkerNo};
+use kds_base::{Items, Memory, Seq, ShardNo, ShardRef, StreamNo, TenureNo, WorkerNo};
 use kds_defs::{Answer, Entry, Origin, Refusal, Shard, Target, place_after_numbers};
 use std::alloc::Global;
 
@@ -100,7 +100,7 @@ fn read(
     no: TenureNo,
     limit: u32,
     end: bool,
-    numbers: &[Seq],
+    numbers: &Items<Seq>,
 ) -> Result<Result<(), Rule>, Memory>
     requires stands { (log : Journal) × HoldBeside shards.now table.now book.old.tenures log }
     ensures judged { IfOk result (JudgesBeside shards.now table.now book.old.tenures table.now book.new.tenures by (entry.Read no limit end numbers.now)) }
@@ -121,7 +121,7 @@ fn read(
     if !same_end(ends, end) {
         return Ok(Err(Rule::Entry));
     }
-    if !same_numbers(batch.as_slice(), numbers) {
+    if !same_numbers(batch.as_slice(), numbers.as_slice()) {
         return Ok(Err(Rule::Entry));
     }
     book.read(no, place_after_numbers(position, batch.as_slice()), ends);
@@ -324,21 +324,11 @@ pub fn entry(
         Entry::Freed { tenure, counter } => Ok(freed(shards, table, book, by, *tenure, *counter)),
         Entry::Opened { tenure } => Ok(opened(shards, table, book, by, *tenure)),
         Entry::Read {
-            tenure,
+            tenure: no,
             limit,
             end,
             numbers,
-        } => read(
-            alloc,
-            shards,
-            table,
-            book,
-            by,
-            *tenure,
-            *limit,
-            *end,
-            numbers.as_slice(),
-        ),
+        } => read(alloc, shards, table, book, by, *no, *limit, *end, numbers),
         Entry::Given { tenure } => Ok(given(shards, table, book, by, *tenure)),
         Entry::Marked {
             tenure,

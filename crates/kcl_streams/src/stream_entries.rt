@@ -71,13 +71,10 @@ pub fn judge(streams: &[Stream], clock: Moment, what: &Entry) -> Result<(), Rule
             hash,
             bytes,
             key_bytes,
-        } => in_stream(streams, *stream)?.judge_put(
-            clock,
-            *shard,
-            *seq,
-            *hash,
-            *bytes + *key_bytes,
-        ),
+        } => {
+            let size = *bytes + *key_bytes;
+            in_stream(streams, *stream)?.judge_put(clock, *shard, *seq, *hash, size)
+        }
         Entry::Split {
             stream,
             shard,
@@ -196,11 +193,7 @@ pub fn add(
     ensures err { OnErr result (streams.new.items ≡ streams.old.items) }
 {
     match what {
-        Entry::Made {
-            stream: _,
-            name,
-            shards,
-        } => add_made(alloc, streams, name, shards)?,
+        Entry::Made { name, shards, .. } => add_made(alloc, streams, name, shards)?,
         Entry::Gone { stream } => add_gone(streams, stream),
         Entry::Put {
             stream,
