@@ -79,8 +79,8 @@ where
     // Then the input and the output are as they were.
     ensures untouched { task_of (texts_of words.now.items) ≡ None → (input.new ≡ input.old) × (out.new ≡ out.old) }
     // Each task ends as told, and the error output is told this very end.
-    ensures ended { EndsSo result (task_of (texts_of words.now.items)) (S.left input.old) (S.left input.new) (C.moments clock)
-        (K.held out.old) (K.held out.new) (E.held err.old) (E.held err.new) (Rose (E.faults err.old) (E.faults err.new)) }
+    ensures ended { EndsSo result words.now.items (S.left input.old) (S.left input.new) (C.moments clock)
+        (K.held out.old) (K.held out.new) (E.held err.old) (E.held err.new) (E.faults err.old) (E.faults err.new) }
     // Of a schedule that is replayed, with its answers or its journal: the state of its turns is safe, at their clock, and
     // its workers' processors are called for the given reads of their tenures.
     ensures safe { (journal : Bool) → task_of (texts_of words.now.items) ≡ Some (Replay journal)
