@@ -2,5 +2,7 @@
 #![tactic(auto)]
 
 mod laws;
+mod typed;
 
 pub use laws::sound_histories;
+pub use typed::have_bits;

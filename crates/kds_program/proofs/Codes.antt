@@ -3,8 +3,12 @@ use Rattle.std.proofs.Common.{◌≡◌, ℕ, Option, Some, None, refl, ap, inl,
 use Rattle.std.specs.Prelude.{◌⊎◌}
 use Rattle.std.specs.Option.{IfSome}
 use Rattle.kds_ends.specs.declared.status.Status.{Status}
-use Rattle.kds_ends.specs.declared.status.Status.TheVariants.{Usage, Read, Write, Memory, Door}
+use Rattle.kds_ends.specs.declared.status.Status.TheVariants.{Done, Usage, Read, Write, Memory, Door}
 use Rattle.kds_ends.specs.Status.{code_of}
+
+pub done_by : (s : Status) → code_of s ≡ 0 → s ≡ Done
+done_by Done h = refl
+done_by _ h = absurd cc
 
 pub usage_by : (s : Status) → code_of s ≡ 2 → s ≡ Usage
 usage_by Usage h = refl

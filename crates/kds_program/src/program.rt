@@ -1,5 +1,5 @@
 //! The whole program.
-ghost use Rattle.std.specs.Prelude.{◌≡◌, ◌⊎◌, Bool, None, Some, IfSome};
+ghost use Rattle.std.specs.Prelude.{◌≡◌, ◌⊎◌, Bool, true, None, Some, IfSome};
 ghost use Rattle.kds_defs.specs.Histories.{clock as clock_of, journal as journal_of};
 ghost use Rattle.kds_defs.specs.Safe.{IsSafe};
 ghost use Rattle.kds_ends.specs.Causes.{Rose};
@@ -8,6 +8,7 @@ ghost use Rattle.kds_tasks.specs.declared.task.Task.TheVariants.{Replay};
 ghost use Rattle.kcl_sim.specs.Schedule.{history, ran};
 ghost use Rattle.kcl_sim.specs.Serving.{AreAllServed};
 ghost use Rattle.kds_runs.specs.Ends.{Performed};
+ghost use Rattle.kds_runs.specs.Journal.{IsAuditedSound};
 ghost use Rattle.kds_program.specs.Ends.{EndsSo};
 
 use kds_ends::{Clock, Door, Sink, Source, Status};
@@ -82,11 +83,12 @@ where
     ensures ended { EndsSo result words.now.items (S.left input.old) (S.left input.new) (C.moments clock)
         (K.held out.old) (K.held out.new) (E.held err.old) (E.held err.new) (E.faults err.old) (E.faults err.new) }
     // Of a schedule that is replayed, with its answers or its journal: the state of its turns is safe, at their clock, and
-    // its workers' processors are called for the given reads of their tenures.
+    // its workers' processors are called for the given reads of their tenures. A journal that is whole is found sound.
     ensures safe { (journal : Bool) → task_of (texts_of words.now.items) ≡ Some (Replay journal)
         → IfSome (S.left input.old) (λ bytes. IsSafe (journal_of (history bytes)) (clock_of (history bytes))) }
     ensures served { (journal : Bool) → task_of (texts_of words.now.items) ≡ Some (Replay journal)
         → IfSome (S.left input.old) (λ bytes. AreAllServed (ran bytes)) }
+    ensures sound { result ≡ 0 → task_of (texts_of words.now.items) ≡ Some (Replay true) → IfSome (S.left input.old) IsAuditedSound }
     ensures read { result ≡ 4 → Rose (S.faults input.old) (S.faults input.new) }
     ensures write { result ≡ 5 → Rose (K.faults out.old) (K.faults out.new) }
     ensures door { result ≡ 8 → Rose (D.faults door.old) (D.faults door.new) }

@@ -1,20 +1,26 @@
 -- What the writing of a journal tells, by its parts.
-use Rattle.std.proofs.Common.{◌≡◌, ℕ, true, false, List, [], ◌++◌, Option, Some, None, refl, sym, ap, ◌∙◌, subst}
-use Rattle.std.proofs.lemmas.List.{append_assoc, append-nil}
+use Rattle.std.proofs.Common.{◌≡◌, ◌≢◌, ℕ, true, false, List, [], ◌∷◌, ◌++◌, reverse, Option, Some, None, refl, sym, ap, ◌∙◌, subst}
+use Rattle.std.proofs.lemmas.List.{append_assoc, append-nil, reverse-reverse}
+use mathlib.Core.List.{reverse_aux}
 use Rattle.std.specs.Io.KnownBytes.{Appends}
 use Rattle.std.specs.Option.{IfSome}
+use Rattle.kds_defs.specs.declared.command.Turn.{Turn}
 use Rattle.kds_defs.specs.Histories.{clock}
+use Rattle.kds_defs.specs.Lawful.{IsHistory}
 use Rattle.kds_ends.proofs.Writing.{appends_more, appends_nothing, front_later}
 use Rattle.kds_ends.specs.Causes.{AppendsFront}
 use Rattle.kds_ends.specs.declared.status.Status.{Status}
 use Rattle.kds_ends.specs.declared.status.Status.TheVariants.{Done, BadLine, Read, Write, Memory, TooLong}
+use Rattle.kcl_audit.specs.Progress.{audit_of, over, sound}
+use Rattle.kcl_audit.specs.Text.{counted}
 use Rattle.kcl_recorder.specs.Recording.{lines_journal}
-use Rattle.kcl_scribe.specs.Added.{journal_text}
+use Rattle.kcl_scribe.specs.Added.{history_entries, journal_text}
 use Rattle.kcl_sim.specs.Output.{fresh, with_schedule}
 use Rattle.kcl_sim.specs.Schedule.{history, judged}
 use Rattle.kcl_sim.specs.Standing.{RunsSo, SimValue}
+use Rattle.kcl_sound.specs.Bits.{HaveBits}
 use Rattle.kds_runs.specs.Answered.{RanBy, Remains}
-use Rattle.kds_runs.specs.Journal.{EndTells, JournalTells, entries, first_line, is_done, last_line, recorded}
+use Rattle.kds_runs.specs.Journal.{EndTells, IsAuditedSound, JournalTells, entries, first_line, is_done, last_line, recorded}
 use Rattle.kds_runs.specs.Told.{TellsBy}
 
 pub nothing_written : (held : Option (List ℕ)) (xs : List ℕ) → AppendsFront held held xs
@@ -89,7 +95,10 @@ ends_with entered st all left a b c d s last done at h t r e =
     (subst (λ (x : Status). IfSome all (λ bytes. TellsBy entries x bytes left b c)) done t)
     (subst (λ (x : Status). IfSome all (λ bytes. RanBy lines_journal x bytes b c s)) done r) e
 
-false_true : false ≡ true → ⊥
+pub no_write : Write ≡ Done → ⊥
+no_write h = cc
+
+pub false_true : false ≡ true → ⊥
 false_true h = absurd cc
 
 pub done_by : (st : Status) → is_done st ≡ true → st ≡ Done
@@ -98,6 +107,30 @@ done_by _ h = absurd (false_true h)
 
 pub not_done_by : (st : Status) → is_done st ≡ false → st ≡ Done → ⊥
 not_done_by st h is = absurd (false_true (sym h ∙ ap is_done is))
+
+-- ---- the numbers of the turns
+
+onto : (xs ys : List Turn) → HaveBits xs → HaveBits ys → HaveBits (reverse_aux xs ys)
+onto [] ys a b = b
+onto (x ∷ xs) ys a b = onto xs (x ∷ ys) a.1 (a.0, b)
+
+-- the turns in the order in which they ran are those of the history
+in_order : (turns h : List Turn) → turns ≡ reverse h → HaveBits turns → HaveBits h
+in_order turns h is a = subst (λ (z : List Turn). HaveBits z) (ap reverse is ∙ reverse-reverse h) (onto turns [] a tt)
+
+-- and all of the schedule's turns ran
+pub bits_all : (entered : Status) (all b c : Option (List ℕ)) (s : SimValue) (turns : List Turn) → entered ≡ Done → turns ≡ reverse s.history → HaveBits turns
+    → IfSome all (λ bytes. RanBy lines_journal entered bytes b c s) → IfSome all (λ bytes. HaveBits (history bytes))
+bits_all entered None b c s turns done is a r = tt
+bits_all entered (Some bytes) b c s turns done is a r =
+    subst (λ (z : List Turn). HaveBits z) (all_ran bytes b c s (subst (λ (x : Status). RanBy lines_journal x bytes b c s) done r)) (in_order turns s.history is a)
+
+-- such a history's journal is sound
+pub audited_all : (all : Option (List ℕ)) → ((bytes : List ℕ) → IsHistory (history bytes))
+    → ((h : List Turn) → IsHistory h → HaveBits h → audit_of (journal_text h) ≢ over → audit_of (journal_text h) ≡ sound (counted 0 (history_entries h)))
+    → IfSome all (λ bytes. HaveBits (history bytes)) → IfSome all IsAuditedSound
+audited_all None lawful law bits = tt
+audited_all (Some bytes) lawful law bits = law (history bytes) (lawful bytes) bits
 
 -- ---- the lines that were run
 

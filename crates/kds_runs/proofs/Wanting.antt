@@ -88,11 +88,12 @@ module _ (lawful : (bytes : List ℕ) (lines later : List Line) → (judged byte
     (safe : (h : List Turn) → IsHistory h → IsSafe (journal h) (clock h))
     (served : (bytes : List ℕ) (lines later : List Line) → (judged bytes).lines ≡ lines ++ later → AreAllServed (with_schedule fresh lines)) where
   unreplayed : (journal : Bool) (all left held : Option (List ℕ)) → Replayed journal Memory all left held held
-  unreplayed journal None left held = record { kind = tt; told = tt; ran = tt }
+  unreplayed journal None left held = record { kind = tt; told = tt; ran = tt; sound = λ j e. tt }
   unreplayed journal (Some bytes) left held = record {
     kind = tt;
     told = told_none journal bytes left held;
     ran = run_safely (shown journal Memory) Memory bytes held held still lawful safe served (none_ran (shown journal Memory) bytes held);
+    sound = λ j e. absurd (not_done e);
   }
 
   pub wanting : (task : Task) (bytes left moments held : Option (List ℕ)) → Performed task Memory bytes left moments held held

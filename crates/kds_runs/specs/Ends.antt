@@ -14,7 +14,7 @@ use Rattle.kcl_script.specs.declared.line.Line.{Line}
 use Rattle.kcl_sim.specs.Output.{fresh, outputs}
 use Rattle.kds_drill.specs.Told.{DrillTells}
 use Rattle.kds_runs.specs.Answered.{RanSafely}
-use Rattle.kds_runs.specs.Journal.{JournalTells, recorded}
+use Rattle.kds_runs.specs.Journal.{IsAuditedSound, JournalTells, recorded}
 use Rattle.kds_runs.specs.Told.{IsReplayStatus, Tells}
 use Rattle.kds_runs.specs.Words.{listening}
 
@@ -30,11 +30,13 @@ abbrev pub ReplayTells : Bool → Status → List ℕ → Option (List ℕ) → 
 ReplayTells false status bytes left held now = Tells status bytes left held now
 ReplayTells true status bytes left held now = JournalTells status bytes left held now
 
--- A replay ended so: its output is told by the bytes, and the turns that ran are those of the lines that were answered.
+-- A replay ended so: its output is told by the bytes, the turns that ran are those of the lines that were answered, and an
+-- audit finds a journal sound that was written to its end.
 pub record Replayed (journal : Bool) (status : Status) (bytes left held now : Option (List ℕ)) : Type 0 where
   pub kind : IsReplayStatus status
   pub told : IfSome bytes (λ bs. ReplayTells journal status bs left held now)
   pub ran : IfSome bytes (λ bs. RanSafely (shown journal status) status bs held now)
+  pub sound : journal ≡ true → status ≡ Done → IfSome bytes IsAuditedSound
 
 -- ---- an audit
 

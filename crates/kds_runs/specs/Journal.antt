@@ -1,14 +1,16 @@
 -- What the end of a replay tells that writes the journal in place of the answers.
-use Rattle.std.specs.Prelude.{◌≡◌, ℕ, List, [], ◌∷◌, ◌++◌, Bool, true, false, Some}
+use Rattle.std.specs.Prelude.{◌≡◌, ◌≢◌, ℕ, List, [], ◌∷◌, ◌++◌, Bool, true, false, Some}
 use Rattle.std.specs.declared.option.Option.{Option}
 use Rattle.std.specs.Io.KnownBytes.{Appends}
 use Rattle.kds_ends.specs.declared.status.Status.{Status}
 use Rattle.kds_ends.specs.declared.status.Status.TheVariants.{Done, BadLine, Read, Write, Memory, TooLong}
 use Rattle.kds_ends.specs.Causes.{AppendsFront}
+use Rattle.kcl_audit.specs.Progress.{audit_of, over, sound}
+use Rattle.kcl_audit.specs.Text.{counted}
 use Rattle.kcl_journal.specs.Entries.{end_spelling, heading}
 use Rattle.kcl_recorder.specs.Recording.{lines_journal}
 use Rattle.kcl_script.specs.declared.line.Line.{Line}
-use Rattle.kcl_scribe.specs.Added.{journal_text}
+use Rattle.kcl_scribe.specs.Added.{history_entries, journal_text}
 use Rattle.kcl_sim.specs.Output.{fresh, with_schedule}
 use Rattle.kcl_sim.specs.Schedule.{whole, too_long, bad_line, ending, history, judged}
 
@@ -44,6 +46,11 @@ JournalTells Read bytes left held now = (fed : List ℕ) × (rest : List ℕ) ×
 JournalTells Write bytes left held now = AppendsFront held now (journal_text (history bytes))
 JournalTells Memory bytes left held now = AppendsFront held now (journal_text (history bytes))
 JournalTells _ bytes left held now = ⊥
+
+-- an audit finds the journal of a schedule's turns sound, with all of its entries, unless a line or the whole is too long
+abbrev pub IsAuditedSound : List ℕ → Type 0
+IsAuditedSound bytes =
+    audit_of (journal_text (history bytes)) ≢ over → audit_of (journal_text (history bytes)) ≡ sound (counted 0 (history_entries (history bytes)))
 
 -- the last line of a journal with this clock was written, or a front of it
 abbrev pub EndTells : Status → ℕ → Option (List ℕ) → Option (List ℕ) → Type 0

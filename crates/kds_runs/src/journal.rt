@@ -5,15 +5,18 @@ ghost use Rattle.std.specs.Io.KnownBytes.{Appends};
 ghost use Rattle.kds_ends.specs.Causes.{Rose};
 ghost use Rattle.kcl_recorder.specs.Recording.{lines_journal};
 ghost use Rattle.kcl_sim.specs.Output.{fresh};
+ghost use Rattle.kcl_sim.specs.Schedule.{history};
 ghost use Rattle.kcl_sim.specs.Standing.{RunsSo, SimValue};
+ghost use Rattle.kcl_sound.specs.Bits.{HaveBits};
 ghost use Rattle.kds_runs.specs.Answered.{RanBy};
-ghost use Rattle.kds_runs.specs.Journal.{EndTells, JournalTells, entries, first_line, is_done, last_line, recorded};
+ghost use Rattle.kds_runs.specs.Journal.{EndTells, IsAuditedSound, JournalTells, entries, first_line, is_done, last_line, recorded};
 ghost use Rattle.kds_runs.specs.Told.{IsReplayStatus, TellsBy};
 
 use crate::schedule::status_of;
 use kcl_journal::print_end;
 use kcl_recorder::{Recorder, line_by_line};
-use kcl_sim::one_after_another;
+use kcl_sim::{lawful, one_after_another};
+use kcl_sound::{have_bits, sound_histories};
 use kds_base::{Memory, Moment, Octets};
 use kds_defs::Machine;
 use kds_ends::{Sink, Source, Status, write_all};
@@ -85,12 +88,14 @@ fn write_rest<M: Machine, S: Source, K: Sink>(
         JournalTells result bytes (S.left input.new) start (K.held out.new)) }
     ensures ran { (start : Option (List ℕ)) → Appends start (K.held out.old) first_line → IfSome (S.left input.old) (λ bytes.
         RanBy (recorded result) result bytes start (K.held out.new) recorder.new) }
+    ensures bits { result ≡ Status.Done → IfSome (S.left input.old) (λ bytes. HaveBits (history bytes)) }
     ensures read { result ≡ Status.Read → Rose (S.faults input.old) (S.faults input.new) }
     ensures write { result ≡ Status.Write → Rose (K.faults out.old) (K.faults out.new) }
     ensures kinds { IsReplayStatus result }
 {
     let status = write_entries(alloc, recorder, input, out);
     if is_done(status) {
+        have_bits(recorder.turns());
         return write_last(alloc, recorder.clock(), out);
     }
     status
@@ -110,10 +115,15 @@ pub fn record_schedule<M: Machine + Drop, S: Source, K: Sink>(
     // The turns that ran are those of the schedule's lines that were answered: all of them, unless an end failed or memory
     // ran out.
     ensures ran { IfSome (S.left input.old) (λ bytes. (s : SimValue) × RanBy (recorded result) result bytes (K.held out.old) (K.held out.new) s) }
+
+    // What was written to its end is a legal journal.
+    ensures sound { result ≡ Status.Done → IfSome (S.left input.old) IsAuditedSound }
     ensures read { result ≡ Status.Read → Rose (S.faults input.old) (S.faults input.new) }
     ensures write { result ≡ Status.Write → Rose (K.faults out.old) (K.faults out.new) }
     ensures kinds { IsReplayStatus result }
 {
+    lawful();
+    sound_histories();
     let mut recorder = Recorder::new(alloc, machine);
     match write_all(out, b"journal 2\n".as_slice()) {
         Ok(()) => write_rest(alloc, &mut recorder, input, out),

@@ -1,5 +1,5 @@
 //! The runs of a schedule, of a connection and of a door.
-ghost use Rattle.std.specs.Prelude.{◌≡◌, ◌≤◌, [], IfSome};
+ghost use Rattle.std.specs.Prelude.{◌≡◌, ◌≤◌, [], true, IfSome};
 ghost use Rattle.kds_defs.specs.Histories.{clock as clock_of, journal as journal_of};
 ghost use Rattle.kds_defs.specs.Safe.{IsSafe};
 ghost use Rattle.kds_ends.specs.Causes.{Rose};
@@ -9,6 +9,7 @@ ghost use Rattle.kds_server.specs.Texts.{IsAnswerStatus, IsCrewStatus};
 ghost use Rattle.kds_server.specs.Serving.{Served};
 ghost use Rattle.kds_runs.specs.Answered.{RanSafely};
 ghost use Rattle.kds_runs.specs.Ends.{ReplayTells, ServeTells, shown};
+ghost use Rattle.kds_runs.specs.Journal.{IsAuditedSound};
 ghost use Rattle.kds_runs.specs.Told.{IsReplayStatus};
 
 use crate::journal::record_schedule;
@@ -46,6 +47,9 @@ pub fn run_replay<S: Source, K: Sink>(
     // So it is of all of the schedule's turns and workers.
     ensures safe { IfSome (S.left input.old) (λ bytes. IsSafe (journal_of (history bytes)) (clock_of (history bytes))) }
     ensures served { IfSome (S.left input.old) (λ bytes. AreAllServed (ran bytes)) }
+
+    // A journal that is written to its end is found sound by an audit.
+    ensures sound { journal ≡ true → result ≡ Status.Done → IfSome (S.left input.old) IsAuditedSound }
     ensures read { result ≡ Status.Read → Rose (S.faults input.old) (S.faults input.new) }
     ensures write { result ≡ Status.Write → Rose (K.faults out.old) (K.faults out.new) }
     ensures kinds { IsReplayStatus result }

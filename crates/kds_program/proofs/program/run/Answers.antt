@@ -3,7 +3,8 @@ use Rattle.kds_defs.specs.Histories.{clock, journal as journal_of}
 use Rattle.kds_defs.specs.Safe.{IsSafe}
 use Rattle.kcl_sim.specs.Schedule.{history, ran}
 use Rattle.kcl_sim.specs.Serving.{AreAllServed}
-use Rattle.kds_program.proofs.Codes.{door_by, each, read_by, refused_code, usage_by, write_by}
+use Rattle.kds_program.proofs.Asked.{sound_by}
+use Rattle.kds_program.proofs.Codes.{done_by, door_by, each, read_by, refused_code, usage_by, write_by}
 use Rattle.kds_program.proofs.program.run.Goals as goal
 
 pub returns-clause-usage : goal.returns-clause-usage
@@ -37,3 +38,8 @@ returns-clause-write g c = λ five. c.perform_words-status.ensures.write (write_
 
 pub returns-clause-door : goal.returns-clause-door
 returns-clause-door g c = λ eight. c.perform_words-status.ensures.door (door_by c.perform_words-status.result (sym c.code.ensures ∙ eight))
+
+pub returns-clause-sound : goal.returns-clause-sound
+returns-clause-sound g c = λ zero asked.
+    sound_by _ c.perform_words-status.result (g.S.Source.left c.args.input.now) _ _ _ _ c.perform_words-status.ensures.performed asked
+    (done_by c.perform_words-status.result (sym c.code.ensures ∙ zero))

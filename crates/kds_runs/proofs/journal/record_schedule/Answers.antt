@@ -1,6 +1,6 @@
 use Rattle.std.proofs.Common.{rules, ◌≡◌}
 use Rattle.kds_runs.specs.Journal.{first_line}
-use Rattle.kds_runs.proofs.Journaling.{first_broke, first_there, none_ran_all, some_ran}
+use Rattle.kds_runs.proofs.Journaling.{audited_all, first_broke, first_there, no_write, none_ran_all, some_ran}
 use Rattle.kds_runs.proofs.journal.record_schedule.Goals as goal
 
 pub returns-in-Ok-clause-told : goal.returns-in-Ok-clause-told
@@ -23,3 +23,9 @@ pub returns-clause-ran : goal.returns-clause-ran
 returns-clause-ran g c =
     let line : c.as_slice.result.now ≡ first_line = search rules in
     none_ran_all (g.S.Source.left c.args.input.now) _ _ c.new-recorder.result c.as_slice.result.now line c.new-recorder.ensures c.in-Err.ensures.err
+
+pub returns-in-Ok-clause-sound : goal.returns-in-Ok-clause-sound
+returns-in-Ok-clause-sound g c = λ done. audited_all (g.S.Source.left c.args.input.now) c.lawful.ensures.whole c.sound_histories.ensures.sound (c.write_rest.ensures.bits done)
+
+pub returns-clause-sound : goal.returns-clause-sound
+returns-clause-sound g c = λ done. absurd (no_write done)

@@ -1,6 +1,6 @@
 use Rattle.std.proofs.Common.{refl, sym, ◌∙◌}
 use Rattle.kds_runs.specs.Journal.{first_line}
-use Rattle.kds_runs.proofs.Journaling.{begins_all, done_by, ends_with, not_done_by, ran_behind_all, ran_ends_with}
+use Rattle.kds_runs.proofs.Journaling.{begins_all, bits_all, done_by, ends_with, not_done_by, ran_behind_all, ran_ends_with}
 use Rattle.kds_runs.proofs.journal.write_rest.Goals as goal
 
 pub returns-then-is_done-clause-told : goal.returns-then-is_done-clause-told
@@ -24,3 +24,11 @@ pub returns-clause-ran : goal.returns-clause-ran
 returns-clause-ran g c = λ start first.
     ran_behind_all c.write_entries-status.result (g.S.Source.left c.args.input.now) start _ _ c.write_entries-status.new.recorder
     (not_done_by c.write_entries-status.result (sym c.is_done.ensures ∙ c.if-is_done.false)) first c.write_entries-status.ensures.ran
+
+pub returns-then-is_done-clause-bits : goal.returns-then-is_done-clause-bits
+returns-then-is_done-clause-bits g c = λ done.
+    bits_all c.write_entries-status.result (g.S.Source.left c.args.input.now) _ _ c.write_entries-status.new.recorder c.turns.result.now
+    (done_by c.write_entries-status.result (sym c.is_done.ensures ∙ c.if-is_done.true)) c.turns.ensures c.have_bits.ensures c.write_entries-status.ensures.ran
+
+pub returns-clause-bits : goal.returns-clause-bits
+returns-clause-bits g c = λ done. absurd (not_done_by c.write_entries-status.result (sym c.is_done.ensures ∙ c.if-is_done.false) done)

@@ -1,6 +1,8 @@
+use Rattle.std.proofs.Common.{sym, ◌∙◌}
 use Rattle.kcl_sim.specs.Output.{fresh, outputs}
 use Rattle.kds_runs.specs.Journal.{recorded}
 use Rattle.kds_runs.proofs.Answering.{ran_safely, some_ran_safely}
+use Rattle.kds_runs.proofs.Journaling.{false_true}
 use Rattle.kds_runs.proofs.runs.run_replay.Goals as goal
 
 pub returns-then-journal-clause-told : goal.returns-then-journal-clause-told
@@ -20,3 +22,9 @@ returns-clause-ran g c =
     rw c.if-journal.false
     (ran_safely (outputs fresh) c.run_schedule.result.status (g.S.Source.left c.args.input.now) _ _ c.run_schedule.result.sim
     c.lawful.ensures.first c.safety.ensures c.served.ensures.first c.run_schedule.ensures.ran)
+
+pub returns-then-journal-clause-sound : goal.returns-then-journal-clause-sound
+returns-then-journal-clause-sound g c = λ asked done. c.record_schedule.ensures.sound done
+
+pub returns-clause-sound : goal.returns-clause-sound
+returns-clause-sound g c = λ asked done. absurd (false_true (sym c.if-journal.false ∙ asked))

@@ -7,6 +7,7 @@ returns-in-Replay-clause-performed g c =
       kind = c.run_replay.ensures.kinds;
       told = c.run_replay.ensures.told;
       ran = c.run_replay.ensures.ran;
+      sound = c.run_replay.ensures.sound;
     })
 
 pub returns-in-Answer-clause-performed : goal.returns-in-Answer-clause-performed
