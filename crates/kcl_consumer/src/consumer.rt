@@ -18,7 +18,7 @@ use crate::processor::Processor;
 use crate::stage::Stage;
 use kcl_defs::{Ask, Due, Fetched, Progress, Tenancy, Why};
 use kds_base::{Checkpoint, Memory, Seq, ShardRef, TenureNo};
-use kds_defs::{Answer, Command, Refusal, Reply, Stored, Target};
+use kds_defs::{Answer, Command, Refusal, Reply, Stored, Target, let_go};
 use std::marker::Model;
 
 /// The place where a checkpoint lets reading begin.
@@ -158,9 +158,10 @@ fn after_ending(answer: &Answer) -> (Stage, Progress)
 }
 
 /// What is told of a consumer that waits for no answer at this stage: this one isn't needed.
-fn told_over(stage: Stage, _answer: Answer) -> Progress
+fn told_over(stage: Stage, answer: Answer) -> Progress
     ensures { (reach : ℕ) (waiting : List Fetched) (asked : Option Target) (lost : Bool) → result ≡ told_over (over_at (phase_of stage reach waiting asked lost)) }
 {
+    let_go(answer);
     match stage {
         Stage::Over(why) => Progress::Over(why),
         _ => Progress::Going,
@@ -175,9 +176,6 @@ fn forget(asked: &mut Option<Target>, lost: &mut bool)
     *asked = None;
     *lost = false;
 }
-
-/// The answer isn't needed any more.
-fn let_go(_answer: Answer) {}
 
 /// Where a consumer stands after the answer to a Read, and its reach.
 fn after_reading(ahead: &mut Ahead, limit: u32, reach: u64, answer: Answer) -> (Stage, u64)

@@ -13,7 +13,7 @@ use crate::gate::Gate;
 use kcl_consumer::{Maker, Processor};
 use kcl_worker::{NoRoom, Worker};
 use kds_base::{Memory, Moment};
-use kds_defs::Machine;
+use kds_defs::{Machine, let_go};
 use kds_turn::{Hall, Pass, TurnErr};
 use std::sync::Wait;
 
@@ -45,9 +45,10 @@ pub(crate) fn call_all<P: Processor, F: Maker<P>, G: Gate>(
 }
 
 /// The answer that wasn't taken isn't needed any more.
-fn without(_left: NoRoom) -> TurnErr
+fn without(left: NoRoom) -> TurnErr
     ensures { result ≡ TurnErr.Memory }
 {
+    let_go(left.answer);
     TurnErr::Memory
 }
 

@@ -17,7 +17,7 @@ use crate::planning::is_among;
 use kcl_consumer::{Consumer, Processor};
 use kcl_defs::{Held, LeaseId};
 use kds_base::Memory;
-use kds_defs::Answer;
+use kds_defs::{Answer, let_go};
 
 /// The lease of a consumer.
 pub fn id_of<P: Processor>(c: &Consumer<P>) -> LeaseId
@@ -191,9 +191,6 @@ fn index_of<P: Processor>(consumers: &[Consumer<P>], id: &LeaseId) -> Option<usi
     }
     None
 }
-
-/// The answer isn't needed any more.
-fn let_go(_answer: Answer) {}
 
 /// The first consumer of a lease absorbs an answer.
 pub fn absorb_one<P: Processor>(consumers: &mut Vec<Consumer<P>>, id: &LeaseId, answer: Answer)

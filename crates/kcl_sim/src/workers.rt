@@ -9,7 +9,7 @@ ghost use Rattle.kds_defs.specs.Lawful.{IsLawfulCommand};
 use kcl_proc::{Kind, Stock};
 use kcl_worker::{NoRoom, Worker};
 use kds_base::{Memory, Moment};
-use kds_defs::{Answer, Command};
+use kds_defs::{Answer, Command, let_go};
 
 /// Makes all calls of its processors that are due.
 pub fn call_all(worker: &mut Worker<Stock, Kind>) -> Result<(), Memory>
@@ -42,7 +42,8 @@ pub fn ask(worker: &mut Worker<Stock, Kind>, now: Moment) -> Option<Command>
 }
 
 /// The answer that wasn't taken isn't needed any more.
-fn without(_left: NoRoom) -> Memory {
+fn without(left: NoRoom) -> Memory {
+    let_go(left.answer);
     Memory
 }
 

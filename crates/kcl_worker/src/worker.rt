@@ -25,7 +25,7 @@ use kcl_round::retired::{Retired, make_room, settle};
 use kcl_round::steps::Steps;
 use kcl_take::Observed;
 use kds_base::{Items, Memory, Moment, ShardRef, WorkerNo};
-use kds_defs::{Answer, Command};
+use kds_defs::{Answer, Command, let_go};
 use std::alloc::Global;
 use std::marker::Model;
 
@@ -34,9 +34,6 @@ use std::marker::Model;
 pub struct NoRoom {
     pub answer: Answer,
 }
-
-/// The answer isn't needed any more.
-fn let_go(_answer: Answer) {}
 
 /// A worker (Kinesis Client Library, Scheduler): in rounds it surveys shards and rows, brings the rows in line with the
 /// shards, takes rows, renews its leases, and gives each consumer a step. Contracts see its fields, and say for which record

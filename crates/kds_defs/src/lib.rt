@@ -18,7 +18,7 @@ pub use command::{Command, NewItem, Origin, Start, Target, Turn};
 pub use entry::Entry;
 pub use laws::{lease_answers, refusal_chain, service_answers};
 pub use limit_laws::{lease_limits, rate_limits, request_limits, schedule_limits, service_limits};
-pub use machine::{Answer, Machine};
+pub use machine::{Answer, Machine, let_go};
 pub use places::{place_after, place_after_numbers};
 pub use reply::{About, Iter, Outcome, Page, Place, Refusal, Reply, Row, Shard, Stored};
 pub use scale::ScaleStep;

@@ -13,6 +13,10 @@ use kds_base::Memory;
 /// What a turn is answered.
 pub type Answer = Result<Reply, Refusal>;
 
+/// Drops an answer that isn't needed any more. A function that lets its answer go by a call has a shorter proof than
+/// one that drops it itself.
+pub fn let_go(_answer: Answer) {}
+
 /// A machine that answers turns, one after another.
 pub trait Machine {
     /// The machine stands for this history, the newest turn first: it has answered these turns and no others.

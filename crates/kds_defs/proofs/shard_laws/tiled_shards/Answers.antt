@@ -1,4 +1,4 @@
-use Rattle.std.proofs.Common.{◌≡◌, ℕ, ◌+◌, ◌++◌, List, [], ◌∷◌, length, Option, Some, None, sym, subst}
+use Rattle.std.proofs.Common.{ℕ, ◌+◌, ◌++◌, List, [], ◌∷◌, length, Option, Some, None, sym, subst}
 use Rattle.std.specs.Prelude.{slice_get}
 use Rattle.kds_base.specs.Span.{joined, lower_part, upper_part}
 use Rattle.kds_defs.specs.Shards.{Closing, ShardState, merged_shards, new_shard, range_of, split_shards, with_closed}
