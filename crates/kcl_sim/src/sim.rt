@@ -96,17 +96,13 @@ impl<M: Machine> Sim<M> {
         ensures own { is_service turn.what ≡ true → IfOk result (λ a. is_service_answer a ≡ true) }
         ensures leased { is_service turn.what ≡ false → IfOk result (λ a. is_lease_answer a ≡ true) }
     {
-        let kept = turn.copy(alloc)?;
         self.turns.reserve(1)?;
+        let kept = turn.copy(alloc)?;
         let clock = self.clock.later(turn.at);
         let answer = self.machine.apply(turn)?;
-        match self.turns.push(kept) {
-            Ok(()) => {
-                self.clock = clock;
-                Ok(answer)
-            }
-            Err(_) => unreachable!(),
-        }
+        self.turns.push_reserved(kept);
+        self.clock = clock;
+        Ok(answer)
     }
 
     /// The turn of a request, by the actor of requests, and its line of output. After `Memory` nothing was added to the
