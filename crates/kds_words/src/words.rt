@@ -1,16 +1,15 @@
 //! The task of the words.
-ghost use Rattle.std.specs.Prelude.{◌≡◌, ◌≤◌, ℕ, true, Some, IfOk, IfSome, length, string_bytes};
+ghost use Rattle.std.specs.Prelude.{◌≡◌, ◌≤◌, true, IfOk, IfSome, length, string_bytes};
 ghost use Rattle.std.specs.List.{list_all};
 ghost use Rattle.clap.specs.Words.{first_value, found_of, subcommand_rows_of};
-ghost use Rattle.kds_tasks.specs.declared.ranges.TheConstants.{MOST_MEMBERS, MOST_PORT, MOST_RECORDS};
-ghost use Rattle.kds_tasks.specs.Words.{IsWithin, drill_of, number_in, serve_of, task_of, texts_of};
+ghost use Rattle.kds_tasks.specs.Words.{IsWithin, task_of, texts_of};
 ghost use Rattle.kds_words.specs.Words.{has_hyphen, is_word, told, told_with};
 
 use crate::command::kds_command;
 use clap::ArgMatches;
 use clap::error::ErrorKind;
-use kds_base::{Memory, read_u64};
-use kds_tasks::{MOST_MEMBERS, MOST_PORT, MOST_RECORDS, Task};
+use kds_base::Memory;
+use kds_tasks::{Task, drill_task, serve_task};
 use std::alloc::Global;
 
 fn has_leading_hyphen(word: &str) -> bool
@@ -34,41 +33,6 @@ fn are_words(words: &Vec<String>) -> bool
     ensures { result ≡ list_all (λ w. is_word (string_bytes w)) words.now.items }
 {
     words.iter().all(|word| is_word_text(word.as_str()))
-}
-
-/// The number of a text, between two others.
-fn number_between(low: u64, high: u64, text: &str) -> Option<u64>
-    ensures value { result ≡ number_in low high text.now }
-    ensures within { IfSome result (λ n. (low ≤ n) × (n ≤ high)) }
-{
-    let n = read_u64(text.as_bytes())?;
-    if low <= n && n <= high { Some(n) } else { None }
-}
-
-fn serve_task(port: &str, members: &str) -> Option<Task>
-    ensures task { result ≡ serve_of port.now members.now }
-    ensures within { IfSome result IsWithin }
-{
-    let port = number_between(1, MOST_PORT, port)?;
-    let members = number_between(1, MOST_MEMBERS, members)?;
-    Some(Task::Serve {
-        port: port as u16,
-        passes: members as u32,
-    })
-}
-
-fn drill_task(number: &str, workers: &str, records: &str) -> Option<Task>
-    ensures task { result ≡ drill_of number.now workers.now records.now }
-    ensures within { IfSome result IsWithin }
-{
-    let number = read_u64(number.as_bytes())?;
-    let workers = number_between(1, MOST_MEMBERS, workers)?;
-    let records = number_between(0, MOST_RECORDS, records)?;
-    Some(Task::Drill {
-        number,
-        workers: workers as u32,
-        records,
-    })
 }
 
 /// The task of a subcommand's name and its values.
