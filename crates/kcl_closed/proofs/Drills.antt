@@ -1,9 +1,9 @@
 -- The closed history of a drill.
-use Rattle.std.proofs.Common.{◌≡◌, ◌⊎◌, inl, inr, ℕ, zero, suc, ◌+◌, ◌*◌, ◌<◌, ◌≤◌, Bool, true, false, List, [], ◌∷◌, ◌++◌, length, map, Option, Some, None, refl, sym, ap, subst, ◌∙◌, arith, append_assoc, length-append}
-use Rattle.std.specs.Prelude.{◌==◌, ◌/◌, ◌^◌, cond, reverse, drop, take}
+use Rattle.std.proofs.Common.{◌≡◌, ℕ, zero, suc, ◌+◌, ◌*◌, ◌<◌, ◌≤◌, true, false, List, [], ◌∷◌, ◌++◌, length, map, Option, Some, None, refl, sym, ap, subst, ◌∙◌, arith, append_assoc, le_refl, length-append, length-take, take_all}
+use Rattle.std.specs.Prelude.{◌==◌, ◌^◌, reverse, drop, take}
 use Rattle.std.specs.List.{AllByRecursion}
 use Rattle.std.proofs.lemmas.Bool.Decides.{nat_tests}
-use Rattle.std.proofs.lemmas.List.{length-map, length-reverse, reverse-append}
+use Rattle.std.proofs.lemmas.List.{length-map, length-reverse, nil_from_length, reverse-append}
 use Rattle.std.proofs.lemmas.List.Elements.{filter-append}
 use Rattle.kds_defs.specs.declared.command.Command.{Command}
 use Rattle.kds_defs.specs.declared.command.Command.TheVariants as command
@@ -11,17 +11,18 @@ use Rattle.kds_defs.specs.declared.command.Turn.{Turn}
 use Rattle.kds_defs.specs.Histories.{clock}
 use Rattle.kds_defs.specs.Kinds.{is_service}
 use Rattle.kds_turn.specs.declared.view.Account.{Account}
-use Rattle.kds_turn.specs.Known.{Continues, account, is_by, turns_by}
+use Rattle.kds_turn.specs.Known.{is_by, turns_by}
 use Rattle.kds_turn.specs.Passes.{Standing}
 use Rattle.kcl_live.specs.Records.{AreOnLeasesAt}
 use Rattle.kcl_drill.specs.declared.limits.TheConstants.{FIRST_SHARDS}
 use Rattle.kcl_drill.specs.declared.plan.Plan.{Plan}
 use Rattle.kcl_drill.specs.declared.plan.Plan.TheVariants.{Split, Merge}
-use Rattle.kcl_drill.specs.Apart.{LEAST_RETENTION, service_turns}
-use Rattle.kcl_drill.specs.Fed.{IsDrill, IsFed, commands_in}
+use Rattle.kcl_drill.specs.Apart.{LEAST_RETENTION}
+use Rattle.kcl_drill.specs.Fed.{IsFed, commands_in}
 use Rattle.kcl_drill.specs.Generated.{Opens, draw, drill_name, first_open, from_record, generated, opens_then, plan, with_plan}
-use Rattle.kcl_crowd.specs.Asking.{turn_of, turns_of}
-use Rattle.kcl_closed.specs.Closed.{AreDrillTurns, IsClosed, IsDrillCommand, IsMemberAccount, all_accounts}
+use Rattle.kcl_crowd.specs.Asking.{HasAsked, HasBegun, turn_of, turns_of}
+use Rattle.kcl_crowd.specs.Feeding.{HasFed, HasFedSoFar}
+use Rattle.kcl_closed.specs.Closed.{AreDrillTurns, IsClosed, IsDrillCommand, IsFew, IsMemberAccount, IsStopped, all_accounts}
 use Rattle.kcl_closed.proofs.Accounts.{all_turns, clock_by, count_of, few_turns}
 
 -- ---- the turns of commands
@@ -67,11 +68,15 @@ member_turns P records [] limit ran is = tt
 member_turns P records (a ∷ rest) limit ran is =
     (at_most P 30600 a.turns (omega (arith, ran.0.most, limit)) ran.0.moments is, member_turns P records rest limit ran.1 is)
 
-members_count : (records : ℕ) (members : List Account) → records ≤ 1000000 → AllByRecursion (IsMemberAccount records) members → count_of members ≤ length members * 30600
+members_count : (records : ℕ) (members : List Account) → records ≤ 1000000 → AllByRecursion (IsFew records) members → count_of members ≤ length members * 30600
 members_count records [] limit ran = omega arith
 members_count records (a ∷ rest) limit ran =
     let more = members_count records rest limit ran.1 in
-    omega (arith, ran.0.most, limit, more)
+    omega (arith, ran.0, limit, more)
+
+are_few : (records : ℕ) (members : List Account) → AllByRecursion (IsMemberAccount records) members → AllByRecursion (IsFew records) members
+are_few records [] ran = tt
+are_few records (a ∷ rest) ran = (ran.0.most, are_few records rest ran.1)
 
 -- ---- how many commands there are
 
@@ -90,16 +95,41 @@ few_commands i (suc left) x opens =
 length_asked : (by : ℕ) (cs : List Command) → length (turns_of by cs) ≡ length cs
 length_asked by cs = length-map (reverse cs) (turn_of by) ∙ length-reverse cs
 
--- ---- the closed history
+-- those that were begun are no more than all
+few_begun : (by n : ℕ) (cs : List Command) (own : List Turn) → own ≡ turns_of by (take n cs) → length own ≤ length cs
+few_begun by n cs own e =
+    let asked : length own ≡ length (take n cs) = ap length e ∙ length_asked by (take n cs) in
+    omega (arith, asked, length-take n cs)
 
-no_length : (l : List Turn) → length l ≡ 0 → l ≡ []
-no_length [] e = refl
-no_length (x ∷ l) e = absurd (omega (arith, e))
+-- ---- a history that was stopped
+
+begun : (cs : List Command) (p : Standing) → HasAsked cs p → HasBegun cs p
+begun cs p asked = (length cs, subst (λ made. HasAsked made p) (sym (take_all (length cs) cs (le_refl (length cs)))) asked)
+
+-- those who made all commands have made the first of them
+pub fed_so_far : (number records : ℕ) (root feeder : Standing) → HasFed number records root feeder → HasFedSoFar number records root feeder
+fed_so_far number records root feeder fed = record {
+  of_root = begun (take 1 (generated number records)) root fed.of_root;
+  of_feeder = begun (drop 1 (generated number records)) feeder fed.of_feeder;
+  after = λ some. fed.after;
+}
+
+pub is_short_stopped : (number records : ℕ) (root feeder : Standing) (members : List Account) (h : List Turn) → IsStopped number records root feeder members h → length h < 2 ^ 32
+is_short_stopped number records root feeder members h is =
+    let rest : List Command = from_record 0 records number first_open in
+    let all = few_turns (all_accounts root feeder members) h is.own is.all in
+    let first = few_begun root.by is.fed.of_root.0 (take 1 (generated number records)) root.own is.fed.of_root.1 in
+    let others = few_begun feeder.by is.fed.of_feeder.0 rest feeder.own is.fed.of_feeder.1 in
+    let ran = members_count records members is.limit is.ran in
+    let few = few_commands 0 records number first_open in
+    omega (arith, all, first, others, ran, few, is.few, is.limit)
+
+-- ---- the closed history
 
 none_before : (n : ℕ) (front seen : List Turn) → turns_by n (front ++ seen) ≡ [] → turns_by n seen ≡ []
 none_before n front seen none =
     let total : length (turns_by n front ++ turns_by n seen) ≡ 0 = ap length (sym (filter-append (is_by n) front seen) ∙ none) in
-    no_length (turns_by n seen) (omega (arith, total, length-append (turns_by n front) (turns_by n seen)))
+    nil_from_length (turns_by n seen) (omega (arith, total, length-append (turns_by n front) (turns_by n seen)))
 
 is_self : (n : ℕ) → (n == n) ≡ true
 is_self n = grind (arith, nat_tests)
@@ -156,13 +186,14 @@ module _ (number records : ℕ) (root feeder : Standing) (members : List Account
       }
 
   pub is_short : length h < 2 ^ 32
-  is_short =
-      let all = few_turns (all_accounts root feeder members) h is.own is.all in
-      let first : length root.own ≡ 1 = ap length is.fed.of_root in
-      let others : length feeder.own ≡ length rest = ap length is.fed.of_feeder ∙ length_asked feeder.by rest in
-      let ran = members_count records members is.limit is.ran in
-      let few = few_commands 0 records number first_open in
-      omega (arith, all, first, others, ran, few, is.few, is.limit)
+  is_short = is_short_stopped number records root feeder members h (record {
+    limit = is.limit;
+    few = is.few;
+    fed = fed_so_far number records root feeder is.fed;
+    ran = are_few records members is.ran;
+    all = is.all;
+    own = is.own;
+  })
 
   pub is_below : clock h < LEAST_RETENTION
   is_below =

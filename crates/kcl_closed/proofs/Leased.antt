@@ -1,13 +1,11 @@
 -- A drill's history, and turns on leases after it.
-use Rattle.std.proofs.Common.{◌≡◌, ℕ, ◌≤◌, ◌<◌, max, Bool, true, false, List, [], ◌∷◌, ◌++◌, refl, sym, ap, ◌∙◌, arith}
+use Rattle.std.proofs.Common.{◌≡◌, ℕ, ◌≤◌, max, false, List, [], ◌∷◌, ◌++◌, refl, ap, ◌∙◌, arith}
 use Rattle.std.specs.Prelude.{cond, nat_lt}
-use Rattle.std.specs.List.{AllByRecursion}
 use Rattle.kds_defs.specs.declared.command.Turn.{Turn}
 use Rattle.kds_defs.specs.Histories.{clock}
-use Rattle.kds_defs.specs.Kinds.{is_service}
 use Rattle.kds_defs.specs.Lawful.{IsHistory}
 use Rattle.kds_defs.specs.Records.{Logged}
-use Rattle.kcl_drill.specs.Apart.{LEAST_RETENTION, service_turns}
+use Rattle.kcl_drill.specs.Apart.{service_turns}
 use Rattle.kcl_drill.specs.Fed.{IsDrill, commands_in}
 use Rattle.kcl_summary.specs.Counting.{AreAbove}
 use Rattle.kcl_closed.specs.Closed.{AreLeased}

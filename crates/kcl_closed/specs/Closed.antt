@@ -1,5 +1,5 @@
 -- The history of a drill's hall, once all its passes were joined and it was closed. Lists of turns have the newest first.
-use Rattle.std.specs.Prelude.{◌≡◌, ℕ, ◌+◌, ◌*◌, ◌/◌, ◌≤◌, ◌==◌, Bool, false, List, ◌∷◌, length, Some}
+use Rattle.std.specs.Prelude.{◌≡◌, ℕ, ◌+◌, ◌*◌, ◌/◌, ◌≤◌, ◌==◌, false, List, ◌∷◌, length, Some}
 use Rattle.std.specs.List.{AllByRecursion}
 use Rattle.kds_defs.specs.declared.command.Command.{Command}
 use Rattle.kds_defs.specs.declared.command.Command.TheVariants as command
@@ -15,7 +15,7 @@ use Rattle.kds_turn.specs.declared.view.Account.{Account}
 use Rattle.kds_turn.specs.Known.{Continues, account}
 use Rattle.kds_turn.specs.Passes.{Standing, AreAllBy, IsSplitInto}
 use Rattle.kcl_live.specs.Records.{AreOnLeasesAt}
-use Rattle.kcl_crowd.specs.Feeding.{HasFed}
+use Rattle.kcl_crowd.specs.Feeding.{HasFed, HasFedSoFar}
 
 -- the command is one of a generator's or on leases, and a row that it makes lets reading begin at the trim horizon
 abbrev pub IsDrillCommand : Command → Type 0
@@ -30,10 +30,14 @@ IsDrillCommand what = is_service what ≡ false
 abbrev pub AreDrillTurns : List Turn → Type 0
 AreDrillTurns h = AllByRecursion (λ turn. IsDrillCommand turn.what) h
 
+-- so many turns at most
+abbrev pub IsFew : ℕ → Account → Type 0
+IsFew records a = length a.turns ≤ 3 * (200 + records / 100)
+
 -- the turns of a member are on leases, each 50 milliseconds after the one before, and so many at most
 pub record IsMemberAccount (records : ℕ) (a : Account) : Type 0 where
   pub moments : AreOnLeasesAt 50 a.turns
-  pub most : length a.turns ≤ 3 * (200 + records / 100)
+  pub most : IsFew records a
   pub horizon : AreDrillTurns a.turns
 
 -- the accounts of all passes of a drill
@@ -49,6 +53,16 @@ pub record IsClosed (number records : ℕ) (root feeder : Standing) (members : L
   pub ran : AllByRecursion (IsMemberAccount records) members
   pub history : IsHistory h
   pub seen : Continues h feeder.seen
+  pub all : AreAllBy (all_accounts root feeder members) h
+  pub own : IsSplitInto (all_accounts root feeder members) h
+
+-- The root and the feeder made the first of the generator's commands, the members so many turns at most, and the history
+-- has their turns and no others.
+pub record IsStopped (number records : ℕ) (root feeder : Standing) (members : List Account) (h : List Turn) : Type 0 where
+  pub limit : records ≤ 1000000
+  pub few : length members ≤ 64
+  pub fed : HasFedSoFar number records root feeder
+  pub ran : AllByRecursion (IsFew records) members
   pub all : AreAllBy (all_accounts root feeder members) h
   pub own : IsSplitInto (all_accounts root feeder members) h
 

@@ -12,7 +12,7 @@ ghost use Rattle.kcl_live.specs.Records.{turns_in};
 ghost use Rattle.kds_defs.specs.declared.command.Origin.TheVariants as origin;
 ghost use Rattle.kcl_drill.specs.Fed.{IsDrill, IsFed};
 ghost use Rattle.kcl_summary.specs.Counting.{CanSum};
-ghost use Rattle.kcl_closed.specs.Closed.{AreDrillTurns, AreFromHorizon, AreLeased, IsClosed};
+ghost use Rattle.kcl_closed.specs.Closed.{AreDrillTurns, AreFromHorizon, AreLeased, IsClosed, IsStopped};
 
 use kcl_drill::{one_order, one_text, untrimmed};
 use kcl_laws::rows;
@@ -32,6 +32,12 @@ pub fn closed()
     one_order();
     rows()
 }
+
+/// However far its passes came, the closed history of a drill has fewer than 2^32 turns.
+pub fn stopped()
+    ensures { (number records : ℕ) (root feeder : Standing) (members : List Account) (h : List Turn)
+        → IsStopped number records root feeder members h → length h < 2 ^ 32 }
+{}
 
 /// The turns of a worker whose settings say that reading begins at the trim horizon: each row that they make does.
 pub fn horizon()

@@ -1,5 +1,5 @@
 -- Passes that are taken in, one after another.
-use Rattle.std.proofs.Common.{◌≡◌, suc, List, ◌∷◌, ◌++◌, sym, ap, subst, ◌∙◌, arith, append_assoc}
+use Rattle.std.proofs.Common.{◌≡◌, suc, List, [], ◌∷◌, ◌++◌, length, refl, sym, ap, subst, ◌∙◌, arith, append_assoc}
 use Rattle.std.specs.Prelude.{flat_map}
 use Rattle.std.specs.List.{All}
 use Rattle.kds_defs.specs.declared.command.Turn.{Turn}
@@ -7,9 +7,6 @@ use Rattle.kds_turn.specs.declared.view.Account.{Account}
 use Rattle.kds_turn.specs.Known.{Continues}
 use Rattle.kcl_live.specs.declared.crew.Member.{Member}
 use Rattle.kds_drill.specs.Running.{accounts_in}
-
-pub continues_all : (a b c : List Turn) → Continues a b → Continues b c → Continues a c
-continues_all a b c p q = (p.0 ++ q.0, p.1 ∙ (ap (λ l. p.0 ++ l) q.1 ∙ sym (append_assoc p.0 q.0 c)))
 
 module _ {M P F G : Type 0} where
   pub joined_more : (old now total : List Account) (m : Member M P F G) (rest items : List (Member M P F G)) → now ≡ old ++ accounts_in m → items ≡ m ∷ rest → old ++ flat_map accounts_in items ≡ total → now ++ flat_map accounts_in rest ≡ total

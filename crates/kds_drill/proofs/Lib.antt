@@ -3,3 +3,4 @@ mod Ran
 mod Accounts
 mod Joined
 mod Closed
+mod Full

@@ -1,3 +1,4 @@
+pub mod Ends
 pub mod Participants
 pub mod Running
 pub mod Told

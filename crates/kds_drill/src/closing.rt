@@ -1,9 +1,9 @@
 //! The end of a drill's hall.
 ghost use Rattle.std.specs.Prelude.{◌≡◌, ℕ, All};
-ghost use Rattle.kds_drill.specs.Running.{HasDrilled, HasTaken, HaveRun};
+ghost use Rattle.kds_drill.specs.Running.{AreShort, HasDrilled, HasTaken, HaveRun, HaveStopped};
 
 use crate::participants::Participants;
-use kcl_closed::closed;
+use kcl_closed::{closed, stopped};
 use kcl_live::Member;
 use kcl_world::World;
 use kds_turn::{Hall, Pass};
@@ -28,12 +28,15 @@ fn join_all(hall: &Hall<World>, participants: Participants) -> Pass<World>
     root
 }
 
-/// The machine that the threads of a drill leave, once all passes were taken in and the hall was closed.
+/// The machine that the threads of a drill leave, however they ended, once all passes were taken in and the hall was closed.
+/// No pass has seen 2^32 turns.
 pub fn close(hall: Hall<World>, participants: Participants) -> World
-    requires ran { (number : ℕ) × (records : ℕ) × HaveRun hall number records participants }
-    ensures { (number records : ℕ) → HaveRun hall number records participants → HasDrilled number records result }
+    requires stopped { (number : ℕ) × (records : ℕ) × HaveStopped hall number records participants }
+    ensures drilled { (number records : ℕ) → HaveRun hall number records participants → HasDrilled number records result }
+    ensures short { AreShort participants }
 {
     closed();
+    stopped();
     let root = join_all(&hall, participants);
     let (world, _past) = hall.close(root);
     world

@@ -12,6 +12,7 @@ use kcl_drained::drained_text;
 use kcl_world::World;
 use kds_base::{Memory, Octets};
 use kds_ends::{Sink, Status, write_all};
+use kds_turn::TurnErr;
 use std::alloc::Global;
 use std::sync::Wait;
 use std::thread::Threads;
@@ -29,8 +30,14 @@ fn drill<R: Threads + Wait + Sync>(
     ensures { IfOk result (HasDrilled number records) }
 {
     let (hall, mut participants) = assemble(alloc, workers)?;
-    run_threads(rt, alloc, &hall, &mut participants, number, records)?;
-    Ok(close(hall, participants))
+    let ran = run_threads(rt, alloc, &hall, &mut participants, number, records);
+    // However they ended, the hall is closed and its history counted: it is too short for `Spent`.
+    let world = close(hall, participants);
+    match ran {
+        Ok(()) => Ok(world),
+        Err(TurnErr::Memory) => Err(Memory),
+        Err(TurnErr::Spent) => unreachable!(),
+    }
 }
 
 /// The summary after a drill, once each shard was read to its end. Memory: want of memory.

@@ -1,27 +1,35 @@
 //! The threads of a drill.
-ghost use Rattle.std.specs.Prelude.{◌≤◌, All, IsOk, IsTrue, OnOk};
+ghost use Rattle.std.specs.Prelude.{◌≡◌, ◌≤◌, IfErr, OnOk};
+ghost use Rattle.kds_turn.specs.declared.pass.TurnErr.TheVariants as failed;
+ghost use Rattle.kds_drill.specs.Ends.{AllEnded, SomeFailed};
 ghost use Rattle.kds_drill.specs.Participants.{AreDealt};
-ghost use Rattle.kds_drill.specs.Running.{HaveRun};
+ghost use Rattle.kds_drill.specs.Running.{AreFull, HaveRun, HaveStopped};
 
 use crate::participants::{DrillMember, Participants};
 use kcl_closed::horizon;
 use kcl_crowd::crowd;
 use kcl_world::World;
-use kds_base::Memory;
-use kds_turn::Hall;
+use kds_turn::{Hall, TurnErr};
 use std::alloc::Global;
 use std::sync::Wait;
 use std::thread::Threads;
 
-/// Whether each worker ran to its end.
-fn have_ended(members: &[DrillMember]) -> bool
-    ensures { IsTrue result → All (λ m. IsOk m.outcome) members.now }
+/// How the first worker ended that didn't run to its end, if there is one.
+fn first_error(members: &[DrillMember]) -> Result<(), TurnErr>
+    ensures ok { OnOk result (AllEnded members.now) }
+    ensures err { IfErr result (λ e. SomeFailed e members.now) }
 {
-    members.iter().all(|m| m.outcome.is_ok())
+    for member in members {
+        match member.outcome {
+            Ok(()) => {}
+            Err(error) => return Err(error),
+        }
+    }
+    Ok(())
 }
 
 /// Runs the threads of a drill: the root's command, and then the feeder's beside the workers. Memory: want of memory for a
-/// command of the generator, for its turn, or for a worker.
+/// command of the generator, for its turn, or for a worker. Spent: the hall's history is full.
 pub fn run_threads<R: Threads + Wait + Sync>(
     rt: &R,
     alloc: Global,
@@ -29,14 +37,14 @@ pub fn run_threads<R: Threads + Wait + Sync>(
     participants: &mut Participants,
     number: u64,
     records: u64,
-) -> Result<(), Memory>
+) -> Result<(), TurnErr>
     requires dealt { AreDealt hall.now participants.old }
     requires few { records ≤ 1000000 }
-    ensures { OnOk result (HaveRun hall.now number records participants.new) }
+    ensures stopped { HaveStopped hall.now number records participants.new }
+    ensures ran { OnOk result (HaveRun hall.now number records participants.new) }
+    ensures full { IfErr result (λ e. e ≡ failed.Spent → AreFull participants.new) }
 {
     horizon();
-    // Spent would come only where a history has 2^64 - 1 turns. That a drill's passes make fewer than 2^32 isn't proved, so
-    // it would be told as want of memory.
     match crowd(
         rt,
         alloc,
@@ -47,12 +55,7 @@ pub fn run_threads<R: Threads + Wait + Sync>(
         number,
         records,
     ) {
-        Ok(()) => {}
-        Err(_) => return Err(Memory),
-    }
-    if have_ended(participants.members.as_slice()) {
-        Ok(())
-    } else {
-        Err(Memory)
+        Ok(()) => first_error(participants.members.as_slice()),
+        Err(error) => Err(error),
     }
 }
