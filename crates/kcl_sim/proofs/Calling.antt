@@ -1,5 +1,5 @@
 -- The calls of processors that are due: each is made once, and then none is due.
-use Rattle.std.proofs.Common.{◌≡◌, ℕ, Bool, true, false, List, [], ◌∷◌, Option, Some, None, refl, sym, ap, subst, ◌∙◌}
+use Rattle.std.proofs.Common.{◌≡◌, Bool, true, false, List, [], ◌∷◌, Option, Some, None, refl, sym, ap, subst, ◌∙◌}
 use Rattle.std.specs.Prelude.{◌&&◌, ◌||◌, cond, not, is_some, if◌then◌else◌}
 use Rattle.std.specs.List.{filter, find, list_any}
 use Rattle.kds_defs.specs.declared.reply.Stored.{Stored}
@@ -7,11 +7,11 @@ use Rattle.kcl_defs.specs.declared.consumer.Ask.{Ask}
 use Rattle.kcl_defs.specs.declared.consumer.Call.{Call}
 use Rattle.kcl_defs.specs.declared.consumer.Due.{Due}
 use Rattle.kcl_defs.specs.Consumers.{Called, Phase, Opening, Starting, Filling, Holding, Giving, Marking, Ending, MarkingEnd, Leaving, Over, due_call, over_at, phase_after}
-use Rattle.kcl_defs.specs.Workers.{Known, WorkerPast, WorkerState, Made_call, due_known, happens_to_first, is_due_known, is_giving, is_giving_phase, is_idle, is_nothing_held, is_over, is_stopping, phase_of_known, with_event, worker_after}
+use Rattle.kcl_defs.specs.Workers.{Known, WorkerPast, Made_call, due_known, happens_to_first, is_due_known, is_giving, is_giving_phase, is_idle, is_nothing_held, is_over, is_stopping, phase_of_known, with_event, worker_after}
 use Rattle.kcl_consumer.specs.Standing.{Standing}
 use Rattle.kcl_proc.specs.declared.stock.Kind.{Kind}
 use Rattle.kcl_proc.specs.Stocks.{StandsFor as Calls, asked_of}
-use Rattle.kcl_round.specs.Lists.{due_in, due_or, is_due}
+use Rattle.kcl_round.specs.Lists.{due_in, due_or}
 use Rattle.kcl_worker.proofs.Counting.{not_again}
 use Rattle.kcl_worker.specs.Asks.{IsAsk, IsAskOf}
 use Rattle.kcl_worker.specs.Standing.{ConsumersStand, StandsFor, is_due_in, is_giving_in, is_idle_in}

@@ -1,9 +1,8 @@
 -- The turns of workers are lawful: each command that a worker's record gives is.
-use Rattle.std.proofs.Common.{◌≡◌, ℕ, zero, suc, ◌<◌, ◌≤◌, ◌^◌, Bool, true, false, List, [], ◌∷◌, ◌++◌, map, Option, Some, None, Result, Ok, Err, refl, sym, ap, subst, ◌∙◌, arith}
+use Rattle.std.proofs.Common.{◌≡◌, ℕ, zero, suc, ◌<◌, ◌≤◌, ◌^◌, Bool, true, false, List, [], ◌∷◌, ◌++◌, Option, Some, None, Result, Ok, Err, refl, subst, arith}
 use Rattle.std.specs.Prelude.{cond, not, nat_le, if◌then◌else◌, option_map, slice_get, slice_set}
 use Rattle.std.specs.List.{AllByRecursion, filter, find}
 use Rattle.kds_defs.specs.declared.command.Command.{Command}
-use Rattle.kds_defs.specs.declared.command.Command.TheVariants as command
 use Rattle.kds_defs.specs.declared.limits.TheConstants.{MOST_ACTOR}
 use Rattle.kds_defs.specs.declared.reply.Refusal.{Refusal}
 use Rattle.kds_defs.specs.declared.reply.Reply.{Reply}
@@ -11,17 +10,16 @@ use Rattle.kds_defs.specs.declared.reply.Reply.TheVariants as reply
 use Rattle.kds_defs.specs.Lawful.{IsHistory, IsLawfulCommand, IsLimit}
 use Rattle.kcl_defs.specs.declared.consumer.Tenancy.{Tenancy}
 use Rattle.kcl_defs.specs.declared.consumer.WorkerMade.{WorkerMade}
-use Rattle.kcl_defs.specs.declared.plans.LeaseId.{LeaseId}
 use Rattle.kcl_defs.specs.declared.plans.SyncStep.{SyncStep}
 use Rattle.kcl_defs.specs.declared.plans.SyncStep.TheVariants.{Make, Cut}
 use Rattle.kcl_defs.specs.declared.plans.TakeStep.{TakeStep}
 use Rattle.kcl_defs.specs.Consumers.{Called, Event, Losing, Phase, Opening, Starting, Filling, Holding, Giving, Marking, Ending, MarkingEnd, Leaving, Over, next_command}
-use Rattle.kcl_defs.specs.Workers.{Chore, Consuming, Finishing, Freeing, Renewing, Surveying, Syncing, Taking, Known, Pending, WorkerPast, WorkerState, Gave_command, Got_answer, Made_call, Stopped, absorbed, after_chore, after_renewal, after_survey, after_take, chore_at, command_of, consumed, consumer_command, counter_of, happens_to, happens_to_first, id_of, id_of_held, is_before_id, is_due_known, is_over, known_of, next_pending, pending_chore, pending_of, phase_of_known, same_id, sync_command, with_event, with_known, worker_after}
+use Rattle.kcl_defs.specs.Workers.{Chore, Consuming, Finishing, Freeing, Renewing, Surveying, Syncing, Taking, Known, Pending, WorkerPast, WorkerState, Gave_command, Got_answer, Made_call, Stopped, absorbed, after_chore, after_renewal, after_survey, after_take, chore_at, command_of, consumer_command, counter_of, happens_to, happens_to_first, id_of, is_before_id, is_due_known, is_over, known_of, next_pending, pending_chore, pending_of, phase_of_known, sync_command, with_event, with_known, worker_after}
 use Rattle.kcl_script.specs.declared.line.Line.{Line}
 use Rattle.kcl_script.specs.declared.line.Line.TheVariants.{Api, Raw, Step, Stop, Worker}
 use Rattle.kcl_script.specs.Line.{IsLine}
 use Rattle.kcl_sim.specs.Output.{Ran, with_command, with_line, with_step, with_stop}
-use Rattle.kcl_sim.specs.Workers.{Employed, all_called, answered, command_at, employed_by, place_of, state_of}
+use Rattle.kcl_sim.specs.Workers.{Employed, all_called, command_at, employed_by, place_of, state_of}
 
 -- ---- the consumers of a worker read at most so many records as a read may ask for
 

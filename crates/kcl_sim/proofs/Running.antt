@@ -1,21 +1,18 @@
 -- What the lines of workers make of a run.
-use Rattle.std.proofs.Common.{◌≡◌, ℕ, ◌+◌, ◌<◌, Bool, true, false, List, [], ◌∷◌, ◌++◌, length, Option, Some, None, Result, Ok, Err, codes, decimal, refl, sym, ap, subst, ◌∙◌, arith, inl, inr, ◌⊎◌}
+use Rattle.std.proofs.Common.{◌≡◌, ℕ, ◌+◌, ◌<◌, Bool, true, false, List, [], ◌∷◌, ◌++◌, length, Option, Some, None, Result, Ok, Err, codes, decimal, sym, ap, subst, ◌∙◌, arith, inl, inr, ◌⊎◌}
 use Rattle.std.specs.Prelude.{IsSome, MatchOption, OnErr, OnOk, get_or, slice_get, slice_set}
-use Rattle.std.specs.List.{AllByRecursion}
 use Rattle.kds_defs.specs.declared.command.Command.{Command}
 use Rattle.kds_defs.specs.declared.command.Origin.{Origin}
 use Rattle.kds_defs.specs.declared.command.Turn.{Turn}
 use Rattle.kds_defs.specs.declared.limits.TheConstants.{MOST_ACTOR}
-use Rattle.kds_defs.specs.Histories.{answer}
-use Rattle.kcl_defs.specs.declared.consumer.WorkerMade.{WorkerMade}
 use Rattle.kcl_defs.specs.Workers.{usual_settings}
 use Rattle.kcl_proc.specs.declared.stock.Kind.{Kind}
 use Rattle.kcl_proc.specs.Stocks.{StandsFor as Calls, asked_of}
 use Rattle.kcl_script.specs.declared.line.Line.TheVariants as line
 use Rattle.kcl_worker.specs.Standing.{StandsFor}
-use Rattle.kcl_sim.specs.Output.{Ran, command_output, output_of, raw_turn, step_output, stop_output, with_command, with_line, with_step, with_stop}
+use Rattle.kcl_sim.specs.Output.{Ran, command_output, raw_turn, step_output, stop_output, with_command, with_step, with_stop}
 use Rattle.kcl_sim.specs.Standing.{ChangedAt, EmployAll, Employs, GoesOn, HasAsked, IsFree, MayHaveRun, RunsSo, SimValue, StepsAt, Stepped, TookAnswer, TurnRan, employed_after, history_after, place_among}
-use Rattle.kcl_sim.specs.Workers.{Employed, actor_at, all_called, answered, command_at, employed_by, hired, place_of, stopped}
+use Rattle.kcl_sim.specs.Workers.{Employed, actor_at, all_called, command_at, employed_by, hired, place_of, stopped}
 use Rattle.kcl_sim.proofs.Employing.{employ_at, employ_length, employ_more, employ_set, got_set, got_there, lent_again, nobody, set_again, somebody}
 
 same_some : {A : Type 0} (x y : A) → Some x ≡ Some y → x ≡ y

@@ -1,5 +1,5 @@
 -- The workers of a schedule are told of their turns, so that their processors are called for what is given.
-use Rattle.std.proofs.Common.{◌≡◌, ℕ, zero, suc, pred, ◌+◌, ◌-◌, ◌<◌, ◌≤◌, Bool, true, false, List, [], ◌∷◌, ◌++◌, length, Option, Some, None, Result, Ok, Err, refl, sym, ap, subst, ◌∙◌, arith, ◌⊎◌, inl, inr}
+use Rattle.std.proofs.Common.{◌≡◌, ℕ, zero, suc, pred, ◌+◌, ◌<◌, ◌≤◌, Bool, true, false, List, [], ◌∷◌, ◌++◌, length, Option, Some, None, Result, Ok, Err, refl, sym, ap, subst, ◌∙◌, arith, ◌⊎◌, inl, inr}
 use Rattle.std.specs.Prelude.{◌==◌, if◌then◌else◌, nat_le, option_map, slice_get, slice_set}
 use Rattle.std.specs.List.{AllByRecursion}
 use Rattle.std.proofs.lemmas.Bool.Decides.{nat_tests}
@@ -19,7 +19,7 @@ use Rattle.kcl_defs.specs.declared.plans.Held.{Held}
 use Rattle.kcl_defs.specs.declared.plans.TakeStep.{TakeStep}
 use Rattle.kcl_defs.specs.Lives.{Deal, deals_of}
 use Rattle.kcl_defs.specs.WorkerLives.{AreServed, IsOrderly, IsToldIn}
-use Rattle.kcl_defs.specs.Workers.{Chore, Consuming, Finishing, Freeing, Got_answer, Gave_command, Known, Made_call, Pending, Renewing, Stopped, Surveying, Syncing, Taking, WorkerPast, WorkerState, absorbed, after_chore, after_renewal, after_survey, after_take, deals_after, is_due_known, is_idle, next_pending, phase_of_known, with_deal, worker_after}
+use Rattle.kcl_defs.specs.Workers.{Chore, Consuming, Finishing, Freeing, Gave_command, Known, Made_call, Pending, Renewing, Surveying, Syncing, Taking, WorkerPast, WorkerState, absorbed, after_chore, after_renewal, after_survey, after_take, deals_after, is_due_known, is_idle, next_pending, phase_of_known, with_deal, worker_after}
 use Rattle.kcl_proc.specs.declared.stock.Kind.{Kind}
 use Rattle.kcl_script.specs.declared.line.Line.{Line}
 use Rattle.kcl_script.specs.declared.line.Line.TheVariants.{Api, Raw, Step, Stop, Worker}

@@ -1,10 +1,10 @@
 -- A step of a worker, beside its record.
-use Rattle.std.proofs.Common.{◌≡◌, ℕ, ◌+◌, Bool, true, false, List, [], ◌∷◌, ◌++◌, length, Option, Some, None, Result, refl, sym, ap, subst, ◌∙◌, arith}
+use Rattle.std.proofs.Common.{◌≡◌, ℕ, true, false, ◌∷◌, Option, Some, None, Result, refl, sym, ap, subst, ◌∙◌}
 use Rattle.std.specs.Prelude.{if◌then◌else◌, is_some, option_map}
 use Rattle.kds_defs.specs.declared.command.Command.{Command}
 use Rattle.kds_defs.specs.declared.reply.Refusal.{Refusal}
 use Rattle.kds_defs.specs.declared.reply.Reply.{Reply}
-use Rattle.kcl_defs.specs.Workers.{Gave_command, Got_answer, Made_call, Stopped, due_known, is_idle, next_pending, worker_after}
+use Rattle.kcl_defs.specs.Workers.{Gave_command, Made_call, due_known, is_idle, next_pending, worker_after}
 use Rattle.kcl_proc.specs.Stocks.{StandsFor as Calls, asked_of}
 use Rattle.kcl_round.specs.Lists.{due_in}
 use Rattle.kcl_worker.specs.Adding.{AddsAnswer, AddsCall, AddsCommand, AddsStop}

@@ -1,6 +1,5 @@
 -- A run as callers see it, and what it stands for.
-use Rattle.std.specs.Prelude.{◌≡◌, ◌⊎◌, ℕ, nat_le, nat_lt, if◌then◌else◌, List, [], ◌∷◌, ◌++◌, length, slice_get, slice_set, Bool, false, Option, Some, None, IfSome}
-use Rattle.std.specs.List.{AllByRecursion}
+use Rattle.std.specs.Prelude.{◌≡◌, ◌⊎◌, ℕ, nat_le, nat_lt, if◌then◌else◌, List, [], ◌∷◌, ◌++◌, slice_get, slice_set, Bool, false, Option, Some, None}
 use Rattle.kds_defs.specs.declared.command.Turn.{Turn}
 use Rattle.kds_defs.specs.declared.reply.Stored.{Stored}
 use Rattle.kcl_proc.specs.declared.stock.Kind.{Kind}

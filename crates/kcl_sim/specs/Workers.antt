@@ -1,5 +1,5 @@
 -- The workers of a run (Kinesis Client Library, scheduler), each read along what happened to it.
-use Rattle.std.specs.Prelude.{ℕ, ◌+◌, ◌-◌, nat_le, if◌then◌else◌, List, [], ◌∷◌, slice_get, slice_set, Option, Some, None, option_map, Result}
+use Rattle.std.specs.Prelude.{ℕ, ◌+◌, ◌-◌, nat_le, if◌then◌else◌, List, [], ◌∷◌, slice_get, slice_set, Option, None, option_map, Result}
 use Rattle.kds_defs.specs.declared.command.Command.{Command}
 use Rattle.kds_defs.specs.declared.command.Origin.{Origin}
 use Rattle.kds_defs.specs.declared.limits.TheConstants.{MOST_ACTOR}

@@ -1,5 +1,5 @@
 -- What an audit of bytes says, by what was found along their lines.
-use Rattle.std.proofs.Common.{◌≡◌, ℕ, Bool, true, false, List, [], ◌∷◌, ◌++◌, refl, sym, ap, ◌∙◌}
+use Rattle.std.proofs.Common.{◌≡◌, ℕ, Bool, true, false, List, [], ◌∷◌, ◌++◌, refl, ap, ◌∙◌}
 use Rattle.std.proofs.lemmas.List.{append-nil}
 use Rattle.kds_lines.specs.Lines.{End, lined, too_long}
 use Rattle.kcl_streams.specs.declared.rule.Rule.{Rule}

@@ -1,5 +1,5 @@
 -- What each end of the reading of a text tells of its audit.
-use Rattle.std.proofs.Common.{◌≡◌, ℕ, true, false, List, [], Option, refl, sym, subst}
+use Rattle.std.proofs.Common.{◌≡◌, ℕ, true, false, List, [], Option, refl, sym}
 use Rattle.kds_ends.specs.declared.status.Status.{Status}
 use Rattle.kds_ends.specs.declared.status.Status.TheVariants as status
 use Rattle.kds_lines.specs.declared.outcome.Outcome.{Outcome}

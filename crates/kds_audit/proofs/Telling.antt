@@ -5,11 +5,10 @@ use Rattle.std.specs.Io.KnownBytes.{Appends}
 use Rattle.kds_ends.specs.Causes.{AppendsFront}
 use Rattle.kds_ends.specs.declared.status.Status.{Status}
 use Rattle.kds_ends.specs.declared.status.Status.TheVariants as status
-use Rattle.kds_lines.specs.Lines.{End, lined, too_long}
-use Rattle.kcl_streams.specs.declared.rule.Rule.{Rule}
-use Rattle.kcl_audit.specs.Progress.{AuditEnd, Progress, audit_of, finish, over, progress}
+use Rattle.kds_lines.specs.Lines.{lined, too_long}
+use Rattle.kcl_audit.specs.Progress.{audit_of, finish, progress}
 use Rattle.kcl_audit.specs.Text.{audit_text, report}
-use Rattle.kcl_auditor.specs.Standing.{end_by, is_bad, is_sound}
+use Rattle.kcl_auditor.specs.Standing.{end_by, is_bad}
 use Rattle.kds_audit.specs.Audited.{TellsAudit, TellsEnd}
 use Rattle.kds_audit.proofs.Ends.{bad_is, ended, found_in, sound_is, too_long_is, unreported, unsound_is}
 

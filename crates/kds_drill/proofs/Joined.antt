@@ -1,10 +1,8 @@
 -- Passes that are taken in, one after another.
-use Rattle.std.proofs.Common.{◌≡◌, suc, List, [], ◌∷◌, ◌++◌, length, refl, sym, ap, subst, ◌∙◌, arith, append_assoc}
+use Rattle.std.proofs.Common.{◌≡◌, suc, List, ◌∷◌, ◌++◌, sym, ap, subst, ◌∙◌, arith, append_assoc}
 use Rattle.std.specs.Prelude.{flat_map}
 use Rattle.std.specs.List.{All}
-use Rattle.kds_defs.specs.declared.command.Turn.{Turn}
 use Rattle.kds_turn.specs.declared.view.Account.{Account}
-use Rattle.kds_turn.specs.Known.{Continues}
 use Rattle.kcl_live.specs.declared.crew.Member.{Member}
 use Rattle.kds_drill.specs.Running.{accounts_in}
 

@@ -1,6 +1,6 @@
 -- What the threads of a drill have done.
-use Rattle.std.proofs.Common.{◌≡◌, ◌⊎◌, inl, inr, ℕ, zero, suc, ◌+◌, ◌≤◌, List, [], ◌∷◌, length, sym, ap, subst, ◌∙◌, arith, le_refl, take_all, Result, Ok, Err}
-use Rattle.std.specs.Prelude.{◌/◌, IfErr, IsOk, OnOk, drop, take}
+use Rattle.std.proofs.Common.{◌≡◌, ◌⊎◌, inl, inr, ℕ, zero, suc, ◌+◌, ◌≤◌, List, [], ◌∷◌, length, sym, ap, subst, ◌∙◌, arith, Result, Ok, Err}
+use Rattle.std.specs.Prelude.{◌/◌, IfErr, IsOk, OnOk}
 use Rattle.std.specs.List.{All, AllByRecursion}
 use Rattle.kcl_closed.proofs.Drills.{fed_so_far}
 use Rattle.kcl_closed.specs.Closed.{AreDrillTurns, IsFew, IsMemberAccount}
@@ -9,8 +9,6 @@ use Rattle.kcl_crowd.specs.Feeding.{HasFed, HasFedSoFar}
 use Rattle.kcl_crowd.specs.Running.{HaveEnded, HaveEndedOrNot}
 use Rattle.kcl_defs.specs.Workers.{WorkerPast}
 use Rattle.kcl_defs.specs.declared.consumer.WorkerMade.{WorkerMade}
-use Rattle.kcl_drill.specs.Generated.{generated}
-use Rattle.kds_defs.specs.declared.command.Command.{Command}
 use Rattle.kds_defs.specs.declared.command.Origin.TheVariants as origin
 use Rattle.kcl_live.specs.Members.{HasEnded, IsReady}
 use Rattle.kcl_live.specs.Records.{turns_in}

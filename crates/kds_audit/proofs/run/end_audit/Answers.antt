@@ -1,8 +1,7 @@
-use Rattle.std.proofs.Common.{rules, ◌≡◌, ℕ, List, Option, subst}
-use Rattle.std.proofs.Math.Nat.{le_refl}
+use Rattle.std.proofs.Common.{subst}
 use Rattle.kds_lines.specs.Telling.{Told}
 use Rattle.kcl_auditor.specs.Standing.{IsOver, Took, texts_report}
-use Rattle.kds_audit.proofs.Outcomes.{told_bad, told_long, told_memory, told_read, told_stopped, told_unfinished, told_whole, told_write}
+use Rattle.kds_audit.proofs.Outcomes.{told_bad, told_memory, told_unfinished, told_whole, told_write}
 use Rattle.kds_audit.proofs.run.end_audit.Goals as goal
 
 pub returns-in-Write-clause-told : goal.returns-in-Write-clause-told

@@ -1,4 +1,4 @@
-use Rattle.std.proofs.Common.{◌≡◌, List, ℕ, Option, subst}
+use Rattle.std.proofs.Common.{subst}
 use Rattle.kds_audit.specs.Audited.{TellsAudit}
 use Rattle.kds_audit.proofs.Safely.{no_journal, safely, some_so}
 use Rattle.kds_audit.proofs.run.run_audit.Goals as goal

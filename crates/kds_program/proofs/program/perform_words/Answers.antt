@@ -1,4 +1,4 @@
-use Rattle.std.proofs.Common.{◌≡◌, Some, None, refl, sym, inl, inr, ◌∙◌}
+use Rattle.std.proofs.Common.{◌≡◌, Some, refl, sym, inl, inr, ◌∙◌}
 use Rattle.kds_ends.specs.declared.status.Status.TheVariants.{Memory}
 use Rattle.kds_tasks.specs.Words.{task_of, texts_of}
 use Rattle.kds_runs.specs.Ends.{Performed}

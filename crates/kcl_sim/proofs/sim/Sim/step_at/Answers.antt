@@ -1,6 +1,6 @@
-use Rattle.std.proofs.Common.{◌≡◌, ◌<◌, ◌++◌, ◌∷◌, [], length, ◌∙◌, ap, subst, sym}
+use Rattle.std.proofs.Common.{◌<◌, ◌++◌, ◌∷◌, [], length, ◌∙◌, ap, subst, sym}
 use Rattle.std.specs.Prelude.{slice_set}
-use Rattle.kcl_sim.specs.Standing.{SimValue, Stepped}
+use Rattle.kcl_sim.specs.Standing.{SimValue}
 use Rattle.kcl_sim.proofs.Employing.{set_again}
 use Rattle.kcl_sim.proofs.Running.{Asked, asked_at, err_so, idle_steps, on_ok_all, on_ok_so, turn_may, turn_steps}
 use Rattle.kcl_sim.proofs.sim.Sim.step_at.Goals as goal

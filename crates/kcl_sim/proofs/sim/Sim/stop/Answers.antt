@@ -1,4 +1,4 @@
-use Rattle.std.proofs.Common.{◌≡◌, ◌<◌, ◌∷◌, ◌++◌, [], length, ◌∙◌, ap, subst, sym}
+use Rattle.std.proofs.Common.{◌<◌, ◌∷◌, ◌++◌, [], length, ◌∙◌, ap, subst, sym}
 use Rattle.std.specs.Prelude.{slice_get, slice_set}
 use Rattle.kcl_sim.specs.Standing.{SimValue}
 use Rattle.kcl_sim.proofs.Employing.{got_there, within}
