@@ -7,10 +7,12 @@ use Rattle.kds_turn.specs.declared.view.Account.{Account}
 use Rattle.kds_turn.specs.Known.{Continues, account}
 use Rattle.kds_turn.specs.Passes.{Place, Standing, accounts_of}
 use Rattle.kcl_closed.specs.Closed.{AreFromHorizon, IsFew, IsMemberAccount}
-use Rattle.kcl_crowd.specs.Feeding.{HasFed, HasFedSoFar}
+use Rattle.kcl_crowd.specs.Feeding.{HasFed, HasFedSoFar, IsCrowdErr}
 use Rattle.kcl_drill.specs.Fed.{IsDrill}
 use Rattle.kcl_live.specs.declared.crew.Member.{Member}
 use Rattle.kcl_world.specs.Standing.{StandsFor, WorldValue}
+use Rattle.kds_turn.specs.declared.pass.TurnErr.{TurnErr}
+use Rattle.kds_drill.specs.Ends.{SomeFailed}
 use Rattle.kds_drill.specs.declared.participants.Participants.{Participants}
 
 -- the number and the turns of a worker's pass
@@ -46,6 +48,10 @@ pub record HaveRun (hall : Place) (number records : ℕ) (p : Participants) : Ty
   pub stopped : HaveStopped hall number records p
   pub fed : HasFed number records p.root p.feeder
   pub made : AllByRecursion (λ m. IsMemberAccount records (account_in m)) p.members.items
+
+-- why they left off: by what befell the root or the feeder, or by the error of a worker
+abbrev pub HaveFailed : Participants → Participants → TurnErr → Type 0
+HaveFailed before after e = IsCrowdErr before.root after.root after.feeder e ⊎ SomeFailed e after.members.items
 
 -- ---- how many turns the passes have seen
 

@@ -3,7 +3,7 @@ ghost use Rattle.std.specs.Prelude.{◌≡◌, ◌≤◌, IfErr, OnOk};
 ghost use Rattle.kds_turn.specs.declared.pass.TurnErr.TheVariants as failed;
 ghost use Rattle.kds_drill.specs.Ends.{AllEnded, SomeFailed};
 ghost use Rattle.kds_drill.specs.Participants.{AreDealt};
-ghost use Rattle.kds_drill.specs.Running.{AreFull, HaveRun, HaveStopped};
+ghost use Rattle.kds_drill.specs.Running.{AreFull, HaveFailed, HaveRun, HaveStopped};
 
 use crate::participants::{DrillMember, Participants};
 use kcl_closed::horizon;
@@ -42,6 +42,7 @@ pub fn run_threads<R: Threads + Wait + Sync>(
     requires few { records ≤ 1000000 }
     ensures stopped { HaveStopped hall.now number records participants.new }
     ensures ran { OnOk result (HaveRun hall.now number records participants.new) }
+    ensures err { IfErr result (HaveFailed participants.old participants.new) }
     ensures full { IfErr result (λ e. e ≡ failed.Spent → AreFull participants.new) }
 {
     horizon();

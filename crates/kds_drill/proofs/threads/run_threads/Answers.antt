@@ -1,4 +1,4 @@
-use Rattle.std.proofs.Common.{rules, ◌≡◌, ◌+◌, inr, length, sym, subst, arith}
+use Rattle.std.proofs.Common.{rules, ◌≡◌, ◌+◌, inl, inr, length, sym, subst, arith}
 use Rattle.std.specs.Prelude.{◌/◌}
 use Rattle.std.specs.List.{All}
 use Rattle.std.specs.Vec.{with_items}
@@ -8,7 +8,7 @@ use Rattle.kcl_live.specs.Members.{IsReady}
 use Rattle.kcl_proc.specs.Stocks.{StandsFor}
 use Rattle.kds_turn.specs.declared.pass.TurnErr.TheVariants as failed
 use Rattle.kds_drill.specs.Ends.{AllEnded, SomeFailed}
-use Rattle.kds_drill.specs.Running.{AreFull, HaveRun}
+use Rattle.kds_drill.specs.Running.{AreFull, HaveFailed, HaveRun}
 use Rattle.kds_drill.specs.declared.participants.Participants.{Participants}
 use Rattle.kds_drill.proofs.Full.{crowd_full, members_full}
 use Rattle.kds_drill.proofs.Ran.{all_ready, have_run, have_stopped, have_stopped_all, then_err, then_ok}
@@ -31,6 +31,9 @@ returns-in-Err-clause-stopped g c =
     let same : length after.members.items ≡ length before.members.items = search rules in
     have_stopped c.args.hall.now c.args.number c.args.records before after c.requires.dealt c.requires.few
     c.in-Err.ensures.kept.0 c.in-Err.ensures.kept.1 same c.in-Err.ensures.fed_so_far ended
+
+pub returns-in-Err-clause-err : goal.returns-in-Err-clause-err
+returns-in-Err-clause-err g c = inl c.in-Err.ensures.err
 
 pub returns-in-Err-clause-full : goal.returns-in-Err-clause-full
 returns-in-Err-clause-full g c =
@@ -64,6 +67,13 @@ returns-in-Ok-clause-ran g c =
     (λ ran. have_run c.args.hall.now c.args.number c.args.records before after c.requires.dealt c.requires.few
     c.in-Ok.ensures.kept.0 c.in-Ok.ensures.kept.1 same c.in-Ok.ensures.fed ended c.horizon.ensures (subst AllEnded slice ran))
     c.first_error.ensures.ok
+
+pub returns-in-Ok-clause-err : goal.returns-in-Ok-clause-err
+returns-in-Ok-clause-err g c =
+    let before = c.args.participants.now in
+    let after : Participants = record { root = c.crowd.new.root; feeder = c.crowd.new.feeder; members = with_items before.members c.crowd.new.members } in
+    let slice : c.as_slice.result.now ≡ after.members.items = c.as_slice.ensures.value in
+    then_err c.first_error.result (λ e. SomeFailed e c.as_slice.result.now) (HaveFailed before after) (λ e some. inr (subst (SomeFailed e) slice some)) c.first_error.ensures.err
 
 pub returns-in-Ok-clause-full : goal.returns-in-Ok-clause-full
 returns-in-Ok-clause-full g c =
