@@ -1,5 +1,5 @@
 -- The streams of a service at a later clock, back at the earlier one, and without what is trimmed.
-use Rattle.std.specs.Prelude.{ℕ, zero, suc, List, [], ◌∷◌, map}
+use Rattle.std.specs.Prelude.{◌≡◌, ◌<◌, ◌⊎◌, ℕ, zero, suc, List, [], ◌∷◌, length, map}
 use Rattle.kds_stream.specs.Value.{StreamValue, cut_at, later_cut, settled}
 use Rattle.kds_service.specs.Shown.{AreAt, ServiceValue, service}
 
@@ -24,3 +24,7 @@ gone_back w = service w.clock_before w.clock_before w.made (map retreated w.stre
 -- every stream remembers the service's earlier clock: so it is after an advance, until something is changed
 abbrev pub CanGoBack : ServiceValue → Type 0
 CanGoBack w = AreAt w.clock_before (map retreated w.streams)
+
+-- one of the streams is settled, where there is one
+abbrev pub IsSettled : ServiceValue → ServiceValue → Type 0
+IsSettled old new = (i : ℕ) × ((i < length old.streams) ⊎ (old.streams ≡ [])) × (new ≡ service old.clock old.clock old.made (settled_in i old.streams))

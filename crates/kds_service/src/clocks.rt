@@ -1,5 +1,5 @@
 //! The streams at a later clock, and back at the earlier one.
-ghost use Rattle.std.specs.Prelude.{◌≡◌, ◌≤◌, ℕ, map};
+ghost use Rattle.std.specs.Prelude.{◌≡◌, ◌≤◌, ◌<◌, ◌⊎◌, ℕ, [], length, map};
 ghost use Rattle.indexmap.specs.IndexMap.{keys, values};
 ghost use Rattle.kds_defs.specs.Journal.{Journal};
 ghost use Rattle.kds_service.specs.Clocks.{advanced, retreated, settled_in};
@@ -29,6 +29,13 @@ pub fn retreat_all(streams: &mut Streams)
     for i in 0..streams.len() {
         streams[i].retreat();
     }
+}
+
+/// The place whose turn it is: this one, where a stream stands there, and else the first.
+pub fn place_in_turn(turn: usize, streams: &Streams) -> usize
+    ensures { (result < length (values streams.now)) ⊎ (values streams.now ≡ []) }
+{
+    if turn < streams.len() { turn } else { 0 }
 }
 
 /// Drops trimmed records of the stream at a place, if there is one; no answer depends on it.

@@ -12,11 +12,11 @@ ghost use Rattle.kds_defs.specs.Records.{batch, stored};
 ghost use Rattle.kds_defs.specs.Shards.{shown};
 ghost use Rattle.kds_defs.specs.Streams.{live_streams};
 ghost use Rattle.kds_stream.specs.Reading.{read_ends};
-ghost use Rattle.kds_service.specs.Clocks.{CanGoBack, advanced, gone_back, settled_in};
+ghost use Rattle.kds_service.specs.Clocks.{CanGoBack, IsSettled, advanced, gone_back};
 ghost use Rattle.kds_service.specs.Keyed.{is_listed_in, live_shard};
 ghost use Rattle.kds_service.specs.Shown.{Leads, ShowsAll, service};
 
-use crate::clocks::{advance_all, retreat_all, settle_at};
+use crate::clocks::{advance_all, place_in_turn, retreat_all, settle_at};
 use crate::keyed;
 use crate::others::others;
 use crate::places::Streams;
@@ -94,10 +94,10 @@ impl Service {
     /// the shards of each, so that a turn costs the same however many there are.
     pub fn settle(&mut self)
         ensures clock { self.new.clock ≡ self.old.clock }
-        ensures dropped { (i : ℕ) × (self.new ≡ service self.old.clock self.old.clock self.old.made (settled_in i self.old.streams)) }
+        ensures dropped { IsSettled self.old self.new }
         ensures shows { (log : Journal) → ShowsAll self.old log → ShowsAll self.new log }
     {
-        let turn = self.turn;
+        let turn = place_in_turn(self.turn, &self.streams);
         settle_at(&mut self.streams, turn);
         let next = turn.saturating_add(1);
         self.turn = if next < self.streams.len() { next } else { 0 };
