@@ -1,12 +1,14 @@
 //! Connections in memory.
-ghost use Rattle.std.specs.Prelude.{◌≡◌, ◌≤◌, ◌↔◌, ◌⊎◌, ◌<◌, length, true, false, None, Some, IsErr, IsOk, IfOk};
+ghost use Rattle.std.specs.Prelude.{ℕ, ◌≡◌, ◌≤◌, ◌↔◌, ◌⊎◌, ◌<◌, length, true, false, None, Some, IsErr, IsOk, IfOk, OnOk};
+ghost use Rattle.std.specs.Io.{ReadsAtMost};
+ghost use Rattle.std.specs.Io.KnownBytes.{ReadConsumes};
 ghost use Rattle.kds_ends.specs.Causes.{HasCause};
 
 use crate::door::Door;
 use crate::memory_sink::MemSink;
-use crate::memory_source::MemSource;
 use crate::sink::Sink;
 use crate::source::{Failed, Source};
+use crate::sure::SureSource;
 use kds_base::{Items, Memory, Octets};
 use std::alloc::Global;
 use std::collections::VecDeque;
@@ -24,7 +26,7 @@ type Written = Arc<Mutex<MemSink>>;
 #[derive(Drop)]
 pub struct MemInput<R: Wait + Drop> {
     rt: R,
-    bytes: MemSource,
+    bytes: SureSource,
     awaited: Option<Written>,
 }
 
@@ -42,6 +44,8 @@ pub struct MemDoor<R: Wait + Drop> {
     rt: R,
     written: Vec<Written>,
     waiting: VecDeque<(MemInput<R>, MemOutput<R>)>,
+    /// The port at which it listens.
+    port: Option<u16>,
     faults: u64,
 }
 
@@ -51,7 +55,7 @@ impl<R: Wait + Drop> Model for MemDoor<R> {
 
     ghost Value = { DoorState };
 
-    ghost view = { λ d. record { waiting = length d.waiting.items; faults = d.faults } };
+    ghost view = { λ d. record { port = d.port; waiting = length d.waiting.items; faults = d.faults } };
 }
 
 /// Whether the connection writes, within so many looks.
@@ -68,9 +72,14 @@ fn writes_soon<R: Wait>(rt: &R, written: &Written) -> bool {
 impl<R: Wait + Drop> Source for MemInput<R> {
     ghost left = { λ _. None };
 
-    ghost faults = { λ s. s.bytes.faults };
+    ghost faults = { λ _. 0 };
 
-    fn read(&mut self, room: &mut [u8]) -> Result<usize, Failed> {
+    fn read(&mut self, room: &mut [u8]) -> Result<usize, Failed>
+        ensures bound { ReadsAtMost result room.new }
+        ensures bytes { ReadConsumes None None result room.new }
+        ensures cause { HasCause 0 0 result }
+        ensures sure { IsOk result }
+    {
         if let Some(written) = &self.awaited {
             if !writes_soon(&self.rt, written) {
                 return Ok(0);
@@ -119,7 +128,7 @@ fn connection<R: Wait + Clone + Drop>(
 ) -> Result<(MemInput<R>, MemOutput<R>), Memory> {
     let input = MemInput {
         rt: rt.clone()?,
-        bytes: MemSource::new(call.copy(alloc)?, usize::MAX, Items::new(alloc)),
+        bytes: SureSource::new(call.copy(alloc)?),
         awaited,
     };
     let output = MemOutput {
@@ -141,7 +150,7 @@ impl<R: Wait + Clone + Drop> MemDoor<R> {
         held: bool,
     ) -> Result<MemDoor<R>, Memory>
         requires { held ≡ true → 2 ≤ length calls }
-        ensures { IfOk result (λ d. (d.waiting ≡ length calls) × (d.faults ≡ 0)) }
+        ensures { IfOk result (λ d. d ≡ record { port = None; waiting = length calls; faults = 0 }) }
     {
         let calls = calls.as_slice();
         let written = places(alloc, calls.len(), room)?;
@@ -158,6 +167,7 @@ impl<R: Wait + Clone + Drop> MemDoor<R> {
             rt,
             written,
             waiting,
+            port: None,
             faults: 0,
         })
     }
@@ -180,15 +190,21 @@ impl<R: Wait + Drop> Door for MemDoor<R> {
 
     ghost faults = { λ d. d.faults };
 
-    fn listen(&mut self, _port: u16) -> Result<(), Failed>
+    ghost listens = { λ d p. d.port ≡ Some p };
+
+    fn listen(&mut self, port: u16) -> Result<(), Failed>
         ensures cause { HasCause self.old.faults self.new.faults result }
-        ensures listens { IsOk result × (self.new ≡ self.old) }
+        ensures listens { OnOk result (self.new.port ≡ Some port) }
+        ensures sure { IsOk result }
+        ensures value { self.new ≡ record self.old { port = Some port } }
     {
+        self.port = Some(port);
         Ok(())
     }
 
     fn accept(&mut self) -> Result<(MemInput<R>, MemOutput<R>), Failed>
         ensures cause { HasCause self.old.faults self.new.faults result }
+        ensures listens { (port : ℕ) → self.old.port ≡ Some port → self.new.port ≡ Some port }
         ensures failed { IsErr result ↔ (self.old.waiting ≡ 0) }
     {
         match self.waiting.pop_front() {

@@ -1,5 +1,5 @@
 //! Connections over the machine's sockets (RFC 9293).
-ghost use Rattle.std.specs.Prelude.{◌≡◌};
+ghost use Rattle.std.specs.Prelude.{◌≡◌, Some};
 
 use crate::door::Door;
 use crate::source::{Failed, Source};
@@ -81,6 +81,8 @@ impl<S: Read + OpenStream + Drop> Source for TcpInput<S> {
 pub struct TcpDoor<R: Net> {
     rt: R,
     listener: Option<R::Listener>,
+    /// The port at which the listener listens.
+    port: Option<u16>,
     faults: u64,
 }
 
@@ -136,6 +138,7 @@ impl<R: Net> TcpDoor<R> {
         TcpDoor {
             rt,
             listener: None,
+            port: None,
             faults: 0,
         }
     }
@@ -148,10 +151,13 @@ impl<R: Net> Door for TcpDoor<R> {
 
     ghost faults = { λ d. d.faults };
 
+    ghost listens = { λ d p. d.port ≡ Some p };
+
     fn listen(&mut self, port: u16) -> Result<(), Failed> {
         match self.rt.bind(SocketAddr::from(([127, 0, 0, 1], port))) {
             Ok(listener) => {
                 self.listener = Some(listener);
+                self.port = Some(port);
                 Ok(())
             }
             Err(_) => {

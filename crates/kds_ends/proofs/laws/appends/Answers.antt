@@ -8,4 +8,8 @@ returns c =
       more = writing.appends_more;
       front_later = writing.front_later;
       front_longer = writing.front_longer;
+      part_front = writing.part_front;
+      part_later = writing.part_later;
+      part_longer = writing.part_longer;
+      front_part = writing.front_part;
     }
