@@ -42,7 +42,7 @@ abbrev pub Leads : (List Line → Result Reply Refusal → Type 0) → Decision 
 Leads P (Refused r) = P [] (Err r)
 Leads P (Accepted lines reply) = P lines (Ok reply)
 
-leads_so : (P : List Line → Result Reply Refusal → Type 0) (d : Decision) → Leads P d → P (lines_of d) (answer_of d)
+pub leads_so : (P : List Line → Result Reply Refusal → Type 0) (d : Decision) → Leads P d → P (lines_of d) (answer_of d)
 leads_so P (Refused r) h = h
 leads_so P (Accepted lines reply) h = h
 
@@ -230,7 +230,7 @@ unborn_at log line (entry.Read which limit ended numbers) t before h = none_of (
 unborn_at log line (entry.Given which) t before h = none_of with_given (which == t) (before h)
 unborn_at log line _ t before h = before h
 
-unborn : (log : Journal) (t : ℕ) → taken_count log < t → tenure log t ≡ None
+pub unborn : (log : Journal) (t : ℕ) → taken_count log < t → tenure log t ≡ None
 unborn [] t h = refl
 unborn (line ∷ log) t h = unborn_at log line line.what t (λ l. unborn log t l) h
 
@@ -250,7 +250,7 @@ OwnAgrees by what deals log t lines answer = AgreeWith by t (with_answer what an
 abbrev OtherAgrees : ℕ → List Deal → Journal → ℕ → List Line → Result Reply Refusal → Type 0
 OtherAgrees by deals log t lines answer = AgreeWith by t deals (tenure (with_lines lines log) t)
 
-same_number : (t u : ℕ) → (t == u) ≡ true → t ≡ u
+pub same_number : (t u : ℕ) → (t == u) ≡ true → t ≡ u
 same_number t u h = grind (arith, nat_tests)
 
 flipped : (t u : ℕ) → (u == t) ≡ false → (t == u) ≡ false
@@ -284,10 +284,10 @@ own_refused by what deals log t r no_read no_give h = agree_still by t (record {
 
 -- ---- the words of a decision, for any refusal
 
-past_test : (P : List Line → Result Reply Refusal → Type 0) → ((r : Refusal) → P [] (Err r)) → (r : Refusal) (b : Bool) (d : Decision) → (b ≡ false → Leads P d) → Leads P (refuse r if b else d)
+pub past_test : (P : List Line → Result Reply Refusal → Type 0) → ((r : Refusal) → P [] (Err r)) → (r : Refusal) (b : Bool) (d : Decision) → (b ≡ false → Leads P d) → Leads P (refuse r if b else d)
 past_test P all r b d g = if_refused P r b d (all r) g
 
-past_none : {A : Type 0} (P : List Line → Result Reply Refusal → Type 0) → ((r : Refusal) → P [] (Err r)) → (r : Refusal) (o : Option A) (d : A → Decision) → ((x : A) → o ≡ Some x → Leads P (d x)) → Leads P (with o or r then d)
+pub past_none : {A : Type 0} (P : List Line → Result Reply Refusal → Type 0) → ((r : Refusal) → P [] (Err r)) → (r : Refusal) (o : Option A) (d : A → Decision) → ((x : A) → o ≡ Some x → Leads P (d x)) → Leads P (with o or r then d)
 past_none P all r o d g = if_none P r o d (all r) g
 
 past_a_parent : (P : List Line → Result Reply Refusal → Type 0) → ((r : Refusal) → P [] (Err r)) → (log : Journal) (c s : ℕ) (o : Option ℕ) (d : Decision) → Leads P d → Leads P (past_parent log c s o d)

@@ -7,3 +7,5 @@ pub mod DealLemmas
 pub mod SettledLemmas
 pub mod GiveLemmas
 pub mod RetiredLemmas
+pub mod GivenLemmas
+pub mod TenancyLemmas

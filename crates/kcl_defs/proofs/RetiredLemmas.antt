@@ -18,13 +18,14 @@ use Rattle.kds_defs.specs.declared.reply.Reply.{Reply}
 use Rattle.kds_defs.specs.declared.reply.Reply.TheVariants as reply
 use Rattle.kcl_defs.specs.Consumers.{Called, Answered, Losing, Phase, Giving, Over, next_command, over_at, calls_after}
 use Rattle.kcl_defs.specs.Lives.{Deal, reads_in, gives_in, reads_after, gives_after, IsWholeLife}
-use Rattle.kcl_defs.specs.Workers.{Known, Pending, Chore, Surveying, Syncing, Taking, Renewing, Consuming, Finishing, Freeing, WorkerState, WorkerEvent, Made_call, Gave_command, Got_answer, Stopped, WorkerPast, worker_after, deals_after, id_of, id_of_held, same_id, with_event, happens_to, happens_to_first, is_due_known, settled, is_over, known_of, consumer_command, phase_of_known, counter_of, after_survey, after_renewal, after_take, after_chore, absorbed, with_deal, consumed, is_of, still_stands, AtTakes, AtRenewals, AtStopping}
+use Rattle.kcl_defs.specs.Workers.{Known, Pending, Chore, Surveying, Syncing, Taking, Renewing, Consuming, Finishing, Freeing, WorkerState, WorkerEvent, Made_call, Gave_command, Got_answer, Stopped, Released, Release, released, without_release, WorkerPast, worker_after, after_worker_event, deals_after, deals_with, id_of, id_of_held, same_id, with_event, happens_to, happens_to_first, is_due_known, settled, is_over, known_of, consumer_command, phase_of_known, counter_of, after_survey, after_renewal, after_take, after_chore, absorbed, with_deal, consumed, is_of, still_stands, AtTakes, AtRenewals, AtStopping}
 use Rattle.kcl_defs.specs.WorkerLives.{IsOrderly, IsToldIn, AreServed}
 use Rattle.kcl_defs.proofs.LifeLemmas.{Holds, StandsGiving, holds, whole}
 use Rattle.kcl_defs.proofs.SettledLemmas.{Settles, IsSettled, refused_at, was_refused, settles}
 use Rattle.kcl_defs.proofs.GiveLemmas.{IsGiveTaken, AreGivesTaken, gives_taken}
 use Rattle.kcl_defs.proofs.DealLemmas.{new_tenures}
-use Rattle.kcl_defs.proofs.WorkerLemmas.{InStep, AreNewTenures, IsFine, IsOwnCommand, IsWaitingOk, all_append, all_event, all_filter, all_first, all_with_known, fine, live_served, new_before}
+use Rattle.kcl_defs.proofs.TenancyLemmas.{all_both, all_tenures, begun_told}
+use Rattle.kcl_defs.proofs.WorkerLemmas.{InStep, AreNewTenures, IsFine, IsOwnCommand, IsWaitingOk, all_append, all_event, all_filter, all_first, all_with_known, all_without, fine, live_served, new_before}
 
 -- ---- a Give of a consumer that has a batch to give is not refused
 
@@ -73,10 +74,10 @@ or_none : (a b : Bool) → a ≡ false → b ≡ false → (a || b) ≡ false
 or_none true b h g = absurd cc
 or_none false b h g = g
 
-called_unrefused : (asked : Ask) (k : Known) → IsUnrefused k → IsUnrefused (with_event (Called asked) k)
+pub called_unrefused : (asked : Ask) (k : Known) → IsUnrefused k → IsUnrefused (with_event (Called asked) k)
 called_unrefused asked k h = or_none (refused_at (phase_of_known k) (Called asked)) (was_refused k.made k.past) (no_give (phase_of_known k) asked).0 h
 
-lost_unrefused : (k : Known) → IsUnrefused k → IsUnrefused (with_event Losing k)
+pub lost_unrefused : (k : Known) → IsUnrefused k → IsUnrefused (with_event Losing k)
 lost_unrefused k h = or_none (refused_at (phase_of_known k) Losing) (was_refused k.made k.past) (no_give (phase_of_known k) ask.None).1 h
 
 all_passed : (p : Known → Bool) (xs : List Known) → AllByRecursion (λ k. p k ≡ true) (filter p xs)
@@ -108,7 +109,7 @@ step_kept deals k s =
     let Q : ℕ → Type 0 = λ n. Holds k.made (phase_of_known k) (reads_after k.made k.past) n (calls_after k.made k.past) in
     subst P (sym s.reads) (subst Q (sym s.gives) (holds k.made k.past))
 
-answered_unrefused : (deals : List Deal) (k : Known) (counter : ℕ) (what : Command) (answer : Result Reply Refusal) → next_command k.made (phase_of_known k) counter ≡ Some what → IsGiveTaken what answer deals → InStep deals k → IsUnrefused k → IsUnrefused (with_event (Answered answer) k)
+pub answered_unrefused : (deals : List Deal) (k : Known) (counter : ℕ) (what : Command) (answer : Result Reply Refusal) → next_command k.made (phase_of_known k) counter ≡ Some what → IsGiveTaken what answer deals → InStep deals k → IsUnrefused k → IsUnrefused (with_event (Answered answer) k)
 answered_unrefused deals k counter what answer next taken s h =
     or_none (refused_at (phase_of_known k) (Answered answer)) (was_refused k.made k.past)
     (give_accepted k.made (phase_of_known k) counter what answer deals (calls_after k.made k.past) next taken (step_kept deals k s)) h
@@ -182,22 +183,30 @@ absorbed_unrefused made now answer deals w (Some p) is taken steps u =
 
 -- ---- the record
 
-event_unrefused : (made : WorkerMade) (event : WorkerEvent) (past : WorkerPast) → AreGivesTaken (deals_after made (event ∷ past)) → IsFine (deals_after made past) (worker_after made past) → AreUnrefused (worker_after made past).consumers (worker_after made past).retired → AreUnrefused (worker_after made (event ∷ past)).consumers (worker_after made (event ∷ past)).retired
-event_unrefused made (Made_call asked) past taken f u =
-    let w = worker_after made past in
-    settle_unrefused (record w { consumers = happens_to_first is_due_known (Called asked) w.consumers }) (record {
-      live = all_first IsUnrefused is_due_known (Called asked) w.consumers (called_unrefused asked) u.live;
-      over = u.over;
-      ended = u.ended;
-    })
-event_unrefused made (Gave_command now) past taken f u = u
-event_unrefused made (Got_answer now answer) past taken f u =
-    let w = worker_after made past in
-    absorbed_unrefused made now answer (deals_after made past) w w.waiting f.waits taken f.good.live u
-event_unrefused made Stopped past taken f u =
-    let w = worker_after made past in
+release_unrefused : (o : Option Release) (w : WorkerState) → AreUnrefused w.consumers w.retired → AreUnrefused (without_release o w).consumers (without_release o w).retired
+release_unrefused None w u = u
+release_unrefused (Some r) w u = record {
+  live = all_without IsUnrefused (id_of_held r.held) w.consumers u.live;
+  over = u.over;
+  ended = u.ended;
+}
+
+-- by the state before
+pub state_unrefused : (made : WorkerMade) (event : WorkerEvent) (w : WorkerState) (deals : List Deal) → AreGivesTaken (deals_with event w deals) → IsFine deals w → AreUnrefused w.consumers w.retired → AreUnrefused (after_worker_event made event w).consumers (after_worker_event made event w).retired
+state_unrefused made (Made_call asked) w deals taken f u = settle_unrefused (record w { consumers = happens_to_first is_due_known (Called asked) w.consumers }) (record {
+  live = all_first IsUnrefused is_due_known (Called asked) w.consumers (called_unrefused asked) u.live;
+  over = u.over;
+  ended = u.ended;
+})
+state_unrefused made (Gave_command now) w deals taken f u = u
+state_unrefused made (Got_answer now answer) w deals taken f u = absorbed_unrefused made now answer deals w w.waiting f.waits taken f.good.live u
+state_unrefused made Stopped w deals taken f u =
     settle_unrefused (record w { round = AtStopping; consumers = happens_to (λ k. true) Losing w.consumers })
     (losing_unrefused (λ k. true) w.consumers w.retired u)
+state_unrefused made (Released key) w deals taken f u = release_unrefused (released key w) w u
+
+event_unrefused : (made : WorkerMade) (event : WorkerEvent) (past : WorkerPast) → AreGivesTaken (deals_after made (event ∷ past)) → IsFine (deals_after made past) (worker_after made past) → AreUnrefused (worker_after made past).consumers (worker_after made past).retired → AreUnrefused (worker_after made (event ∷ past)).consumers (worker_after made (event ∷ past)).retired
+event_unrefused made event past taken f u = state_unrefused made event (worker_after made past) (deals_after made past) taken f u
 
 taken_before : (made : WorkerMade) (event : WorkerEvent) (past : WorkerPast) → AreGivesTaken (deals_after made (event ∷ past)) → AreGivesTaken (deals_after made past)
 taken_before made (Got_answer now answer) past h = before (worker_after made past).waiting h
@@ -208,6 +217,7 @@ taken_before made (Got_answer now answer) past h = before (worker_after made pas
 taken_before made (Made_call asked) past h = h
 taken_before made (Gave_command now) past h = h
 taken_before made Stopped past h = h
+taken_before made (Released key) past h = h
 
 unrefused : (made : WorkerMade) (past : WorkerPast) → IsOrderly made past → AreNewTenures (deals_after made past) → AreGivesTaken (deals_after made past) → AreUnrefused (worker_after made past).consumers (worker_after made past).retired
 unrefused made [] orderly new taken = record { live = tt; over = tt; ended = tt }
@@ -226,14 +236,14 @@ over_life : (made : Tenancy) (phase : Phase) (reads : List Fetched) (gives : ℕ
 over_life made (Over why) reads gives calls over s = settled_life made reads gives calls s
 over_life made _ reads gives calls over s = absurd cc
 
-whole_among : (deals : List Deal) (k : Known) → InStep deals k → IsUnrefused k → HasEnded k → IsWholeLife k.made (reads_in k.made.tenure deals) (gives_in k.made.tenure deals) (calls_after k.made k.past)
+pub whole_among : (deals : List Deal) (k : Known) → InStep deals k → IsUnrefused k → HasEnded k → IsWholeLife k.made (reads_in k.made.tenure deals) (gives_in k.made.tenure deals) (calls_after k.made k.past)
 whole_among deals k s unrefused over =
     let P : List Fetched → Type 0 = λ rs. IsWholeLife k.made rs (gives_in k.made.tenure deals) (calls_after k.made k.past) in
     let Q : ℕ → Type 0 = λ n. IsWholeLife k.made (reads_after k.made k.past) n (calls_after k.made k.past) in
     subst P (sym s.reads) (subst Q (sym s.gives)
     (over_life k.made (phase_of_known k) (reads_after k.made k.past) (gives_after k.made k.past) (calls_after k.made k.past) over (settles k.made k.past unrefused)))
 
-all_whole : (deals : List Deal) (xs : List Known) → AllByRecursion (InStep deals) xs → AllByRecursion IsUnrefused xs → AllByRecursion HasEnded xs → AllByRecursion (λ k. IsWholeLife k.made (reads_in k.made.tenure deals) (gives_in k.made.tenure deals) (calls_after k.made k.past)) xs
+pub all_whole : (deals : List Deal) (xs : List Known) → AllByRecursion (InStep deals) xs → AllByRecursion IsUnrefused xs → AllByRecursion HasEnded xs → AllByRecursion (λ k. IsWholeLife k.made (reads_in k.made.tenure deals) (gives_in k.made.tenure deals) (calls_after k.made k.past)) xs
 all_whole deals [] steps u e = tt
 all_whole deals (k ∷ xs) steps u e = (whole_among deals k steps.0 u.0 e.0, all_whole deals xs steps.1 u.1 e.1)
 
@@ -247,8 +257,11 @@ retired_whole made past orderly new taken =
 pub are_served : (by : ℕ) (h : List Turn) (made : WorkerMade) (past : WorkerPast) → IsOrderly made past → IsToldIn by h made past → AreServed by h made past
 are_served by h made past orderly told =
     let new = subst AreNewTenures told (new_tenures by h) in
-    let Q : List Deal → Type 0 = λ deals. AllByRecursion (λ k. IsWholeLife k.made (reads_in k.made.tenure deals) (gives_in k.made.tenure deals) (calls_after k.made k.past)) (worker_after made past).retired in
+    let w = worker_after made past in
+    let begun = begun_told by h made past told in
+    let Q : List Deal → Type 0 = λ deals. AllByRecursion (λ k. IsWholeLife k.made (reads_in k.made.tenure deals) (gives_in k.made.tenure deals) (calls_after k.made k.past)) w.retired in
     record {
-      consumers = live_served by h made past orderly told (new_tenures by h);
-      retired = subst Q (sym told) (retired_whole made past orderly new (subst AreGivesTaken told (gives_taken by h)));
+      consumers = all_both _ _ w.consumers (all_tenures by h w.consumers begun.live) (live_served by h made past orderly told (new_tenures by h));
+      retired = all_both _ _ w.retired (all_tenures by h w.retired begun.over)
+          (subst Q (sym told) (retired_whole made past orderly new (subst AreGivesTaken told (gives_taken by h))));
     }

@@ -17,11 +17,11 @@ use Rattle.kds_defs.specs.declared.reply.Refusal.{Refusal}
 use Rattle.kds_defs.specs.declared.reply.Reply.{Reply}
 use Rattle.kds_defs.specs.declared.reply.Reply.TheVariants as reply
 use Rattle.kcl_defs.specs.Consumers.{Event, Called, Answered, Losing, Phase, Opening, Filling, Giving, Marking, MarkingEnd, next_command, calls_after}
-use Rattle.kcl_defs.specs.Lives.{Deal, deals_of, reads_of, reads_in, gives_of, gives_in, read_in, give_in, IsInStep, IsLifeAmong}
-use Rattle.kcl_defs.specs.Workers.{Known, Pending, Chore, Surveying, Syncing, Taking, Renewing, Consuming, Finishing, Freeing, WorkerState, WorkerEvent, Made_call, Gave_command, Got_answer, Stopped, WorkerPast, worker_after, deals_after, id_of, same_id, with_event, happens_to, happens_to_first, is_due_known, settled, is_over, with_known, is_before_id, known_of, consumer_command, phase_of_known, counter_of, is_giving, is_giving_phase, Round, AtSurvey, AtSync, AtTakes, AtRenewals, AtConsumers, AtStopping, consumer_chore, renewal_chore, from_takes, from_sync, freeing_chore, stopping_chore, chore_from, chore_at, is_past, id_of_held, pending_of, pending_chore, next_pending, after_called, after_asked, after_stop, after_survey, after_renewal, after_take, after_chore, absorbed, with_deal, deals_with, without_held, after_consumer, consumed, is_of, still_stands}
+use Rattle.kcl_defs.specs.Lives.{Deal, deals_of, reads_of, reads_in, gives_of, gives_in, read_in, give_in, IsInStep, IsLifeAmong, IsLifeIn}
+use Rattle.kcl_defs.specs.Workers.{Known, Pending, Chore, Surveying, Syncing, Taking, Renewing, Consuming, Finishing, Freeing, WorkerState, WorkerEvent, Made_call, Gave_command, Got_answer, Stopped, Released, Release, released, without_known, without_release, WorkerPast, worker_after, deals_after, id_of, same_id, with_event, happens_to, happens_to_first, is_due_known, settled, is_over, with_known, is_before_id, known_of, consumer_command, phase_of_known, counter_of, is_giving, is_giving_phase, Round, AtSurvey, AtSync, AtTakes, AtRenewals, AtConsumers, AtStopping, consumer_chore, renewal_chore, from_takes, from_sync, freeing_chore, stopping_chore, chore_from, chore_at, is_past, id_of_held, pending_of, pending_chore, next_pending, after_called, after_asked, after_stop, after_worker_event, after_survey, after_renewal, after_take, after_chore, absorbed, with_deal, deals_with, without_held, after_consumer, consumed, is_of, still_stands}
 use Rattle.kcl_defs.specs.Plans.{is_due}
 use Rattle.kds_defs.specs.declared.command.Turn.{Turn}
-use Rattle.kcl_defs.specs.WorkerLives.{MayHappen, IsOrderly, IsToldIn, IsServed}
+use Rattle.kcl_defs.specs.WorkerLives.{MayHappen, IsOrderly, IsToldIn}
 use Rattle.kcl_defs.proofs.StepLemmas.{others_keep, own_keeps, called_keeps, lost_keeps, life_among}
 
 -- ---- how often a tenure is among consumers
@@ -33,7 +33,7 @@ times t (k ∷ known) = (if k.made.tenure == t then 1 else 0) + times t known
 abbrev pub InStep : List Deal → Known → Type 0
 InStep deals k = IsInStep deals k.made k.past
 
-times-append : (t : ℕ) (xs ys : List Known) → times t (xs ++ ys) ≡ times t xs + times t ys
+pub times-append : (t : ℕ) (xs ys : List Known) → times t (xs ++ ys) ≡ times t xs + times t ys
 times-append t [] ys = zero_plus (times t ys)
   where
     zero_plus : (n : ℕ) → n ≡ 0 + n
@@ -146,7 +146,7 @@ flip t u h = grind (arith, nat_tests)
 about_as : (t : ℕ) (given what : Command) → Some given ≡ Some what → IsAbout t given → IsAbout t what
 about_as t given what e h = subst (λ w. IsAbout t w) (same_command given what e) h
 
-about : (made : Tenancy) (phase : Phase) (counter : ℕ) (what : Command) → next_command made phase counter ≡ Some what → IsAbout made.tenure what
+pub about : (made : Tenancy) (phase : Phase) (counter : ℕ) (what : Command) → next_command made phase counter ≡ Some what → IsAbout made.tenure what
 about made Opening counter what e = about_as made.tenure _ what e (λ u n a. (refl, refl))
 about made (Filling reach waiting) counter what e = about_as made.tenure _ what e (λ u n a. (ap (λ b. cond b (read_in a) []) (flip made.tenure u n), refl))
 about made (Giving reach waiting asked lost) counter what e = about_as made.tenure _ what e (λ u n a. (refl, ap (λ b. cond b (give_in a) 0) (flip made.tenure u n)))
@@ -167,7 +167,7 @@ and_false true b h = h
 and_false false b h = refl
 
 -- consumers of other tenures keep
-others : (t : ℕ) (deal : Deal) (deals : List Deal) (xs : List Known) → IsAbout t deal.what → times t xs ≡ 0 → AllByRecursion (InStep deals) xs → AllByRecursion (InStep (deal ∷ deals)) xs
+pub others : (t : ℕ) (deal : Deal) (deals : List Deal) (xs : List Known) → IsAbout t deal.what → times t xs ≡ 0 → AllByRecursion (InStep deals) xs → AllByRecursion (InStep (deal ∷ deals)) xs
 others t deal deals [] is none h = tt
 others t deal deals (k ∷ xs) is none h = head (k.made.tenure == t) refl none (λ n. others t deal deals xs is n h.1)
   where
@@ -181,7 +181,7 @@ quiet : (deal : Deal) (deals : List Deal) (xs : List Known) → IsQuiet deal.wha
 quiet deal deals xs is h = all_map (InStep deals) (InStep (deal ∷ deals)) xs (λ k s. let q = is k.made.tenure deal.answer in others_keep deal deals k.made k.past q.0 q.1 s) h
 
 -- a consumer that is found is there
-found_times : (id : LeaseId) (k : Known) (xs : List Known) → known_of id xs ≡ Some k → 1 ≤ times id.tenure xs
+pub found_times : (id : LeaseId) (k : Known) (xs : List Known) → known_of id xs ≡ Some k → 1 ≤ times id.tenure xs
 found_times id k [] h = absurd cc
 found_times id k (x ∷ xs) h = head (same_id (id_of x) id) refl h (λ g. found_times id k xs g)
   where
@@ -307,7 +307,7 @@ neither true b h = absurd cc
 neither false b h = (refl, h)
 
 -- a command that is about no tenure
-quiet_good : (deal : Deal) (deals : List Deal) (consumers retired : List Known) → IsQuiet deal.what → AreGood deals consumers retired → AreGood (deal ∷ deals) consumers retired
+pub quiet_good : (deal : Deal) (deals : List Deal) (consumers retired : List Known) → IsQuiet deal.what → AreGood deals consumers retired → AreGood (deal ∷ deals) consumers retired
 quiet_good deal deals consumers retired is g = record {
   apart = g.apart;
   begun = λ t n. g.begun t (neither (begins t deal.answer) (was_taken t deals) n).1;
@@ -439,7 +439,7 @@ gives_next : (made : Tenancy) (phase : Phase) (counter : ℕ) → is_giving_phas
 gives_next made (Giving reach waiting asked lost) counter h = refl
 gives_next made _ counter h = absurd cc
 
-found_tenure : (id : LeaseId) (k : Known) (xs : List Known) → known_of id xs ≡ Some k → k.made.tenure ≡ id.tenure
+pub found_tenure : (id : LeaseId) (k : Known) (xs : List Known) → known_of id xs ≡ Some k → k.made.tenure ≡ id.tenure
 found_tenure id k [] h = absurd cc
 found_tenure id k (x ∷ xs) h = head (same_id (id_of x) id) refl h (λ g. found_tenure id k xs g)
   where
@@ -533,6 +533,50 @@ stop_fine : (deals : List Deal) (w : WorkerState) → w.waiting ≡ None → IsF
 stop_fine deals w none f =
     settle_fine deals (record w { round = AtStopping; consumers = happens_to (λ k. true) Losing w.consumers }) none
     (lost_good deals (λ k. true) w.consumers w.retired f.good)
+
+-- a consumer leaves
+pub all_without : (P : Known → Type 0) (id : LeaseId) (xs : List Known) → AllByRecursion P xs → AllByRecursion P (without_known id xs)
+all_without P id [] h = tt
+all_without P id (x ∷ xs) h = head (same_id (id_of x) id) (all_without P id xs h.1)
+  where
+    head : (b : Bool) → AllByRecursion P (without_known id xs) → AllByRecursion P (if b then xs else x ∷ without_known id xs)
+    head true rest = h.1
+    head false rest = (h.0, rest)
+
+times-without : (t : ℕ) (id : LeaseId) (xs : List Known) → times t (without_known id xs) ≤ times t xs
+times-without t id [] = omega arith
+times-without t id (x ∷ xs) = head (same_id (id_of x) id) (times-without t id xs)
+  where
+    fewer : (a b : ℕ) → b ≤ a + b
+    fewer a b = omega arith
+
+    as_many : (a b c : ℕ) → b ≤ c → a + b ≤ a + c
+    as_many a b c h = omega (arith, h)
+
+    head : (b : Bool) → times t (without_known id xs) ≤ times t xs → times t (if b then xs else x ∷ without_known id xs) ≤ times t (x ∷ xs)
+    head true rest = fewer (if x.made.tenure == t then 1 else 0) (times t xs)
+    head false rest = as_many (if x.made.tenure == t then 1 else 0) (times t (without_known id xs)) (times t xs) rest
+
+without_good : (id : LeaseId) (deals : List Deal) (consumers retired : List Known) → AreGood deals consumers retired → AreGood deals (without_known id consumers) retired
+without_good id deals consumers retired g = record {
+  apart = λ t. less (times t (without_known id consumers)) (times t consumers) (times t retired) (times-without t id consumers) (g.apart t);
+  begun = λ t n. none (times t (without_known id consumers)) (times t consumers) (times t retired) (times-without t id consumers) (g.begun t n);
+  live = all_without (InStep deals) id consumers g.live;
+  over = g.over;
+}
+  where
+    less : (a b c : ℕ) → a ≤ b → b + c ≤ 1 → a + c ≤ 1
+    less a b c h o = omega (arith, h, o)
+
+    none : (a b c : ℕ) → a ≤ b → b + c ≡ 0 → a + c ≡ 0
+    none a b c h o = omega (arith, h, o)
+
+release_fine : (deals : List Deal) (o : Option Release) (w : WorkerState) → w.waiting ≡ None → IsFine deals w → IsFine deals (without_release o w)
+release_fine deals None w none f = f
+release_fine deals (Some r) w none f = record {
+  good = without_good (id_of_held r.held) deals w.consumers w.retired f.good;
+  waits = subst (λ o. IsWaitingOk o (without_release (Some r) w)) (sym none) tt;
+}
 
 -- the answer to a consumer's command
 consumer_good : (id : LeaseId) (deal : Deal) (deals : List Deal) (w : WorkerState) (o : Option Known) → known_of id w.consumers ≡ o → consumer_command w o ≡ Some deal.what → AreGood deals w.consumers w.retired → AreGood (deal ∷ deals) (consumed id deal.answer w.consumers) w.retired
@@ -643,12 +687,18 @@ new_before (Got_answer now answer) w deals h = before w.waiting h
 new_before (Made_call asked) w deals h = h
 new_before (Gave_command now) w deals h = h
 new_before Stopped w deals h = h
+new_before (Released key) w deals h = h
+
+-- by the state before
+pub state_fine : (made : WorkerMade) (event : WorkerEvent) (w : WorkerState) (deals : List Deal) → MayHappen made event w → AreNewTenures (deals_with event w deals) → IsFine deals w → IsFine (deals_with event w deals) (after_worker_event made event w)
+state_fine made (Made_call asked) w deals may new f = called_fine deals asked w may f
+state_fine made (Gave_command now) w deals may new f = asked_fine made now deals w f
+state_fine made (Got_answer now answer) w deals may new f = absorbed_fine made now answer deals w w.waiting f.waits new f
+state_fine made Stopped w deals may new f = stop_fine deals w may f
+state_fine made (Released key) w deals may new f = release_fine deals (released key w) w may f
 
 event_fine : (made : WorkerMade) (event : WorkerEvent) (past : WorkerPast) → MayHappen made event (worker_after made past) → AreNewTenures (deals_after made (event ∷ past)) → IsFine (deals_after made past) (worker_after made past) → IsFine (deals_after made (event ∷ past)) (worker_after made (event ∷ past))
-event_fine made (Made_call asked) past may new f = called_fine (deals_after made past) asked (worker_after made past) may f
-event_fine made (Gave_command now) past may new f = asked_fine made now (deals_after made past) (worker_after made past) f
-event_fine made (Got_answer now answer) past may new f = absorbed_fine made now answer (deals_after made past) (worker_after made past) (worker_after made past).waiting f.waits new f
-event_fine made Stopped past may new f = stop_fine (deals_after made past) (worker_after made past) may f
+event_fine made event past may new f = state_fine made event (worker_after made past) (deals_after made past) may new f
 
 pub fine : (made : WorkerMade) (past : WorkerPast) → IsOrderly made past → AreNewTenures (deals_after made past) → IsFine (deals_after made past) (worker_after made past)
 fine made [] orderly new = record {
@@ -664,7 +714,7 @@ live_among made past orderly new =
     all_map (InStep (deals_after made past)) _ (worker_after made past).consumers (λ k s. life_among (deals_after made past) k.made k.past s) (fine made past orderly new).good.live
 
 -- and so in each history in which these are the actor's turns
-pub live_served : (by : ℕ) (h : List Turn) (made : WorkerMade) (past : WorkerPast) → IsOrderly made past → IsToldIn by h made past → AreNewTenures (deals_of by h) → AllByRecursion (IsServed by h) (worker_after made past).consumers
+pub live_served : (by : ℕ) (h : List Turn) (made : WorkerMade) (past : WorkerPast) → IsOrderly made past → IsToldIn by h made past → AreNewTenures (deals_of by h) → AllByRecursion (λ k. IsLifeIn by h k.made (calls_after k.made k.past)) (worker_after made past).consumers
 live_served by h made past orderly told new =
     let P : List Deal → Type 0 = λ deals. AllByRecursion (λ k. IsLifeAmong deals k.made (calls_after k.made k.past)) (worker_after made past).consumers in
     subst P (sym told) (live_among made past orderly (subst AreNewTenures told new))

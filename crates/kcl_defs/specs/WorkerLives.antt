@@ -1,13 +1,15 @@
 -- The processors of a worker are called for the given reads of their tenures in a history.
-use Rattle.std.specs.Prelude.{ℕ, ◌≡◌, List, [], ◌∷◌, None, map}
+use Rattle.std.specs.Prelude.{ℕ, ◌≡◌, List, [], ◌∷◌, Some, None, map}
 use Rattle.std.specs.List.{AllByRecursion}
 use Rattle.kds_defs.specs.declared.command.Turn.{Turn}
+use Rattle.kcl_defs.specs.declared.consumer.Tenancy.{Tenancy}
 use Rattle.kcl_defs.specs.declared.consumer.WorkerMade.{WorkerMade}
 use Rattle.kcl_defs.specs.Consumers.{calls_after}
 use Rattle.kcl_defs.specs.declared.consumer.Fetched.{Fetched}
-use Rattle.kds_defs.specs.Leases.{TenureState, ReadDone}
+use Rattle.kds_defs.specs.Histories.{journal}
+use Rattle.kds_defs.specs.Leases.{TenureState, ReadDone, tenure}
 use Rattle.kcl_defs.specs.Lives.{reads_in, gives_in, deals_of, IsLifeIn, IsWholeLifeIn}
-use Rattle.kcl_defs.specs.Workers.{Known, WorkerState, WorkerEvent, Made_call, Gave_command, Got_answer, Stopped, WorkerPast, worker_after, deals_after}
+use Rattle.kcl_defs.specs.Workers.{Known, WorkerState, WorkerEvent, Made_call, Gave_command, Got_answer, Stopped, Released, WorkerPast, worker_after, deals_after}
 
 -- what may happen where: while a command waits, nothing but its answer
 abbrev pub MayHappen : WorkerMade → WorkerEvent → WorkerState → Type 0
@@ -15,6 +17,7 @@ MayHappen made (Made_call asked) w = w.waiting ≡ None
 MayHappen made (Gave_command now) w = w.waiting ≡ None
 MayHappen made (Got_answer now answer) w = Unit {0}
 MayHappen made Stopped w = w.waiting ≡ None
+MayHappen made (Released key) w = w.waiting ≡ None
 
 -- a record that calls within their conditions lead to
 abbrev pub IsOrderly : WorkerMade → WorkerPast → Type 0
@@ -25,15 +28,23 @@ IsOrderly made (event ∷ past) = MayHappen made event (worker_after made past) 
 abbrev pub IsToldIn : ℕ → List Turn → WorkerMade → WorkerPast → Type 0
 IsToldIn by h made past = deals_of by h ≡ deals_after made past
 
--- the calls of this consumer are the given reads of its tenure
+-- what a consumer is made with is a tenure of the history: the actor's, of this key, from this start
+pub record IsOfTenure (by : ℕ) (h : List Turn) (made : Tenancy) : Type 0 where
+  pub state : TenureState
+  pub begun : tenure (journal h) made.tenure ≡ Some state
+  pub own : state.by ≡ by
+  pub key : state.key ≡ made.key
+  pub start : state.start ≡ made.start
+
+-- this consumer is of a tenure, and its calls are the given reads of that tenure
 abbrev pub IsServed : ℕ → List Turn → Known → Type 0
-IsServed by h k = IsLifeIn by h k.made (calls_after k.made k.past)
+IsServed by h k = IsOfTenure by h k.made × IsLifeIn by h k.made (calls_after k.made k.past)
 
 -- and no batch that it was handed waits to be given
 abbrev pub IsServedWhole : ℕ → List Turn → Known → Type 0
-IsServedWhole by h k = IsWholeLifeIn by h k.made (calls_after k.made k.past)
+IsServedWhole by h k = IsOfTenure by h k.made × IsWholeLifeIn by h k.made (calls_after k.made k.past)
 
--- so are those of all consumers; and no batch of a retired one waits
+-- so of all consumers; and no batch of a retired one waits
 pub record AreServed (by : ℕ) (h : List Turn) (made : WorkerMade) (past : WorkerPast) : Type 0 where
   pub consumers : AllByRecursion (IsServed by h) (worker_after made past).consumers
   pub retired : AllByRecursion (IsServedWhole by h) (worker_after made past).retired
