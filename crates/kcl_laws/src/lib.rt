@@ -1,11 +1,11 @@
 //! What is true of every history: functions without parameters, whose contracts are the laws.
 #![tactic(auto)]
 
-ghost use Rattle.std.specs.Prelude.{ℕ, List, [], ◌∷◌, ◌≤◌, ◌≡◌, Option, Some, None, Err};
+ghost use Rattle.std.specs.Prelude.{ℕ, true, List, [], ◌∷◌, ◌≤◌, ◌≡◌, Option, Some, None, Err};
 ghost use Rattle.std.specs.List.{AllByRecursion};
 ghost use Rattle.kcl_laws.specs.Acting.{acting, lost_answer, ActsBy, HasLost};
 ghost use Rattle.kcl_laws.specs.Deliveries.{AreReadOn, AreWhole};
-ghost use Rattle.kcl_laws.specs.Makings.{times_made};
+ghost use Rattle.kcl_laws.specs.Makings.{HasExpired, times_made};
 ghost use Rattle.kcl_laws.specs.Recorded.{AreDrawn, HasFrom, IsFromHorizon, IsSized};
 ghost use Rattle.kcl_laws.specs.RowLines.{Making, IsToldRow, last_bound, making};
 ghost use Rattle.kcl_laws.specs.ShownLines.{shown_journal};
@@ -19,12 +19,13 @@ ghost use Rattle.kds_defs.specs.declared.reply.Row.{Row};
 ghost use Rattle.kds_defs.specs.Histories.{journal, clock, answer};
 ghost use Rattle.kds_defs.specs.Journal.{Line, Journal};
 ghost use Rattle.kds_defs.specs.Lawful.{IsHistory};
-ghost use Rattle.kds_defs.specs.Leases.{TenureState, row, tenure};
+ghost use Rattle.kds_defs.specs.Leases.{TenureState, place_of, row, tenure};
 ghost use Rattle.kds_defs.specs.Legal.{IsGood, IsLegal, IsReached};
 ghost use Rattle.kds_defs.specs.Records.{next_number, records};
-ghost use Rattle.kds_defs.specs.Safe.{HasPartitions, ArePlaced, AreCovered, AreInLine, HoldsRow, AreFenced, IsSafe};
+ghost use Rattle.kds_defs.specs.Safe.{HasPartitions, ArePlaced, AreCovered, AreInLine, HoldsRow, AreFenced, IsSafe, RiseFrom, all_numbers};
 ghost use Rattle.kds_defs.specs.Shards.{shard_at, shards, start_of};
 ghost use Rattle.kds_defs.specs.StreamCommands.{last_number};
+ghost use Rattle.kds_defs.specs.Streams.{was_made};
 ghost use Rattle.kds_defs.specs.Tiled.{AreNumbered};
 
 /// The open shards of each stream partition the keys.
@@ -49,15 +50,21 @@ pub fn whole_coverage()
 {}
 
 /// In each tenure of a key that has a row, each record from the row's floor on and below the delivered position
-/// was given or is trimmed, and each such record below the reach was read, was given or is trimmed.
+/// was given or is trimmed, and each such record below the reach was read, was given or is trimmed. What a tenure reads
+/// rises from the place where it begins.
 pub fn delivery()
-    ensures { (h : List Turn) → IsHistory h → (c : ℕ) → clock h ≤ c → AreReadOn (journal h) c }
+    ensures reads { (h : List Turn) → IsHistory h → (c : ℕ) → clock h ≤ c → AreReadOn (journal h) c }
+    ensures begins { (h : List Turn) → IsHistory h → (t : ℕ) (T : TenureState) → tenure (journal h) t ≡ Some T
+        → RiseFrom (place_of T.start) (all_numbers T.reads) }
 {}
 
 /// A key gets one row at most: the tenures of a key are those of its row. A row is removed once its shard is
-/// expired, and what is expired stays so.
+/// expired, and what is expired stays so, after a line and at a later clock.
 pub fn one_row()
-    ensures { (h : List Turn) → IsHistory h → (key : ShardRef) → times_made (journal h) key ≤ 1 }
+    ensures once { (h : List Turn) → IsHistory h → (key : ShardRef) → times_made (journal h) key ≤ 1 }
+    ensures expired { (log : Journal) (line : Line) → IsLegal (line ∷ log) → (c : ℕ) (key : ShardRef) → was_made log key.stream ≡ true
+        → HasExpired log line.clock key → HasExpired (line ∷ log) c key }
+    ensures later { (log : Journal) (c d : ℕ) (key : ShardRef) → c ≤ d → HasExpired log c key → HasExpired log d key }
 {}
 
 /// A read stands after an opening of its tenure, and an opening after the parents ended or expired.
