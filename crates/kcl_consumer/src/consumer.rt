@@ -1,6 +1,6 @@
 ghost use Rattle.std.specs.Prelude.{◌≡◌, ◌<◌, ℕ, false, length, List, [], ◌∷◌, IsSome, IfOk, OnOk, OnErr, Some, None, Option, Bool};
 ghost use Rattle.kcl_defs.specs.declared.consumer.Ask.{Ask};
-ghost use Rattle.kcl_defs.specs.Consumers.{Past, calls_after, Opening, due_call, over_at, next_command, after_answer, after_end, after_open, progress_of, after_loss, first_place, last_number_in, target_of, given, after_give, after_mark, after_read, told_over, told_refusal};
+ghost use Rattle.kcl_defs.specs.Consumers.{Past, Answered, Called, Losing, calls_after, Giving, Opening, due_call, over_at, next_command, phase_after, after_answer, after_end, after_open, progress_of, after_loss, first_place, last_number_in, target_of, given, given_after, after_give, after_mark, after_read, told_over, told_refusal};
 ghost use Rattle.kcl_defs.specs.Workers.{is_giving_phase, is_marking_or_opening};
 ghost use Rattle.kds_defs.specs.Kinds.{is_service};
 ghost use Rattle.kds_defs.specs.Lawful.{IsLawfulCommand, IsLimit};
@@ -9,8 +9,8 @@ ghost use Rattle.kds_defs.specs.declared.command.Target.{Target};
 ghost use Rattle.kcl_defs.specs.declared.consumer.Fetched.{Fetched};
 ghost use Rattle.kds_defs.specs.declared.limits.TheConstants.{PENDING_READS};
 ghost use Rattle.kcl_defs.specs.declared.consumer.Tenancy.{Tenancy};
-ghost use Rattle.kcl_defs.specs.Lives.{IsLife, reads_after, gives_after};
-ghost use Rattle.kcl_consumer.specs.Standing.{HasCalled, IsAsBefore};
+ghost use Rattle.kcl_defs.specs.Lives.{Deal, IsInStep, IsLife, IsLifeAmong, reads_after, gives_after};
+ghost use Rattle.kcl_consumer.specs.Standing.{HasCalled, IsAsBefore, StandsFor};
 ghost use Rattle.kcl_consumer.specs.Fetchings.{IsFetching};
 
 use crate::ahead::Ahead;
@@ -115,6 +115,19 @@ fn after_giving(ahead: &mut Ahead, asked: Option<Target>, lost: bool, answer: &A
     }
 }
 
+/// The last number that was given, after the answer to a Give of the first batch.
+fn last_after(ahead: &Ahead, given: Option<Seq>, answer: &Answer) -> Option<Seq>
+    ensures { (reach : ℕ) (asked : Option Target) (lost : Bool) → result ≡ given_after answer.now (Giving reach ahead.now asked lost) given }
+{
+    match answer {
+        Ok(_) => match last_in(ahead.first_batch()) {
+            Some(seq) => Some(seq),
+            None => given,
+        },
+        Err(_) => given,
+    }
+}
+
 /// Where a consumer stands after a mark that its processor asked for, and what is told of it.
 fn after_marking(ahead: &Ahead, answer: &Answer) -> (Stage, Progress)
     ensures phase { (reach : ℕ) → phase_of result.0 reach ahead.now None false ≡ after_mark reach ahead.now answer.now }
@@ -210,6 +223,7 @@ pub struct Consumer<P> {
     ahead: Ahead,
     asked: Option<Target>,
     lost: bool,
+    given: Option<Seq>,
     processor: P,
 }
 
@@ -221,7 +235,7 @@ impl<P> Model for Consumer<P> {
     ghost use Rattle.kcl_consumer.specs.Stages.{phase_of, IsKept};
     ghost use Rattle.kds_defs.specs.Lawful.{IsLimit};
 
-    ghost view = { λ c. record { made = c.made; phase = phase_of c.stage c.reach c.ahead c.asked c.lost; processor = c.processor } };
+    ghost view = { λ c. record { made = c.made; phase = phase_of c.stage c.reach c.ahead c.asked c.lost; given = c.given; processor = c.processor } };
 
     ghost invariant = { λ c. IsKept c.stage c.ahead × IsLimit c.made.limit };
 }
@@ -241,7 +255,9 @@ impl<P: Processor> Consumer<P> {
         requires empty { ahead ≡ [] }
         ensures made { result.made ≡ record { key = key; tenure = tenure; start = start; limit = limit } }
         ensures opening { result.phase ≡ Opening }
+        ensures given { result.given ≡ None }
         ensures processor { result.processor ≡ processor }
+        ensures stands { P.stands_for processor [] → StandsFor P.stands_for result [] }
     {
         Consumer {
             made: Tenancy {
@@ -255,6 +271,7 @@ impl<P: Processor> Consumer<P> {
             ahead,
             asked: None,
             lost: false,
+            given: None,
             processor,
         }
     }
@@ -294,6 +311,13 @@ impl<P: Processor> Consumer<P> {
             Stage::Over(why) => Some(why),
             _ => None,
         }
+    }
+
+    /// The last number in the given reads of its tenure, where they hold a record.
+    pub fn last_given(&self) -> Option<Seq>
+        ensures { result ≡ self.now.given }
+    {
+        self.given
     }
 
     /// Whether a batch of it is to be given.
@@ -349,10 +373,14 @@ impl<P: Processor> Consumer<P> {
     }
 
     /// Makes the processor call that is due. The error is the processor's want of memory, and then the same call is due.
+    #[tactic(auto, using(crate::proofs::StandLemmas::called, crate::proofs::StandLemmas::kept))]
     pub fn call(&mut self) -> Result<(), Memory>
         requires { IsSome (due_call self.old.phase) }
         ensures ok { OnOk result ((asked : Ask) × HasCalled P.stands_for P.asks asked self.old self.new) }
         ensures err { OnErr result (IsAsBefore P.stands_for P.asks self.old self.new) }
+        ensures stands { OnOk result ((asked : Ask) (past : Past) → HasCalled P.stands_for P.asks asked self.old self.new
+            → StandsFor P.stands_for self.old past → StandsFor P.stands_for self.new (Called asked ∷ past)) }
+        ensures still { OnErr result ((past : Past) → StandsFor P.stands_for self.old past → StandsFor P.stands_for self.new past) }
     {
         match self.stage {
             Stage::Starting => {
@@ -381,11 +409,14 @@ impl<P: Processor> Consumer<P> {
     }
 
     /// Takes the answer to the command that `next` gave. No memory.
+    #[tactic(auto, using(crate::proofs::StandLemmas::answered))]
     pub fn absorb(&mut self, answer: Answer) -> Progress
         ensures made { self.new.made ≡ self.old.made }
         ensures phase { self.new.phase ≡ after_answer self.old.made answer self.old.phase }
+        ensures given { self.new.given ≡ given_after answer self.old.phase self.old.given }
         ensures processor { self.new.processor ≡ self.old.processor }
         ensures progress { result ≡ progress_of self.old.made answer self.old.phase }
+        ensures stands { (past : Past) → StandsFor P.stands_for self.old past → StandsFor P.stands_for self.new (Answered answer ∷ past) }
     {
         match self.stage {
             Stage::Opening => {
@@ -403,6 +434,7 @@ impl<P: Processor> Consumer<P> {
                 Progress::Going
             }
             Stage::Giving => {
+                self.given = last_after(&self.ahead, self.given, &answer);
                 self.stage = after_giving(&mut self.ahead, self.asked, self.lost, &answer);
                 forget(&mut self.asked, &mut self.lost);
                 let_go(answer);
@@ -429,7 +461,9 @@ impl<P: Processor> Consumer<P> {
     pub fn lose(&mut self)
         ensures made { self.new.made ≡ self.old.made }
         ensures phase { self.new.phase ≡ after_loss self.old.phase }
+        ensures given { self.new.given ≡ self.old.given }
         ensures processor { self.new.processor ≡ self.old.processor }
+        ensures stands { (past : Past) → StandsFor P.stands_for self.old past → StandsFor P.stands_for self.new (Losing ∷ past) }
     {
         match self.stage {
             Stage::Opening => self.stage = Stage::Over(Why::NeverOpened),
@@ -454,7 +488,11 @@ impl<P: Processor> Consumer<P> {
     }
 }
 
-/// The calls of a processor are the reads that its consumer gave, in order, whatever its consumer was answered.
+/// The calls of a processor are the reads that its consumer gave, in order, whatever its consumer was answered; and among
+/// commands of which the consumer absorbed those on its tenure, they are the given reads of that tenure.
 pub fn life()
-    ensures { (made : Tenancy) (past : Past) → IsLife made (reads_after made past) (gives_after made past) (calls_after made past) }
+    ensures own { (made : Tenancy) (past : Past) → IsLife made (reads_after made past) (gives_after made past) (calls_after made past) }
+    ensures among { (deals : List Deal) (made : Tenancy) (past : Past) → IsInStep deals made past → IsLifeAmong deals made (calls_after made past) }
+    ensures step { (deal : Deal) (deals : List Deal) (counter : ℕ) (made : Tenancy) (past : Past) → next_command made (phase_after made past) counter ≡ Some deal.what
+        → IsInStep deals made past → IsInStep (deal ∷ deals) made (Answered deal.answer ∷ past) }
 {}
