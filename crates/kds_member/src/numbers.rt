@@ -1,6 +1,6 @@
 //! Members that are numbers, moments, hash keys, sequence numbers and the ids of shards.
 ghost use Rattle.std.specs.Prelude.{◌≡◌, None};
-ghost use Rattle.serde_json.specs.View.{view};
+ghost use Rattle.kds_value.specs.View.{view};
 ghost use Rattle.kds_member.specs.Reading.{Gives};
 ghost use Rattle.kds_member.specs.Member.{required_at, optional_at};
 ghost use Rattle.kds_member.specs.Kinds.{number_in, moment_in, hash_in, hash_at, sequence_in, id_in, some_id_in};
@@ -10,10 +10,10 @@ use crate::member::{member, required_member, stop_at, value_at};
 use crate::problem::{FaultKind, Stop};
 use kds_base::{Moment, Octets, Seq, ShardNo, hash_of, read_u64, read_u128};
 use kds_defs::limits::MOST_SECONDS;
-use serde_json::Value;
+use kds_value::Datum;
 use std::alloc::Global;
 
-fn number_value(value: &Value, low: u32, high: u32) -> Option<u32>
+fn number_value(value: &Datum<'_>, low: u32, high: u32) -> Option<u32>
     ensures { result ≡ number_in low high (view value.now) }
 {
     match value.as_u64() {
@@ -26,7 +26,7 @@ fn number_value(value: &Value, low: u32, high: u32) -> Option<u32>
 #[tactic(auto, unfolding(crate::specs::Member::required_at))]
 pub fn number_member(
     alloc: Global,
-    object: &Value,
+    object: &Datum<'_>,
     name: &str,
     low: u32,
     high: u32,
@@ -42,7 +42,7 @@ pub fn number_member(
 #[tactic(auto, unfolding(crate::specs::Member::optional_at))]
 pub fn optional_limit(
     alloc: Global,
-    object: &Value,
+    object: &Datum<'_>,
     name: &str,
     high: u32,
     default: u32,
@@ -60,7 +60,7 @@ pub fn optional_limit(
     }
 }
 
-fn moment_value(value: &Value) -> Option<Moment>
+fn moment_value(value: &Datum<'_>) -> Option<Moment>
     ensures { result ≡ moment_in (view value.now) }
 {
     match value.as_u64() {
@@ -71,14 +71,14 @@ fn moment_value(value: &Value) -> Option<Moment>
 
 /// A moment in whole seconds (Kinesis API Reference, GetShardIterator, Timestamp).
 #[tactic(auto, unfolding(crate::specs::Member::required_at))]
-pub fn moment_member(alloc: Global, object: &Value, name: &str) -> Result<Moment, Stop>
+pub fn moment_member(alloc: Global, object: &Datum<'_>, name: &str) -> Result<Moment, Stop>
     ensures { Gives (λ x. x) result (required_at moment_in name.now (view object.now)) }
 {
     let value = required_member(alloc, object, name)?;
     value_at(alloc, FaultKind::Invalid, name, moment_value(value))
 }
 
-fn hash_value(value: &Value) -> Option<u128>
+fn hash_value(value: &Datum<'_>) -> Option<u128>
     ensures { result ≡ hash_in (view value.now) }
 {
     match value.as_str() {
@@ -89,7 +89,7 @@ fn hash_value(value: &Value) -> Option<u128>
 
 /// A hash key.
 #[tactic(auto, unfolding(crate::specs::Member::required_at))]
-pub fn hash_member(alloc: Global, object: &Value, name: &str) -> Result<u128, Stop>
+pub fn hash_member(alloc: Global, object: &Datum<'_>, name: &str) -> Result<u128, Stop>
     ensures { Gives (λ x. x) result (required_at hash_in name.now (view object.now)) }
 {
     let value = required_member(alloc, object, name)?;
@@ -99,7 +99,12 @@ pub fn hash_member(alloc: Global, object: &Value, name: &str) -> Result<u128, St
 /// The hash of a record: the explicit one, or else that of its partition key
 /// (Kinesis API Reference, PutRecord, ExplicitHashKey).
 #[tactic(auto, unfolding(crate::specs::Kinds::hash_at, crate::specs::Member::optional_at))]
-pub fn record_hash(alloc: Global, object: &Value, name: &str, key: &Octets) -> Result<u128, Stop>
+pub fn record_hash(
+    alloc: Global,
+    object: &Datum<'_>,
+    name: &str,
+    key: &Octets,
+) -> Result<u128, Stop>
     ensures { Gives (λ x. x) result (hash_at key.now name.now (view object.now)) }
 {
     match member(object, name) {
@@ -108,7 +113,7 @@ pub fn record_hash(alloc: Global, object: &Value, name: &str, key: &Octets) -> R
     }
 }
 
-fn sequence_value(value: &Value) -> Option<Seq>
+fn sequence_value(value: &Datum<'_>) -> Option<Seq>
     ensures { result ≡ sequence_in (view value.now) }
 {
     match value.as_str() {
@@ -122,14 +127,14 @@ fn sequence_value(value: &Value) -> Option<Seq>
 
 /// A sequence number.
 #[tactic(auto, unfolding(crate::specs::Member::required_at))]
-pub fn sequence_member(alloc: Global, object: &Value, name: &str) -> Result<Seq, Stop>
+pub fn sequence_member(alloc: Global, object: &Datum<'_>, name: &str) -> Result<Seq, Stop>
     ensures { Gives (λ x. x) result (required_at sequence_in name.now (view object.now)) }
 {
     let value = required_member(alloc, object, name)?;
     value_at(alloc, FaultKind::Invalid, name, sequence_value(value))
 }
 
-fn id_value(value: &Value) -> Option<ShardNo>
+fn id_value(value: &Datum<'_>) -> Option<ShardNo>
     ensures { result ≡ id_in (view value.now) }
 {
     match value.as_str() {
@@ -140,7 +145,7 @@ fn id_value(value: &Value) -> Option<ShardNo>
 
 /// A shard's id.
 #[tactic(auto, unfolding(crate::specs::Member::required_at))]
-pub fn id_member(alloc: Global, object: &Value, name: &str) -> Result<ShardNo, Stop>
+pub fn id_member(alloc: Global, object: &Datum<'_>, name: &str) -> Result<ShardNo, Stop>
     ensures { Gives (λ x. x) result (required_at id_in name.now (view object.now)) }
 {
     let value = required_member(alloc, object, name)?;
@@ -149,7 +154,7 @@ pub fn id_member(alloc: Global, object: &Value, name: &str) -> Result<ShardNo, S
 
 /// A shard's id, if there is one.
 #[tactic(auto, unfolding(crate::specs::Member::optional_at))]
-pub fn optional_id(alloc: Global, object: &Value, name: &str) -> Result<Option<ShardNo>, Stop>
+pub fn optional_id(alloc: Global, object: &Datum<'_>, name: &str) -> Result<Option<ShardNo>, Stop>
     ensures { Gives (λ x. x) result (optional_at None some_id_in name.now (view object.now)) }
 {
     let Some(value) = member(object, name) else {
