@@ -1,4 +1,5 @@
 pub mod Forms
+pub mod Fronts
 pub mod Parts
 pub mod OriginLemmas
 pub mod RawLemmas

@@ -69,3 +69,10 @@ key_of text = option_map key_from (two 47 number number text)
 
 abbrev pub key_text : ShardRef → List ℕ
 key_text key = decimal key.stream ++ 47 ∷ decimal key.shard
+
+-- a front of a text was added, which may be empty
+pub record AddsFront (old now text : List ℕ) : Type 0 where
+  pub front : List ℕ
+  pub back : List ℕ
+  pub parts : text ≡ front ++ back
+  pub added : now ≡ old ++ front

@@ -1,7 +1,7 @@
 //! Commands for leases as text, each made in a room of its own and added whole.
 ghost use Rattle.std.specs.Prelude.{◌≡◌, ◌∷◌, ◌++◌, false, true, OnOk, OnErr};
 ghost use Rattle.kds_defs.specs.Kinds.{is_counted, is_service};
-ghost use Rattle.kcl_text.specs.Fields.{worker_text};
+ghost use Rattle.kcl_text.specs.Fields.{AddsFront, worker_text};
 ghost use Rattle.kcl_text.specs.Commands.{target_text, command_text};
 ghost use Rattle.kcl_text.specs.Origins.{origin_text};
 
@@ -10,17 +10,19 @@ use kds_base::{Memory, Octets, WorkerNo, write_u64};
 use kds_defs::{Command, Origin, Target};
 use std::alloc::Global;
 
-/// Adds a space and a worker. After `Memory` a front of it may have been added.
+/// Adds a space and a worker. After `Memory` a front of it was added, which may be empty.
 pub fn owner_field(alloc: Global, owner: WorkerNo, to: &mut Octets) -> Result<(), Memory>
-    ensures { OnOk result (to.new ≡ to.old ++ 32 ∷ worker_text owner) }
+    ensures ok { OnOk result (to.new ≡ to.old ++ 32 ∷ worker_text owner) }
+    ensures err { OnErr result (AddsFront to.old to.new (32 ∷ worker_text owner)) }
 {
     to.extend(b" w".as_slice())?;
     write_u64(alloc, owner.0 as u64, to)
 }
 
-/// Adds a space and what a checkpoint is set to. After `Memory` a front of it may have been added.
+/// Adds a space and what a checkpoint is set to. After `Memory` a front of it was added, which may be empty.
 pub fn target_field(alloc: Global, target: Target, to: &mut Octets) -> Result<(), Memory>
-    ensures { OnOk result (to.new ≡ to.old ++ 32 ∷ target_text target) }
+    ensures ok { OnOk result (to.new ≡ to.old ++ 32 ∷ target_text target) }
+    ensures err { OnErr result (AddsFront to.old to.new (32 ∷ target_text target)) }
 {
     match target {
         Target::At(q) => number_field(alloc, q.0, to),
@@ -28,10 +30,11 @@ pub fn target_field(alloc: Global, target: Target, to: &mut Octets) -> Result<()
     }
 }
 
-/// Adds where reading begins, after a space, unless it is the first record. After `Memory` a front of it may have been
-/// added.
+/// Adds where reading begins, after a space, unless it is the first record. After `Memory` a front of it was added, which
+/// may be empty.
 pub fn origin_field(alloc: Global, from: Origin, to: &mut Octets) -> Result<(), Memory>
-    ensures { OnOk result (to.new ≡ to.old ++ origin_text from) }
+    ensures ok { OnOk result (to.new ≡ to.old ++ origin_text from) }
+    ensures err { OnErr result (AddsFront to.old to.new (origin_text from)) }
 {
     match from {
         Origin::TrimHorizon => Ok(()),
