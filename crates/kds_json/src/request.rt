@@ -1,7 +1,7 @@
 //! From an operation and a body to a command.
 ghost use Rattle.std.specs.Prelude.{◌≡◌, ℕ, List, Ok, IsUtf8, IfOk, IfErr, option_map};
 ghost use Rattle.kds_defs.specs.declared.command.Command.{Command};
-ghost use Rattle.serde_json.specs.View.{view};
+ghost use Rattle.kds_value.specs.View.{view};
 ghost use Rattle.kds_member.specs.Reading.{Gives};
 ghost use Rattle.kds_json.specs.Asked.{object_of, read_body, members_of, asked, IsRequest};
 
@@ -16,25 +16,30 @@ use crate::streams::{
 use kds_base::Memory;
 use kds_defs::Command;
 use kds_member::{Fault, FaultKind, Stop, stop_at};
-use serde_json::Value;
+use kds_value::{Datum, Refused, Scratch, read_datum};
 use std::alloc::Global;
 
 /// What a body reads as, if it is JSON in UTF-8.
-fn parsed(alloc: Global, body: &[u8]) -> Result<Option<Value>, Memory>
+fn parsed<'a>(
+    alloc: Global,
+    scratch: &'a mut Scratch,
+    body: &'a [u8],
+) -> Result<Option<Datum<'a>>, Memory>
     ensures { IfOk result (λ o. option_map view o ≡ read_body body.now) }
 {
-    match Value::from_slice(alloc, body) {
+    match read_datum(alloc, body, scratch) {
         Ok(value) => Ok(Some(value)),
-        Err(e) => { if e.is_memory() { Err(Memory) } else { Ok(None) } }
+        Err(Refused::Invalid) => Ok(None),
+        Err(Refused::Memory) => Err(Memory),
     }
 }
 
 /// The object that a body is.
 #[tactic(auto, using(crate::proofs::Objects::objects))]
-fn object(alloc: Global, body: &[u8]) -> Result<Value, Stop>
+fn object<'a>(alloc: Global, scratch: &'a mut Scratch, body: &'a [u8]) -> Result<Datum<'a>, Stop>
     ensures { Gives view result (object_of body.now) }
 {
-    match parsed(alloc, body)? {
+    match parsed(alloc, scratch, body)? {
         Some(value) => {
             if value.is_object() {
                 Ok(value)
@@ -47,7 +52,7 @@ fn object(alloc: Global, body: &[u8]) -> Result<Value, Stop>
 }
 
 /// The command that the members of an operation ask for.
-fn members(alloc: Global, operation: Operation, object: &Value) -> Result<Command, Stop>
+fn members(alloc: Global, operation: Operation, object: &Datum<'_>) -> Result<Command, Stop>
     ensures { Gives (λ c. c) result (members_of operation (view object.now)) }
 {
     match operation {
@@ -72,12 +77,17 @@ fn members(alloc: Global, operation: Operation, object: &Value) -> Result<Comman
 
 /// An operation that isn't known is refused before its body is read.
 #[tactic(auto, unfolding(crate::specs::Asked::asked))]
-fn command(alloc: Global, operation: &[u8], body: &[u8]) -> Result<Command, Stop>
+fn command(
+    alloc: Global,
+    scratch: &mut Scratch,
+    operation: &[u8],
+    body: &[u8],
+) -> Result<Command, Stop>
     ensures { Gives (λ c. c) result (asked operation.now body.now) }
 {
     match operation_named(operation) {
         Some(operation) => {
-            let object = object(alloc, body)?;
+            let object = object(alloc, scratch, body)?;
             members(alloc, operation, &object)
         }
         None => Err(stop_at(alloc, FaultKind::Unknown, "")),
@@ -86,15 +96,20 @@ fn command(alloc: Global, operation: &[u8], body: &[u8]) -> Result<Command, Stop
 
 /// The command that an operation and its body ask for, or the first fault of the request
 /// (Kinesis API Reference, Actions and Common Errors). A body that nests deeper than 127 levels isn't read,
-/// so it is `Serialization`. `Memory` is want of memory.
-pub fn ask(alloc: Global, operation: &[u8], body: &[u8]) -> Result<Result<Command, Fault>, Memory>
+/// so it is `Serialization`. `scratch` is room that is used again. `Memory` is want of memory.
+pub fn ask(
+    alloc: Global,
+    scratch: &mut Scratch,
+    operation: &[u8],
+    body: &[u8],
+) -> Result<Result<Command, Fault>, Memory>
     ensures value { IfOk result (λ r. r ≡ asked operation.now body.now) }
 
     // A command may be asked of a machine, whose stream service answers it. The member of a fault can be printed.
     ensures lawful { IfOk result (λ r. IfOk r IsRequest) }
     ensures text { IfOk result (λ r. IfErr r (λ fault. IsUtf8 fault.member)) }
 {
-    match command(alloc, operation, body) {
+    match command(alloc, scratch, operation, body) {
         Ok(what) => Ok(Ok(what)),
         Err(Stop::Fault(fault)) => Ok(Err(fault)),
         Err(Stop::Memory) => Err(Memory),
