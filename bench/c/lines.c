@@ -1,10 +1,10 @@
-/* A ceiling for `kds replay`: the least honest work on each line of a schedule. Lines are split, members found without a
- * parser, keys hashed, payloads decoded, records stored in the uniform shard of their key, batches found by halves; the
- * replies are written as the program writes them, 64 KiB at a time. Splits and merges keep plain lists of the open
- * shards. It knows the lines that bench/replay makes, and no others.
+/* A ceiling for `kds replay`: the least honest work on each line of a schedule, as strict as the program is. Lines are split within their
+ * lengths, bodies are read in one pass (strict.h), keys hashed, payloads decoded, what a shard takes within a second counted, records stored
+ * in the open shard of their key, batches found by halves; the replies are written as the program writes them, 64 KiB at a time. Splits and
+ * merges keep plain lists of the open shards. Of refusals and of commands it knows those that bench/replay makes, and no others.
  *
  *     lines < SCHEDULE > OUTPUT */
-#include "least.h"
+#include "strict.h"
 #include <unistd.h>
 
 struct shard {
@@ -135,12 +135,6 @@ static size_t first_of(struct shard *x, uint64_t position) {
     return low;
 }
 
-static u128 wide(struct text digits) {
-    u128 n = 0;
-    for (size_t i = 0; i < digits.len; i++) n = n * 10 + (unsigned)(digits.at[i] - '0');
-    return n;
-}
-
 static void print_id(size_t shard) {
     char digits[21];
     char *end = print_number(digits, shard);
@@ -157,63 +151,101 @@ static void print_place(size_t shard, uint64_t seq) {
     to = PRINT(to, "\"}");
 }
 
-static void store(struct stream *s, struct text key, struct text data, struct text explicit_, size_t *shard, uint64_t *seq) {
+/* What a shard took within the second, counted whether or not it is enforced. */
+static struct window { uint64_t second, records, bytes; } windows[1 << 16];
+
+static void count_put(size_t shard, size_t bytes) {
+    struct window *w = &windows[shard & 65535];
+    if (w->second != clock_ / 1000) *w = (struct window){.second = clock_ / 1000};
+    w->records++;
+    w->bytes += bytes;
+}
+
+static void store(struct stream *s, struct text key, struct text data, u128 *explicit_, size_t *shard, uint64_t *seq) {
     struct record r = {.arrival = clock_, .key_len = key.len};
     r.bytes = take(key.len + data.len / 4 * 3 + 3);
     memcpy(r.bytes, key.at, key.len);
     long len = decode(data, r.bytes + key.len);
     if (len < 0) exit(1);
     r.payload_len = (size_t)len;
-    *shard = home(s, explicit_.at ? wide(explicit_) : hash_of(key));
+    *shard = home(s, explicit_ ? *explicit_ : hash_of(key));
     *seq = r.seq = s->next++;
     struct shard *x = &s->shards[*shard];
     first_of(x, 0);
     add_record(&x->log, r);
+    count_put(*shard, key.len + r.payload_len);
 }
 
-static size_t number_at(struct text id) {
-    return (size_t)wide((struct text){id.at + 8, id.len - 8});
+/* ---- requests */
+
+static void fault_(const char *name, const char *message) {
+    to += sprintf(to, "400 {\"__type\":\"%s\",\"message\":\"%s\"}\n", name, message);
 }
 
-static struct stream *named(const char *body, const char *end) {
-    struct text name;
-    if (!MEMBER(&body, end, "\"StreamName\":\"", &name)) return NULL;
-    return stream_of(name);
+#define RECORD_BYTES 10485760u
+
+/* A record's members, and the first that is missing or not valid. */
+static int checked(struct found *f, u128 *hash, const char **what) {
+    if (f->key.kind == NONE) { *what = "PartitionKey is missing"; return 0; }
+    if (f->key.kind != STRING || !is_key(f->key.text)) { *what = "PartitionKey is not valid"; return 0; }
+    if (f->data.kind == NONE) { *what = "Data is missing"; return 0; }
+    if (f->data.kind != STRING || bad_bits(f->data.text) || f->key.text.len + f->data.text.len / 4 * 3 > RECORD_BYTES) { *what = "Data is not valid"; return 0; }
+    if (f->hash.kind != NONE && (f->hash.kind != STRING || !wide(f->hash.text, hash))) { *what = "ExplicitHashKey is not valid"; return 0; }
+    return 1;
+}
+
+/* The live stream that a body names. */
+static struct stream *named(struct found *f, const char *body, const char *end) {
+    if (!read_body(body, end, f)) { fault_("SerializationException", "body is not a JSON object"); return NULL; }
+    if (f->stream.kind == NONE) { fault_("ValidationException", "StreamName is missing"); return NULL; }
+    if (f->stream.kind != STRING || !is_name(f->stream.text)) { fault_("ValidationException", "StreamName is not valid"); return NULL; }
+    struct stream *s = stream_of(f->stream.text);
+    if (!s) exit(1);
+    return s;
 }
 
 static void put(const char *body, const char *end) {
-    struct stream *s = named(body, end);
-    struct text key, data, explicit_ = {0};
-    const char *at = body;
-    if (!s) exit(1);
-    if (!MEMBER(&at, end, "\"PartitionKey\":\"", &key)) {
-        to = PRINT(to, "400 {\"__type\":\"ValidationException\",\"message\":\"PartitionKey is missing\"}\n");
-        return;
-    }
-    at = body;
-    MEMBER(&at, end, "\"ExplicitHashKey\":\"", &explicit_);
-    at = body;
-    if (!MEMBER(&at, end, "\"Data\":\"", &data)) exit(1);
+    struct found f;
+    const char *what;
+    u128 hash;
+    struct stream *s = named(&f, body, end);
+    if (!s) return;
+    if (!checked(&f, &hash, &what)) { fault_("ValidationException", what); return; }
     size_t shard;
     uint64_t seq;
-    store(s, key, data, explicit_, &shard, &seq);
+    store(s, f.key.text, f.data.text, f.hash.kind == STRING ? &hash : NULL, &shard, &seq);
     to = PRINT(to, "200 ");
     print_place(shard, seq);
     *to++ = '\n';
 }
 
 static void put_many(const char *body, const char *end) {
-    struct stream *s = named(body, end);
-    struct text key, data;
-    int first = 1;
-    if (!s) exit(1);
+    struct found f;
+    struct stream *s = named(&f, body, end);
+    if (!s || f.records.kind != ARRAY) exit(1);
+    static struct found items[500];
+    static u128 hashes[500];
+    size_t count = 0, bytes = 0;
+    const char *at = f.records.text.at + 1, *last = f.records.text.at + f.records.text.len;
+    for (;;) {
+        const char *what;
+        at = blank(at, last);
+        if (*at != '{' || count == 500) exit(1);
+        items[count] = (struct found){0};
+        at = members(at + 1, last, 125, take_member, &items[count]);
+        if (!checked(&items[count], &hashes[count], &what)) exit(1);
+        bytes += items[count].key.text.len + items[count].data.text.len / 4 * 3;
+        count++;
+        at = blank(at, last);
+        if (*at++ == ']') break;
+    }
+    if (bytes > RECORD_BYTES) exit(1);
     to = PRINT(to, "200 {\"FailedRecordCount\":0,\"Records\":[");
-    while (MEMBER(&body, end, "\"PartitionKey\":\"", &key) && MEMBER(&body, end, "\"Data\":\"", &data)) {
+    for (size_t i = 0; i < count; i++) {
         size_t shard;
         uint64_t seq;
-        store(s, key, data, (struct text){0}, &shard, &seq);
-        if (!first) *to++ = ',';
-        first = 0;
+        store(s, items[i].key.text, items[i].data.text, items[i].hash.kind == STRING ? &hashes[i] : NULL, &shard, &seq);
+        if (i) *to++ = ',';
         print_place(shard, seq);
     }
     to = PRINT(to, "]}\n");
@@ -235,18 +267,12 @@ static void print_range(struct shard *x) {
 }
 
 static void get(const char *body, const char *end) {
-    struct text iterator;
-    char token[128];
-    if (!MEMBER(&body, end, "\"ShardIterator\":\"", &iterator) || iterator.len > 120) exit(1);
-    long len = decode(iterator, (unsigned char *)token);
-    token[len < 0 ? 0 : len] = 0;
-    char *at = token + 4;
-    uint64_t no = strtoull(at, &at, 10);
-    uint64_t sh = strtoull(at + 1, &at, 10);
-    uint64_t position = strtoull(at + 1, &at, 10);
-    size_t limit = 10000;
-    const char *says = memmem(body, (size_t)(end - body), "\"Limit\":", 8);
-    if (says) limit = strtoul(says + 8, NULL, 10);
+    struct found f;
+    uint64_t part[4], limit = 10000;
+    if (!read_body(body, end, &f) || !iterator_of(f.iterator, part)) exit(1);
+    if (f.limit.kind != NONE && !number_in(f.limit, 1, 10000, &limit)) exit(1);
+    uint64_t no = part[0], sh = part[1], position = part[2];
+    if (!no || no > stream_count || sh >= streams[no - 1].count || (clock_ > part[3] && clock_ - part[3] > 300000)) exit(1);
     struct shard *x = &streams[no - 1].shards[sh];
     size_t from = first_of(x, position), last = x->log.count - from < limit ? x->log.count : from + limit;
     int ended = !x->open && last == x->log.count;
@@ -299,15 +325,15 @@ static void get(const char *body, const char *end) {
 }
 
 static void create(const char *body, const char *end) {
+    struct found f;
+    uint64_t n;
+    if (!read_body(body, end, &f) || f.stream.kind != STRING || !is_name(f.stream.text) || !number_in(f.count, 1, 500, &n)) exit(1);
+    if (stream_count == 64 || stream_of(f.stream.text)) exit(1);
     struct stream *s = &streams[stream_count++];
-    struct text name;
-    const char *at = body;
-    if (!MEMBER(&at, end, "\"StreamName\":\"", &name)) exit(1);
-    char *kept = take(name.len);
-    memcpy(kept, name.at, name.len);
-    *s = (struct stream){.name = {kept, name.len}, .next = 1};
+    char *kept = take(f.stream.text.len);
+    memcpy(kept, f.stream.text.at, f.stream.text.len);
+    *s = (struct stream){.name = {kept, f.stream.text.len}, .next = 1};
     by_name[slot_of(s->name)] = s;
-    size_t n = strtoul((char *)memmem(body, (size_t)(end - body), "\"ShardCount\":", 13) + 13, NULL, 10);
     u128 width = (~(u128)0 - (n - 1)) / n + 1;
     for (size_t i = 0; i < n; i++) add_shard(s, n == 1 ? 0 : i * width, i + 1 == n ? ~(u128)0 : (i + 1) * width - 1, 1, -1, -1);
     leases[stream_count - 1] = calloc(4096, sizeof(struct lease));
@@ -315,15 +341,14 @@ static void create(const char *body, const char *end) {
 }
 
 static void split(const char *body, const char *end) {
-    struct stream *s = named(body, end);
-    struct text id, key;
-    const char *at = body;
-    if (!s || !MEMBER(&at, end, "\"ShardToSplit\":\"", &id)) exit(1);
-    at = body;
-    if (!MEMBER(&at, end, "\"NewStartingHashKey\":\"", &key)) exit(1);
-    size_t sh = number_at(id);
+    struct found f;
+    struct stream *s = named(&f, body, end);
+    uint64_t sh;
+    u128 cut;
+    if (!s || !shard_id(f.split, &sh) || f.start.kind != STRING || !wide(f.start.text, &cut) || sh >= s->count || !s->shards[sh].open) exit(1);
+    u128 start = s->shards[sh].start, last = s->shards[sh].end;
+    if (cut <= start || cut > last) exit(1);
     uint64_t seq = s->next++;
-    u128 cut = wide(key), start = s->shards[sh].start, last = s->shards[sh].end;
     close_shard(s, sh, seq);
     add_shard(s, start, cut - 1, seq + 1, (long)sh, -1);
     add_shard(s, cut, last, seq + 1, (long)sh, -1);
@@ -331,119 +356,173 @@ static void split(const char *body, const char *end) {
 }
 
 static void merge(const char *body, const char *end) {
-    struct stream *s = named(body, end);
-    struct text id, other;
-    const char *at = body;
-    if (!s || !MEMBER(&at, end, "\"ShardToMerge\":\"", &id)) exit(1);
-    at = body;
-    if (!MEMBER(&at, end, "\"AdjacentShardToMerge\":\"", &other)) exit(1);
-    size_t a = number_at(id), b = number_at(other);
+    struct found f;
+    struct stream *s = named(&f, body, end);
+    uint64_t a, b;
+    if (!s || !shard_id(f.merge, &a) || !shard_id(f.adjacent, &b) || a >= s->count || b >= s->count || !s->shards[a].open || !s->shards[b].open) exit(1);
+    struct shard *one = &s->shards[a], *other = &s->shards[b];
+    if (one->end + 1 != other->start && other->end + 1 != one->start) exit(1);
+    u128 start = one->start < other->start ? one->start : other->start, last = one->end > other->end ? one->end : other->end;
     uint64_t seq = s->next++;
-    u128 start = s->shards[a].start < s->shards[b].start ? s->shards[a].start : s->shards[b].start;
-    u128 last = s->shards[a].end > s->shards[b].end ? s->shards[a].end : s->shards[b].end;
     close_shard(s, a, seq);
     close_shard(s, b, seq);
     add_shard(s, start, last, seq + 1, (long)a, (long)b);
     to = PRINT(to, "200\n");
 }
 
+/* ---- leases */
+
+/* Numbers behind a word, each with one space before it, to the end of the line. */
+static void numbers(const char *at, const char *end, int count, uint64_t *n) {
+    for (int i = 0; i < count; i++)
+        if (at == end || *at++ != ' ' || !(at = digits(at, end, &n[i]))) exit(1);
+    if (at != end) exit(1);
+}
+
+/* A row's key behind a word, STREAM/SHARD, and the place behind it. */
+static const char *row_key(const char *at, const char *end, size_t *stream, size_t *shard) {
+    uint64_t s, sh;
+    if (at == end || *at++ != ' ' || !(at = digits(at, end, &s)) || at == end || *at++ != '/' || !(at = digits(at, end, &sh))) exit(1);
+    if (!s || s > stream_count || sh >= streams[s - 1].count || sh >= 4096) exit(1);
+    *stream = s - 1;
+    *shard = sh;
+    return at;
+}
+
+static void make(const char *at, const char *end) {
+    size_t s, sh;
+    if (row_key(at, end, &s, &sh) != end || leases[s][sh].there) exit(1);
+    leases[s][sh] = (struct lease){.there = 1, .checkpoint = -1, .floor = streams[s].shards[sh].first};
+    to = PRINT(to, "ok\n");
+}
+
+static void take_row(const char *at, const char *end, unsigned by) {
+    size_t s, sh;
+    uint64_t counter, worker;
+    at = row_key(at, end, &s, &sh);
+    if (at == end || *at++ != ' ' || !(at = digits(at, end, &counter)) || end - at < 3 || memcmp(at, " w", 2) || digits(at + 2, end, &worker) != end || !worker || worker >> 32) exit(1);
+    struct lease *l = &leases[s][sh];
+    if (!l->there || l->counter != counter) exit(1);
+    if (tenure_count == tenure_room) {
+        tenure_room = tenure_room ? tenure_room * 2 : 1024;
+        tenures = realloc(tenures, tenure_room * sizeof *tenures);
+        if (!tenures) exit(6);
+    }
+    uint64_t start = l->checkpoint < 0 ? 0 : (uint64_t)l->checkpoint + 1;
+    tenures[tenure_count++] = (struct tenure){.lease = s * 4096 + sh, .by = by, .reach = start, .delivered = start};
+    l->counter++;
+    l->tenure = tenure_count;
+    l->owner = (unsigned)worker;
+    to = PRINT(to, "ok tenure ");
+    to = print_number(to, tenure_count);
+    to = PRINT(to, " counter ");
+    to = print_number(to, l->counter);
+    to = PRINT(to, " start ");
+    to = l->checkpoint < 0 ? PRINT(to, "TRIM_HORIZON") : print_number(to, (uint64_t)l->checkpoint);
+    *to++ = '\n';
+}
+
+static struct tenure *tenure_of(uint64_t no, unsigned by) {
+    if (!no || no > tenure_count || tenures[no - 1].by != by) exit(1);
+    return &tenures[no - 1];
+}
+
+static void read_shard(struct tenure *t, uint64_t position, uint64_t limit) {
+    if (!t->opened || position != t->reach || !limit || limit > 10000 || t->pending == 8) exit(1);
+    struct shard *x = &streams[t->lease / 4096].shards[t->lease % 4096];
+    size_t from = first_of(x, position), last = x->log.count - from < limit ? x->log.count : from + limit;
+    if (last > from) t->reach = x->log.records[last - 1].seq + 1;
+    t->pending++;
+    to = PRINT(to, "ok reach ");
+    to = print_number(to, t->reach);
+    to = !x->open && last == x->log.count ? PRINT(to, " end") : PRINT(to, " more");
+    for (size_t i = from; i < last; i++) {
+        *to++ = ' ';
+        to = print_number(to, x->log.records[i].seq);
+    }
+    *to++ = '\n';
+}
+
 /* A line by an actor: make, take, open, read, give or mark. */
 static void raw(const char *at, const char *end) {
-    char *next;
-    unsigned by = (unsigned)strtoul(at, &next, 10);
-    const char *word = next + 1;
-    if (!memcmp(word, "make ", 5)) {
-        unsigned long s = strtoul(word + 5, &next, 10), sh = strtoul(next + 1, &next, 10);
-        leases[s - 1][sh] = (struct lease){.there = 1, .checkpoint = -1, .floor = streams[s - 1].shards[sh].first};
-        to = PRINT(to, "ok\n");
-        return;
-    }
-    if (!memcmp(word, "take ", 5)) {
-        unsigned long s = strtoul(word + 5, &next, 10), sh = strtoul(next + 1, &next, 10), counter = strtoul(next, &next, 10);
-        struct lease *l = &leases[s - 1][sh];
-        if (!l->there || l->counter != counter) exit(1);
-        if (tenure_count == tenure_room) {
-            tenure_room = tenure_room ? tenure_room * 2 : 1024;
-            tenures = realloc(tenures, tenure_room * sizeof *tenures);
-            if (!tenures) exit(6);
-        }
-        uint64_t start = l->checkpoint < 0 ? 0 : (uint64_t)l->checkpoint + 1;
-        tenures[tenure_count++] = (struct tenure){.lease = (s - 1) * 4096 + sh, .by = by, .reach = start, .delivered = start};
-        l->counter++;
-        l->tenure = tenure_count;
-        l->owner = (unsigned)strtoul(next + 2, NULL, 10);
-        to = PRINT(to, "ok tenure ");
-        to = print_number(to, tenure_count);
-        to = PRINT(to, " counter ");
-        to = print_number(to, l->counter);
-        to = PRINT(to, " start ");
-        to = l->checkpoint < 0 ? PRINT(to, "TRIM_HORIZON") : print_number(to, (uint64_t)l->checkpoint);
-        *to++ = '\n';
-        return;
-    }
-    const char *space = memchr(word, ' ', (size_t)(end - word));
-    struct tenure *t = &tenures[strtoul(space, &next, 10) - 1];
-    struct lease *l = &leases[t->lease / 4096][t->lease % 4096];
-    if (t->by != by) exit(1);
-    if (!memcmp(word, "open ", 5)) {
-        if (l->tenure != (uint64_t)(t - tenures) + 1) exit(1);
+    uint64_t by, n[3];
+    if (!(at = digits(at, end, &by)) || !by || by > 999 || at == end || *at++ != ' ') exit(1);
+    const char *behind = memchr(at, ' ', (size_t)(end - at));
+    if (!behind) exit(1);
+    struct text word = {at, (size_t)(behind - at)};
+    if (IS(word, "make")) {
+        make(behind, end);
+    } else if (IS(word, "take")) {
+        take_row(behind, end, (unsigned)by);
+    } else if (IS(word, "open")) {
+        numbers(behind, end, 1, n);
+        struct tenure *t = tenure_of(n[0], (unsigned)by);
+        if (leases[t->lease / 4096][t->lease % 4096].tenure != n[0]) exit(1);
         t->opened = 1;
         to = PRINT(to, "ok\n");
-    } else if (!memcmp(word, "read ", 5)) {
-        unsigned long position = strtoul(next, &next, 10), limit = strtoul(next, &next, 10);
-        if (!t->opened || position != t->reach) exit(1);
-        struct shard *x = &streams[t->lease / 4096].shards[t->lease % 4096];
-        size_t from = first_of(x, position), last = x->log.count - from < limit ? x->log.count : from + limit;
-        if (last > from) t->reach = x->log.records[last - 1].seq + 1;
-        t->pending++;
-        to = PRINT(to, "ok reach ");
-        to = print_number(to, t->reach);
-        to = !x->open && last == x->log.count ? PRINT(to, " end") : PRINT(to, " more");
-        for (size_t i = from; i < last; i++) {
-            *to++ = ' ';
-            to = print_number(to, x->log.records[i].seq);
-        }
-        *to++ = '\n';
-    } else if (!memcmp(word, "give ", 5)) {
+    } else if (IS(word, "read")) {
+        numbers(behind, end, 3, n);
+        read_shard(tenure_of(n[0], (unsigned)by), n[1], n[2]);
+    } else if (IS(word, "give")) {
+        numbers(behind, end, 1, n);
+        struct tenure *t = tenure_of(n[0], (unsigned)by);
+        if (!t->pending) exit(1);
         t->delivered = t->reach;
         t->pending--;
         to = PRINT(to, "ok delivered ");
         to = print_number(to, t->delivered);
         *to++ = '\n';
-    } else {
-        unsigned long counter = strtoul(next, &next, 10), at_ = strtoul(next, &next, 10);
-        if (l->tenure != (uint64_t)(t - tenures) + 1 || l->counter != counter || at_ >= t->delivered) exit(1);
-        l->checkpoint = (long)at_;
+    } else if (IS(word, "mark")) {
+        numbers(behind, end, 3, n);
+        struct tenure *t = tenure_of(n[0], (unsigned)by);
+        struct lease *l = &leases[t->lease / 4096][t->lease % 4096];
+        if (l->tenure != n[0] || l->counter != n[1] || n[2] >= t->delivered || (long)n[2] < l->checkpoint) exit(1);
+        l->checkpoint = (long)n[2];
         l->counter++;
         to = PRINT(to, "ok counter ");
         to = print_number(to, l->counter);
         *to++ = '\n';
+    } else {
+        exit(1);
     }
 }
 
+/* ---- lines */
+
+static void request(struct text name, const char *body, const char *end) {
+    if (IS(name, "PutRecord")) put(body, end);
+    else if (IS(name, "PutRecords")) put_many(body, end);
+    else if (IS(name, "GetRecords")) get(body, end);
+    else if (IS(name, "CreateStream")) create(body, end);
+    else if (IS(name, "SplitShard")) split(body, end);
+    else if (IS(name, "MergeShards")) merge(body, end);
+    else to = PRINT(to, "400 {\"__type\":\"UnknownOperationException\",\"message\":\"unknown operation\"}\n");
+}
+
+#define MOST_LINE 16777216
+#define MOST_INPUT 1073741824
+
 static void line(const char *at, const char *end) {
-    char *next;
-    uint64_t moment = strtoull(at, &next, 10);
-    if (moment > clock_) clock_ = moment;
-    at = next + 1;
+    uint64_t moment;
+    if (end - at > MOST_LINE || !(at = digits(at, end, &moment)) || moment >> 62 || end - at < 5 || *at++ != ' ') exit(3);
     if (!memcmp(at, "raw ", 4)) {
+        if (moment > clock_) clock_ = moment;
         raw(at + 4, end);
         return;
     }
+    if (memcmp(at, "api ", 4)) exit(3);
     at += 4;
-    const char *body = memchr(at, ' ', (size_t)(end - at)) + 1;
-    if (!memcmp(at, "PutRecord ", 10)) put(body, end);
-    else if (!memcmp(at, "PutRecords ", 11)) put_many(body, end);
-    else if (!memcmp(at, "GetRecords ", 11)) get(body, end);
-    else if (!memcmp(at, "CreateStream ", 13)) create(body, end);
-    else if (!memcmp(at, "SplitShard ", 11)) split(body, end);
-    else if (!memcmp(at, "MergeShards ", 12)) merge(body, end);
-    else to = PRINT(to, "400 {\"__type\":\"UnknownOperationException\",\"message\":\"unknown operation\"}\n");
+    const char *behind = memchr(at, ' ', (size_t)(end - at));
+    if (!behind || behind == at || behind - at > 64) exit(3);
+    for (const char *c = at; c < behind; c++)
+        if (!((*c >= 'a' && *c <= 'z') || (*c >= 'A' && *c <= 'Z') || (*c >= '0' && *c <= '9'))) exit(3);
+    if (moment > clock_) clock_ = moment;
+    request((struct text){at, (size_t)(behind - at)}, behind + 1, end);
 }
 
 int main(void) {
     base64_begin();
-    size_t room = 1 << 20, len = 0;
+    size_t room = 1 << 20, len = 0, fed = 0;
     char *in = take(room);
     for (;;) {
         if (room - len < 65536) in = realloc(in, room *= 2);
@@ -451,6 +530,7 @@ int main(void) {
         if (n < 0) return 4;
         if (n == 0) break;
         len += (size_t)n;
+        if ((fed += (size_t)n) > MOST_INPUT) return 9;
         char *at = in;
         for (;;) {
             char *end = memchr(at, '\n', len - (size_t)(at - in));
