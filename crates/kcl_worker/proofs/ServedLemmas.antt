@@ -6,7 +6,7 @@ use Rattle.kcl_defs.specs.declared.consumer.Call.{Call}
 use Rattle.kcl_defs.specs.Consumers.{calls_after}
 use Rattle.kcl_defs.specs.Lives.{IsLifeIn}
 use Rattle.kcl_defs.specs.Workers.{Known, WorkerPast, worker_after}
-use Rattle.kcl_defs.specs.WorkerLives.{IsToldIn, IsServed, IsServedWhole}
+use Rattle.kcl_defs.specs.WorkerLives.{IsOfTenure, IsToldIn, IsServed, IsServedWhole}
 use Rattle.kcl_defs.proofs.RetiredLemmas.{are_served}
 use Rattle.kcl_consumer.specs.Standing.{Standing}
 use Rattle.kcl_round.specs.Lists.{Retirement}
@@ -16,7 +16,10 @@ consumers_served : {P : Type 0} (stands : P → List Call → Type 0) (by : ℕ)
 consumers_served stands by h [] [] s all = tt
 consumers_served stands by h (c ∷ cs) (k ∷ ks) s all =
     let calls = subst (λ m. stands c.processor (calls_after m k.past)) s.0 s.1.calls in (
-      (calls_after k.made k.past, calls, subst (λ m. IsLifeIn by h m (calls_after k.made k.past)) (sym s.0) all.0),
+      (
+        subst (IsOfTenure by h) (sym s.0) all.0.0,
+        (calls_after k.made k.past, calls, subst (λ m. IsLifeIn by h m (calls_after k.made k.past)) (sym s.0) all.0.1),
+      ),
       consumers_served stands by h cs ks s.2 all.1,
     )
 consumers_served stands by h [] (k ∷ ks) s all = absurd s
@@ -25,7 +28,7 @@ consumers_served stands by h (c ∷ cs) [] s all = absurd s
 retired_served : {P : Type 0} (stands : P → List Call → Type 0) (by : ℕ) (h : List Turn) (rs : List (Retirement P)) (ks : List Known) → RetirementsStand stands rs ks → AllByRecursion (IsServedWhole by h) ks → AllByRecursion (IsRetiredIn stands by h) rs
 retired_served stands by h [] [] s all = tt
 retired_served stands by h (r ∷ rs) (k ∷ ks) s all =
-    ((k.made, s.0.key, s.0.tenure, calls_after k.made k.past, s.0.calls, all.0), retired_served stands by h rs ks s.1 all.1)
+    ((k.made, s.0.key, s.0.tenure, all.0.0, (calls_after k.made k.past, s.0.calls, all.0.1)), retired_served stands by h rs ks s.1 all.1)
 retired_served stands by h [] (k ∷ ks) s all = absurd s
 retired_served stands by h (r ∷ rs) [] s all = absurd s
 

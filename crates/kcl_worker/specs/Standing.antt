@@ -15,7 +15,7 @@ use Rattle.kds_defs.specs.declared.command.Turn.{Turn}
 use Rattle.kds_defs.specs.declared.reply.Refusal.{Refusal}
 use Rattle.kds_defs.specs.declared.reply.Reply.{Reply}
 use Rattle.kcl_defs.specs.Lives.{IsLifeIn, IsWholeLifeIn}
-use Rattle.kcl_defs.specs.WorkerLives.{IsOrderly}
+use Rattle.kcl_defs.specs.WorkerLives.{IsOfTenure, IsOrderly}
 use Rattle.kcl_consumer.specs.Standing.{Standing, StandsFor as ConsumerStandsFor}
 use Rattle.kcl_round.specs.declared.planning.Planned.{Planned}
 use Rattle.kcl_round.specs.Changes.{live_among, retired_among}
@@ -89,13 +89,14 @@ pub record StandsFor {P F : Type 0} (stands : P → List Call → Type 0) (w : W
 
 -- ---- what its processors were called for
 
--- the processor's calls are the given reads of its tenure in the history
+-- the consumer is of a tenure of the history, and its processor's calls are the given reads of that tenure
 abbrev pub IsServedIn : {P : Type 0} → (P → List Call → Type 0) → ℕ → List Turn → Standing P → Type 0
-IsServedIn stands by h c = (calls : List Call) × stands c.processor calls × IsLifeIn by h c.made calls
+IsServedIn stands by h c = IsOfTenure by h c.made × ((calls : List Call) × stands c.processor calls × IsLifeIn by h c.made calls)
 
 -- and no batch that a retired one was handed waits
 abbrev pub IsRetiredIn : {P : Type 0} → (P → List Call → Type 0) → ℕ → List Turn → Retirement P → Type 0
-IsRetiredIn stands by h r = (made : Tenancy) × (r.key ≡ made.key) × (r.tenure ≡ made.tenure) × (calls : List Call) × stands r.processor calls × IsWholeLifeIn by h made calls
+IsRetiredIn stands by h r = (made : Tenancy) × (r.key ≡ made.key) × (r.tenure ≡ made.tenure) × IsOfTenure by h made
+    × ((calls : List Call) × stands r.processor calls × IsWholeLifeIn by h made calls)
 
 pub record AreServedIn {P F : Type 0} (stands : P → List Call → Type 0) (by : ℕ) (h : List Turn) (w : WorkerStanding P F) : Type 0 where
   pub consumers : AllByRecursion (IsServedIn stands by h) w.consumers
