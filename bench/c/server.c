@@ -1,18 +1,34 @@
-/* A ceiling for `kds serve`: a thread a connection, the least honest work on each request, one store under one lock.
+/* A ceiling for `kds serve`: a thread a connection, one store under one lock.
  *
- *     server PORT full     MD5 of the key, the payload decoded, records encoded
- *     server PORT bare     finds the end of the head and the Data member, copies it, and writes the response */
-#include "least.h"
+ *     server PORT full     the least honest work on each request, as strict as the program is: the head by its headers, the body in one
+ *                          pass (strict.h), names, several streams with their shards, MD5, base64, what a shard takes within a second
+ *     server PORT bare     finds the end of the head and the Data member, copies it, and writes the response
+ *
+ * Of operations and of refusals it knows those that bench/serve asks for, and no others. */
+#include "strict.h"
 #include <arpa/inet.h>
 #include <netinet/tcp.h>
 #include <pthread.h>
+#include <strings.h>
 #include <sys/socket.h>
 #include <time.h>
 #include <unistd.h>
 
+struct shard {
+    struct log log;
+    uint64_t second, records, bytes; /* what it took within the second, counted whether or not it is enforced */
+};
+
+struct stream {
+    struct text name;
+    unsigned count;
+    uint64_t next;
+    struct shard *shards;
+};
+
 static pthread_mutex_t lock = PTHREAD_MUTEX_INITIALIZER;
-static struct log kept;
-static uint64_t next_seq = 1;
+static struct stream streams[64];
+static unsigned stream_count;
 static int bare;
 
 static uint64_t now_ms(void) {
@@ -35,7 +51,6 @@ static char *more(struct buffer *b, size_t bytes) {
     return b->at + b->len;
 }
 
-/* A response whose body has so many bytes: the place of the body. */
 static void respond(struct buffer *out, const char *body, size_t len) {
     char *to = more(out, len + 200);
     char *end = PRINT(to, "HTTP/1.1 200 OK\r\nContent-Type: application/x-amz-json-1.1\r\nContent-Length: ");
@@ -45,64 +60,121 @@ static void respond(struct buffer *out, const char *body, size_t len) {
     out->len += (size_t)(end - to);
 }
 
-static char *place(char *to, uint64_t seq) {
+static char *place(char *to, uint64_t seq, unsigned shard) {
     to = PRINT(to, "{\"SequenceNumber\":\"");
     to = print_number(to, seq);
-    return PRINT(to, "\",\"ShardId\":\"shardId-000000000000\"}");
+    to = PRINT(to, "\",\"ShardId\":\"shardId-");
+    for (int i = 11; i >= 0; i--, shard /= 10) to[i] = (char)('0' + shard % 10);
+    return PRINT(to + 12, "\"}");
 }
 
-static struct record made(struct text key, struct text data) {
+/* ---- the store; all of it under the lock */
+
+/* The stream of a name, or a place for a new one where there is none. */
+static struct stream *stream_of(struct text name) {
+    for (unsigned i = 0; i < stream_count; i++)
+        if (streams[i].name.len == name.len && !memcmp(streams[i].name.at, name.at, name.len)) return &streams[i];
+    return NULL;
+}
+
+static void store(struct stream *s, unsigned shard, struct record *r) {
+    struct shard *x = &s->shards[shard];
+    if (x->second != r->arrival / 1000) x->second = r->arrival / 1000, x->records = x->bytes = 0;
+    x->records++;
+    x->bytes += r->key_len + r->payload_len;
+    r->seq = s->next++;
+    add_record(&x->log, *r);
+}
+
+/* ---- requests */
+
+#define RECORD_BYTES 10485760u
+
+/* A record of these members, and its hash. */
+static struct record made(struct found *f, u128 *hash) {
     struct record r = {0};
-    r.bytes = take(key.len + data.len / 4 * 3 + 3);
-    memcpy(r.bytes, key.at, key.len);
-    r.key_len = key.len;
-    if (bare) {
-        r.payload_len = data.len * 3 / 4;
-        memcpy(r.bytes + key.len, data.at, r.payload_len);
-    } else {
-        long len = decode(data, r.bytes + key.len);
-        if (len < 0 || home_of(hash_of(key), 1)) exit(1);
-        r.payload_len = (size_t)len;
-    }
+    if (f->key.kind != STRING || !is_key(f->key.text) || f->data.kind != STRING || bad_bits(f->data.text)) exit(1);
+    if (f->key.text.len + f->data.text.len / 4 * 3 > RECORD_BYTES) exit(1);
+    if (f->hash.kind == NONE) *hash = hash_of(f->key.text);
+    else if (f->hash.kind != STRING || !wide(f->hash.text, hash)) exit(1);
+    r.bytes = take(f->key.text.len + f->data.text.len / 4 * 3 + 3);
+    memcpy(r.bytes, f->key.text.at, f->key.text.len);
+    r.key_len = f->key.text.len;
+    long len = decode(f->data.text, r.bytes + r.key_len);
+    if (len < 0) exit(1);
+    r.payload_len = (size_t)len;
     return r;
 }
 
-static void put(const char *at, const char *end, struct buffer *out) {
-    struct text key = {"", 0}, data;
-    const char *from = at;
-    if (!bare && !MEMBER(&from, end, "\"PartitionKey\":\"", &key)) exit(1);
-    from = at;
-    if (!MEMBER(&from, end, "\"Data\":\"", &data)) exit(1);
-    struct record r = made(key, data);
-    r.arrival = bare ? 0 : now_ms();
+static void named(const char *at, const char *end, struct found *f) {
+    if (!read_body(at, end, f) || f->stream.kind != STRING || !is_name(f->stream.text)) exit(1);
+}
+
+static void create(const char *at, const char *end, struct buffer *out) {
+    struct found f;
+    uint64_t count;
+    named(at, end, &f);
+    if (!number_in(f.count, 1, 500, &count)) exit(1);
+    char *name = take(f.stream.text.len);
+    memcpy(name, f.stream.text.at, f.stream.text.len);
     pthread_mutex_lock(&lock);
-    r.seq = next_seq++;
-    add_record(&kept, r);
+    if (stream_count == 64 || stream_of(f.stream.text)) exit(1);
+    streams[stream_count++] = (struct stream){{name, f.stream.text.len}, (unsigned)count, 1, calloc(count, sizeof(struct shard))};
+    pthread_mutex_unlock(&lock);
+    respond(out, "", 0);
+}
+
+static void put(const char *at, const char *end, struct buffer *out) {
+    struct found f;
+    u128 hash;
+    named(at, end, &f);
+    struct record r = made(&f, &hash);
+    r.arrival = now_ms();
+    pthread_mutex_lock(&lock);
+    struct stream *s = stream_of(f.stream.text);
+    if (!s) exit(1);
+    unsigned shard = home_of(hash, s->count);
+    store(s, shard, &r);
     pthread_mutex_unlock(&lock);
     char body[100];
-    respond(out, body, (size_t)(place(body, r.seq) - body));
+    respond(out, body, (size_t)(place(body, r.seq, shard) - body));
 }
 
 static void put_many(const char *at, const char *end, struct buffer *out) {
     static __thread struct record many[500];
-    size_t count = 0;
-    struct text key = {"", 0}, data;
+    static __thread u128 hashes[500];
+    static __thread unsigned shards[500];
+    struct found f;
+    named(at, end, &f);
+    if (f.records.kind != ARRAY) exit(1);
+    size_t count = 0, bytes = 0;
     uint64_t arrival = now_ms();
-    while (count < 500 && MEMBER(&at, end, "\"Data\":\"", &data)) {
-        if (!MEMBER(&at, end, "\"PartitionKey\":\"", &key)) exit(1);
-        many[count] = made(key, data);
-        many[count++].arrival = arrival;
+    const char *from = f.records.text.at + 1, *last = f.records.text.at + f.records.text.len;
+    for (;;) {
+        struct found item = {0};
+        from = blank(from, last);
+        if (*from != '{' || count == 500) exit(1);
+        from = members(from + 1, last, 124, take_member, &item);
+        many[count] = made(&item, &hashes[count]);
+        many[count].arrival = arrival;
+        bytes += many[count].key_len + many[count].payload_len;
+        count++;
+        from = blank(from, last);
+        if (*from++ == ']') break;
     }
+    if (bytes > RECORD_BYTES) exit(1);
     pthread_mutex_lock(&lock);
+    struct stream *s = stream_of(f.stream.text);
+    if (!s) exit(1);
     for (size_t i = 0; i < count; i++) {
-        many[i].seq = next_seq++;
-        add_record(&kept, many[i]);
+        shards[i] = home_of(hashes[i], s->count);
+        store(s, shards[i], &many[i]);
     }
     pthread_mutex_unlock(&lock);
     char *body = take(count * 100 + 100), *to = PRINT(body, "{\"FailedRecordCount\":0,\"Records\":[");
     for (size_t i = 0; i < count; i++) {
         if (i) *to++ = ',';
-        to = place(to, many[i].seq);
+        to = place(to, many[i].seq, shards[i]);
     }
     to = PRINT(to, "]}");
     respond(out, body, (size_t)(to - body));
@@ -111,35 +183,37 @@ static void put_many(const char *at, const char *end, struct buffer *out) {
 
 /* A batch from the position that the token names. */
 static void get(const char *at, const char *end, struct buffer *out) {
-    struct text iterator;
-    unsigned char token[128];
-    if (!MEMBER(&at, end, "\"ShardIterator\":\"", &iterator) || iterator.len > 120) exit(1);
-    long len = decode(iterator, token);
-    if (len < 8) exit(1);
-    token[len] = 0;
-    unsigned long long stream, shard, position, issued;
-    if (sscanf((char *)token, "KI1:%llu:%llu:%llu:%llu", &stream, &shard, &position, &issued) != 4) exit(1);
-    unsigned long limit = 10000;
-    const char *says = memmem(at, (size_t)(end - at), "\"Limit\":", 8);
-    if (says) limit = strtoul(says + 8, NULL, 10);
+    struct found f;
+    uint64_t part[4], limit = 10000, now = now_ms();
+    if (!read_body(at, end, &f) || !iterator_of(f.iterator, part)) exit(1);
+    if (f.limit.kind != NONE && !number_in(f.limit, 1, 10000, &limit)) exit(1);
+    if (now > part[3] && now - part[3] > 300000) exit(1);
     pthread_mutex_lock(&lock);
-    size_t low = 0, high = kept.count;
+    if (!part[0] || part[0] > stream_count || part[1] >= streams[part[0] - 1].count) exit(1);
+    struct log *kept = &streams[part[0] - 1].shards[part[1]].log;
+    size_t low = 0, high = kept->count;
     while (low < high) {
         size_t middle = (low + high) / 2;
-        if (kept.records[middle].seq < position) low = middle + 1;
+        if (kept->records[middle].seq < part[2]) low = middle + 1;
         else high = middle;
     }
-    size_t count = kept.count - low < limit ? kept.count - low : limit;
+    size_t count = kept->count - low < limit ? kept->count - low : limit;
+    uint64_t behind = low + count < kept->count ? now - kept->records[low + count].arrival : 0;
     struct record *batch = take(count * sizeof *batch);
-    memcpy(batch, kept.records + low, count * sizeof *batch);
+    memcpy(batch, kept->records + low, count * sizeof *batch);
     pthread_mutex_unlock(&lock);
     size_t room = 300;
     for (size_t i = 0; i < count; i++) room += batch[i].key_len + batch[i].payload_len / 3 * 4 + 150;
-    char *body = take(room), *to = PRINT(body, "{\"MillisBehindLatest\":0,\"NextShardIterator\":\"");
-    char next[100];
-    int next_len = snprintf(next, sizeof next, "KI1:%llu:%llu:%llu:%llu", stream, shard,
-                            count ? (unsigned long long)batch[count - 1].seq + 1 : position, (unsigned long long)now_ms());
-    to = encode((unsigned char *)next, (size_t)next_len, to);
+    char *body = take(room), *to = PRINT(body, "{\"MillisBehindLatest\":");
+    to = print_number(to, behind);
+    to = PRINT(to, ",\"NextShardIterator\":\"");
+    char next[128], *e = PRINT(next, "KI1:");
+    uint64_t numbers[4] = {part[0], part[1], count ? batch[count - 1].seq + 1 : part[2], now};
+    for (int i = 0; i < 4; i++) {
+        if (i) *e++ = ':';
+        e = print_number(e, numbers[i]);
+    }
+    to = encode((unsigned char *)next, (size_t)(e - next), to);
     to = PRINT(to, "\",\"Records\":[");
     for (size_t i = 0; i < count; i++) {
         if (i) *to++ = ',';
@@ -151,15 +225,99 @@ static void get(const char *at, const char *end, struct buffer *out) {
     free(batch);
 }
 
-static void answer(const char *head, const char *body, size_t len, struct buffer *out) {
-    const char *target = memmem(head, (size_t)(body - head), "Kinesis_20131202.", 17);
-    if (!target) exit(1);
-    target += 17;
-    if (!memcmp(target, "PutRecords", 10)) put_many(body, body + len, out);
-    else if (!memcmp(target, "PutRecord", 9)) put(body, body + len, out);
-    else if (!memcmp(target, "GetRecords", 10)) get(body, body + len, out);
-    else respond(out, "", 0);
+/* ---- heads */
+
+struct head {
+    struct text target;
+    size_t length;
+    int is_json, closes, targets, types, lengths;
+};
+
+static int is(struct text t, const char *name) {
+    return t.len == strlen(name) && !strncasecmp(t.at, name, t.len);
 }
+
+/* A head up to its empty line: the method, the target, and at most 64 headers with the names that count. */
+static int read_head(const char *at, const char *end, struct head *h) {
+    static const char first[] = "POST / HTTP/1.1\r\n";
+    *h = (struct head){0};
+    if (end - at > 16384 || (size_t)(end - at) < sizeof first - 1 || memcmp(at, first, sizeof first - 1)) return 0;
+    at += sizeof first - 1;
+    for (int count = 0; at < end; count++) {
+        const char *line = memchr(at, '\r', (size_t)(end - at));
+        if (!line) line = end;
+        const char *colon = memchr(at, ':', (size_t)(line - at));
+        if (!colon || colon == at || count == 64) return 0;
+        struct text name = {at, (size_t)(colon - at)}, value = {colon + 1, (size_t)(line - colon - 1)};
+        for (size_t i = 0; i < name.len; i++)
+            if ((unsigned char)name.at[i] <= ' ' || (unsigned char)name.at[i] >= 127) return 0;
+        while (value.len && (*value.at == ' ' || *value.at == '\t')) value.at++, value.len--;
+        while (value.len && (value.at[value.len - 1] == ' ' || value.at[value.len - 1] == '\t')) value.len--;
+        if (is(name, "Content-Length")) {
+            if (!value.len || value.len > 19) return 0;
+            for (size_t i = 0; i < value.len; i++) {
+                if (value.at[i] < '0' || value.at[i] > '9') return 0;
+                h->length = h->length * 10 + (size_t)(value.at[i] - '0');
+            }
+            h->lengths++;
+        } else if (is(name, "X-Amz-Target")) {
+            h->target = value;
+            h->targets++;
+        } else if (is(name, "Content-Type")) {
+            h->is_json = value.len >= 26 && !memcmp(value.at, "application/x-amz-json-1.1", 26) && (value.len == 26 || value.at[26] == ';');
+            h->types++;
+        } else if (is(name, "Connection")) {
+            h->closes |= is(value, "close");
+        } else if (is(name, "Transfer-Encoding")) {
+            return 0;
+        }
+        at = line + 2;
+    }
+    return h->lengths == 1 && h->length <= 1 << 24;
+}
+
+static void answer(struct head *h, const char *body, struct buffer *out) {
+    static const char front[] = "Kinesis_20131202.";
+    const char *end = body + h->length;
+    size_t skipped = sizeof front - 1;
+    if (h->targets != 1 || h->types != 1 || !h->is_json || h->target.len <= skipped || memcmp(h->target.at, front, skipped)) exit(1);
+    struct text name = {h->target.at + skipped, h->target.len - skipped};
+    if (IS(name, "PutRecord")) put(body, end, out);
+    else if (IS(name, "PutRecords")) put_many(body, end, out);
+    else if (IS(name, "GetRecords")) get(body, end, out);
+    else if (IS(name, "CreateStream")) create(body, end, out);
+    else exit(1);
+}
+
+/* The one next to nothing: finds a member, and copies it. */
+static void answer_barely(const char *head, const char *body, size_t len, struct buffer *out) {
+    const char *end = body + len, *target = memmem(head, (size_t)(body - head), "Kinesis_20131202.", 17);
+    static struct log kept;
+    static uint64_t next = 1;
+    struct text data;
+    if (!target) exit(1);
+    int many = !memcmp(target + 17, "PutRecords", 10);
+    if (!many && memcmp(target + 17, "PutRecord", 9)) {
+        respond(out, "", 0);
+        return;
+    }
+    char *room = take(many ? 60000 : 200), *to = many ? PRINT(room, "{\"FailedRecordCount\":0,\"Records\":[") : room;
+    for (int i = 0; MEMBER(&body, end, "\"Data\":\"", &data); i++) {
+        struct record r = {.bytes = take(data.len), .payload_len = data.len * 3 / 4};
+        memcpy(r.bytes, data.at, r.payload_len);
+        pthread_mutex_lock(&lock);
+        r.seq = next++;
+        add_record(&kept, r);
+        pthread_mutex_unlock(&lock);
+        if (i) *to++ = ',';
+        to = place(to, r.seq, 0);
+    }
+    if (many) to = PRINT(to, "]}");
+    respond(out, room, (size_t)(to - room));
+    free(room);
+}
+
+/* ---- connections */
 
 static int send_all(int socket, struct buffer *out) {
     size_t sent = 0;
@@ -172,23 +330,32 @@ static int send_all(int socket, struct buffer *out) {
     return 1;
 }
 
+/* Answers the request at the front, if it is whole, and gives how many bytes it has. */
+static size_t answer_front(const char *head, size_t unread, struct buffer *out) {
+    const char *end = unread ? memmem(head, unread, "\r\n\r\n", 4) : NULL;
+    struct head h = {0};
+    if (!end) return 0;
+    if (bare) {
+        const char *says = memmem(head, (size_t)(end - head), "Content-Length: ", 16);
+        h.length = says ? strtoul(says + 16, NULL, 10) : 0;
+    } else if (!read_head(head, end, &h)) {
+        exit(1);
+    }
+    size_t whole = (size_t)(end + 4 - head) + h.length;
+    if (whole > unread) return 0;
+    if (bare) answer_barely(head, end + 4, h.length, out);
+    else answer(&h, end + 4, out);
+    return whole;
+}
+
 static void *serve(void *given) {
     int socket = (int)(intptr_t)given;
     struct buffer in = {0}, out = {0};
     size_t used = 0;
     for (;;) {
-        char *head = in.at + used;
-        size_t unread = in.len - used;
-        char *end = unread ? memmem(head, unread, "\r\n\r\n", 4) : NULL;
-        if (end) {
-            char *says = memmem(head, (size_t)(end - head), "Content-Length: ", 16);
-            size_t len = says ? strtoul(says + 16, NULL, 10) : 0;
-            if ((size_t)(end + 4 - head) + len <= unread) {
-                answer(head, end + 4, len, &out);
-                used += (size_t)(end + 4 - head) + len;
-                if (out.len < 65536) continue;
-            }
-        }
+        size_t done = answer_front(in.at + used, in.len - used, &out);
+        used += done;
+        if (done && out.len < 65536) continue;
         if (out.len && !send_all(socket, &out)) break;
         memmove(in.at, in.at + used, in.len - used);
         in.len -= used;

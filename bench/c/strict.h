@@ -72,8 +72,9 @@ static const char *blank(const char *at, const char *end) {
     return at;
 }
 
-static char unescaped[1 << 24];
-static size_t unescaped_len;
+/* Texts with escapes, without them: no longer together than the body. */
+static __thread char *unescaped;
+static __thread size_t unescaped_len, unescaped_room;
 
 static int hex4(const char *at, const char *end, unsigned *out) {
     if (end - at < 4) return 0;
@@ -260,6 +261,10 @@ static void take_member(void *to_, struct text name, struct value v) {
 static int read_body(const char *body, const char *end, struct found *f) {
     *f = (struct found){0};
     unescaped_len = 0;
+    if (unescaped_room < (size_t)(end - body)) {
+        free(unescaped);
+        unescaped = take(unescaped_room = (size_t)(end - body));
+    }
     if (!utf8((const unsigned char *)body, (const unsigned char *)end)) return 0;
     body = blank(body, end);
     if (body >= end || *body != '{') return 0;
