@@ -2,7 +2,7 @@
 ghost use Rattle.std.specs.Prelude.{◌≡◌, ◌≢◌, ◌+◌, ◌-◌, ◌*◌, ◌<◌, ◌≤◌, ◌^◌, if◌then◌else◌, slice_get, None, Some, IfOk, OnOk, OnErr};
 ghost use Rattle.std.specs.Option.{option_map};
 ghost use Rattle.std.specs.List.{AllByRecursion};
-ghost use Rattle.kds_defs.specs.declared.limits.TheConstants.{BATCH_BYTES, HOUR};
+ghost use Rattle.kds_defs.specs.declared.limits.TheConstants.{BATCH_BYTES, HOUR, MOST_SHARDS};
 ghost use Rattle.kds_defs.specs.Records.{beginning, numbers_of, place_after};
 ghost use Rattle.kds_defs.specs.Shards.{shown};
 ghost use Rattle.kds_defs.specs.StreamCommands.{last_number};
@@ -78,7 +78,7 @@ impl Stream {
     /// A stream as it is made.
     pub fn new(alloc: Global, name: Name, shards: u32) -> Result<Stream, Memory>
         requires least { 1 ≤ shards }
-        requires most { shards ≤ 500 }
+        requires most { shards ≤ MOST_SHARDS }
         ensures { IfOk result (λ v. v ≡ new_stream name shards) }
     {
         Ok(Stream {

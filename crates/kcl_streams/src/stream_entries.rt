@@ -1,5 +1,6 @@
 //! The entries of streams, judged and added.
 ghost use Rattle.std.specs.Prelude.{ℕ, Bool, ◌≡◌, ◌≤◌, ◌-◌, ◌∷◌, ◌++◌, [], None, Some, Ok, IfErr, IfOk, OnErr, OnOk};
+ghost use Rattle.kds_defs.specs.declared.limits.TheConstants.{MOST_SHARDS};
 ghost use Rattle.kds_defs.specs.declared.reply.Refusal.TheVariants as refusal;
 ghost use Rattle.kcl_streams.specs.declared.rule.Rule.TheVariants as rule;
 ghost use Rattle.kcl_streams.specs.Verdict.{IsFit};
@@ -15,7 +16,7 @@ use std::alloc::Global;
 
 /// Whether the making of a stream is good.
 fn judge_made(streams: &[Stream], no: StreamNo, name: &Name, shards: u32) -> Result<(), Rule>
-    requires { shards ≤ 500 }
+    requires { shards ≤ MOST_SHARDS }
     ensures { result ≡ made_verdict streams.now no name.now shards }
 {
     match made_refusal(streams, name, shards) {
@@ -99,7 +100,7 @@ pub fn judge(streams: &[Stream], clock: Moment, what: &Entry) -> Result<(), Rule
 /// Adds a stream as it is made.
 fn add_made(alloc: Global, streams: &mut Vec<Stream>, name: Name, shards: u32) -> Result<(), Memory>
     requires least { 1 ≤ shards }
-    requires most { shards ≤ 500 }
+    requires most { shards ≤ MOST_SHARDS }
     ensures ok { OnOk result (streams.new.items ≡ streams.old.items ++ new_stream name shards ∷ []) }
     ensures err { OnErr result (streams.new.items ≡ streams.old.items) }
 {

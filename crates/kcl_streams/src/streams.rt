@@ -1,6 +1,7 @@
 //! The streams, as a judge keeps them.
 ghost use Rattle.std.specs.Prelude.{◌≡◌, ◌≤◌, if◌then◌else◌, None, Some};
 ghost use Rattle.std.specs.Option.{option_map};
+ghost use Rattle.kds_defs.specs.declared.limits.TheConstants.{MOST_SHARDS, OPEN_SHARDS};
 ghost use Rattle.kcl_streams.specs.Standing.{is_listed_in, live_at};
 ghost use Rattle.kcl_streams.specs.Judging.{is_named, lacks_room, live_count, made_refusal};
 
@@ -65,7 +66,7 @@ pub fn live_count(streams: &[Stream]) -> u64
 
 /// Whether fewer shards than this are left of those that may be open.
 pub fn lacks_room(streams: &[Stream], more: u64) -> bool
-    requires { more ≤ 500 }
+    requires { more ≤ OPEN_SHARDS }
     ensures { result ≡ lacks_room streams.now more }
 {
     let mut open = more;
@@ -82,7 +83,7 @@ pub fn lacks_room(streams: &[Stream], more: u64) -> bool
 
 /// Why a stream of so many shards can't be made, if it can't.
 pub fn made_refusal(streams: &[Stream], name: &Name, shards: u32) -> Option<Refusal>
-    requires { shards ≤ 500 }
+    requires { shards ≤ MOST_SHARDS }
     ensures { result ≡ made_refusal streams.now name.now shards }
 {
     if is_named(streams, name) {
