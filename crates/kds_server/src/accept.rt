@@ -1,6 +1,6 @@
 //! Connections one after another, each in a thread of its own.
-ghost use Rattle.std.specs.Prelude.{◌≡◌, ◌≤◌, ◌⊎◌, length, All};
-ghost use Rattle.kds_ends.specs.Causes.{Rose};
+ghost use Rattle.std.specs.Prelude.{ℕ, ◌≡◌, ◌≤◌, ◌⊎◌, length, All};
+ghost use Rattle.kds_ends.specs.Causes.{Rose, RoseOnceAtMost};
 ghost use Rattle.kds_server.specs.Texts.{IsCrewStatus};
 
 use crate::free::{FreePass, free_passes};
@@ -105,6 +105,8 @@ where
     D::Input: Send + 'e,
     D::Output: Send + 'e,
     ensures door { result ≡ Status.Door → Rose (D.faults door.old) (D.faults door.new) }
+    ensures one { RoseOnceAtMost (D.faults door.old) (D.faults door.new) }
+    ensures listens { (port : ℕ) → D.listens door.old port → D.listens door.new port }
     ensures kinds { IsCrewStatus result }
 {
     let mut own = own;
@@ -112,18 +114,23 @@ where
         if crew.out_of_memory.load(Ordering::SeqCst) {
             return Status::Memory;
         }
-        match door.accept() {
-            Ok((input, out)) => own = host(scope, crew, own, input, out),
-            Err(_) => return Status::Door,
+        let Ok((input, out)) = door.accept() else {
+            return Status::Door;
+        };
+        // Memory may have run out while this waited: then the connection is closed, and not served.
+        if crew.out_of_memory.load(Ordering::SeqCst) {
+            return Status::Memory;
         }
+        own = host(scope, crew, own, input, out);
     }
     unreachable!()
 }
 
 /// Serves the connections of a door, each in a thread of its own, by a pass that no other one is using. The calling
-/// thread accepts; where one pass is left, or no thread is made, it serves the connection itself. Door: the door
-/// failed, and the connections under way have ended. Memory: memory ran out on a connection, after which no more were
-/// accepted, or before the first. Condition: there is a pass, and each is one of the hall.
+/// thread accepts; where one pass is left, or no thread is made, it serves the connection itself. Nothing is accepted
+/// after the door's first fault. Door: the door failed, and the connections under way have ended. Memory: memory ran out
+/// on a connection, after which none was served that wasn't yet, or before the first. Condition: there is a pass, and
+/// each is one of the hall.
 pub fn crew<R, M, C, D>(
     rt: &R,
     alloc: Global,
@@ -142,6 +149,8 @@ where
     requires some { 1 ≤ length passes.items }
     requires hall { All (λ p. p.hall ≡ hall.now.id) passes.items }
     ensures door { result ≡ Status.Door → Rose (D.faults door.old) (D.faults door.new) }
+    ensures one { RoseOnceAtMost (D.faults door.old) (D.faults door.new) }
+    ensures listens { (port : ℕ) → D.listens door.old port → D.listens door.new port }
     ensures kinds { IsCrewStatus result }
 {
     let Ok(mut idle) = free_passes(alloc, hall, passes) else {

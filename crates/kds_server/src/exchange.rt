@@ -36,12 +36,13 @@ fn flush<K: Sink>(session: &mut Session, out: &mut K) -> Result<(), Status>
     }
 }
 
-/// Writes what the session has to send, where that is a piece or more.
+/// Writes what the session has to send, where that is a piece or more: then less than a piece is left to send.
 pub fn write_early<K: Sink>(session: &mut Session, out: &mut K) -> Result<(), Status>
     ensures goes_on { OnOk result ((left : Option (List ℕ)) → ReadsOn left session.old (K.held out.old) left session.new (K.held out.new)) }
     ensures ended { IfErr result (λ s. (left : Option (List ℕ)) → EndsThere left session.old (K.held out.old) left (K.held out.new) s) }
     ensures waits { OnOk result (session.new.waiting ≡ session.old.waiting) }
     ensures as_much { OnOk result (to_come session.new ≡ to_come session.old) }
+    ensures bounded { OnOk result (length session.new.output < PIECE_BYTES) }
     ensures later { K.faults out.old ≤ K.faults out.new }
     ensures write { IsErrOf result Status.Write → Rose (K.faults out.old) (K.faults out.new) }
     ensures kinds { IfErr result (λ s. s ≡ Status.Write) }
@@ -118,6 +119,7 @@ pub fn exchange<S: Source, K: Sink>(
     ensures goes_on { result ≡ None → ReadsOn (S.left input.old) session.old (K.held out.old) (S.left input.new) session.new (K.held out.new) }
     ensures ended { IfSome result (EndsThere (S.left input.old) session.old (K.held out.old) (S.left input.new) (K.held out.new)) }
     ensures waits { result ≡ None → session.new.waiting ≡ Nothing }
+    ensures empty { result ≡ None → session.new.output ≡ [] }
     ensures grows { result ≡ None → (session.old.standing ≡ Live) × (to_come session.new ≡ to_come session.old)
         × (length session.old.unread < length session.new.unread) }
     ensures source_later { S.faults input.old ≤ S.faults input.new }

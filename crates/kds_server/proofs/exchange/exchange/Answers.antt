@@ -39,6 +39,7 @@ returns-in_default g c = record {
       (flushed all (g.S.Source.left c.args.input.now) c.args.session.now c.flush.new.session start (g.K.Sink.held c.args.out.now) (g.K.Sink.held c.flush.new.out) given told r c.in-Ok.ensures.stands c.in-Ok.ensures.written)
       c.requires.quiet c.in-Ok.ensures.same (λ live. c.in_default.not-Live (c.standing.ensures ∙ live)) c.ending-in_default.ensures;
   waits = λ e. absurd (some_none _ e);
+  empty = λ e. absurd (some_none _ e);
   grows = λ e. absurd (some_none _ e);
   source_later = search rules;
   sink_later = c.in-Ok.ensures.later;
