@@ -7,7 +7,7 @@ use Rattle.kds_turn.specs.declared.pass.TurnErr.{TurnErr}
 use Rattle.kds_turn.specs.Known.{Continues, turns_by}
 use Rattle.kds_turn.specs.Passes.{Standing}
 use Rattle.kcl_drill.specs.Generated.{generated}
-use Rattle.kcl_crowd.specs.Asking.{Asks, HasAsked, HasBegun, IsAskErr, IsKept, turn_of, turns_of}
+use Rattle.kcl_crowd.specs.Asking.{Asks, HasAsked, HasBegun, IsAskErr, IsKept, turn_of}
 use Rattle.kcl_crowd.specs.Feeding.{Feeds, HasFed, HasFedSoFar, IsAfter, IsAtOwn, IsCrowdErr, IsFeedErr}
 use Rattle.kcl_crowd.proofs.Passing.{asked_all, asked_more, asked_same, begun_by, continues_all, kept_all, kept_same, none_before, none_before_one}
 
