@@ -10,11 +10,12 @@ use Rattle.kds_defs.specs.declared.reply.Reply.TheVariants as reply
 use Rattle.kds_defs.specs.Lawful.{IsHistory, IsLawfulCommand, IsLimit}
 use Rattle.kcl_defs.specs.declared.consumer.Tenancy.{Tenancy}
 use Rattle.kcl_defs.specs.declared.consumer.WorkerMade.{WorkerMade}
+use Rattle.kcl_defs.specs.declared.plans.LeaseId.{LeaseId}
 use Rattle.kcl_defs.specs.declared.plans.SyncStep.{SyncStep}
 use Rattle.kcl_defs.specs.declared.plans.SyncStep.TheVariants.{Make, Cut}
 use Rattle.kcl_defs.specs.declared.plans.TakeStep.{TakeStep}
 use Rattle.kcl_defs.specs.Consumers.{Called, Event, Losing, Phase, Opening, Starting, Filling, Holding, Giving, Marking, Ending, MarkingEnd, Leaving, Over, next_command}
-use Rattle.kcl_defs.specs.Workers.{Chore, Consuming, Finishing, Freeing, Renewing, Surveying, Syncing, Taking, Known, Pending, WorkerPast, WorkerState, Gave_command, Got_answer, Made_call, Stopped, absorbed, after_chore, after_renewal, after_survey, after_take, chore_at, command_of, consumer_command, counter_of, happens_to, happens_to_first, id_of, is_before_id, is_due_known, is_over, known_of, next_pending, pending_chore, pending_of, phase_of_known, sync_command, with_event, with_known, worker_after}
+use Rattle.kcl_defs.specs.Workers.{Chore, Consuming, Finishing, Freeing, Renewing, Surveying, Syncing, Taking, Known, Pending, WorkerPast, WorkerState, Gave_command, Got_answer, Made_call, Stopped, absorbed, after_chore, after_renewal, after_survey, after_take, chore_at, command_of, consumer_command, counter_of, happens_to, happens_to_first, id_of, is_before_id, is_due_known, is_over, known_of, next_pending, pending_chore, pending_of, phase_of_known, same_id, sync_command, with_event, with_known, worker_after, Release, Released, id_of_held, released, without_known, without_release}
 use Rattle.kcl_script.specs.declared.line.Line.{Line}
 use Rattle.kcl_script.specs.declared.line.Line.TheVariants.{Api, Raw, Step, Stop, Worker}
 use Rattle.kcl_script.specs.Line.{IsLine}
@@ -98,6 +99,20 @@ absorbed_limits : (made : WorkerMade) (now : ℕ) (answer : Result Reply Refusal
 absorbed_limits made now answer w None limit h = h
 absorbed_limits made now answer w (Some pending) limit h = filtered _ _ (chore_limits made now answer pending.chore (record w { waiting = None }) limit h)
 
+less_by : (b : Bool) (k : Known) (ks less : List Known) → HasLimit k → AllLimits ks → AllLimits less → AllLimits (if b then ks else k ∷ less)
+unfolding HasLimit AllLimits
+less_by true k ks less h rest others = rest
+less_by false k ks less h rest others = (h, others)
+
+all_without : (id : LeaseId) (ks : List Known) → AllLimits ks → AllLimits (without_known id ks)
+unfolding AllLimits
+all_without id [] h = tt
+all_without id (k ∷ ks) h = less_by (same_id (id_of k) id) k ks (without_known id ks) h.0 h.1 (all_without id ks h.1)
+
+released_limits : (o : Option Release) (w : WorkerState) → AllLimits w.consumers → AllLimits (without_release o w).consumers
+released_limits None w h = h
+released_limits (Some r) w h = all_without (id_of_held r.held) w.consumers h
+
 limits_after : (made : WorkerMade) → IsLimit made.settings.limit → (past : WorkerPast) → AllLimits (worker_after made past).consumers
 unfolding AllLimits
 limits_after made limit [] = tt
@@ -105,6 +120,7 @@ limits_after made limit (Made_call asked ∷ past) = filtered (λ k. not (is_ove
 limits_after made limit (Gave_command now ∷ past) = limits_after made limit past
 limits_after made limit (Got_answer now answer ∷ past) = absorbed_limits made now answer (worker_after made past) (worker_after made past).waiting limit (limits_after made limit past)
 limits_after made limit (Stopped ∷ past) = filtered (λ k. not (is_over k)) _ (all_happen (λ k. true) Losing (worker_after made past).consumers (limits_after made limit past))
+limits_after made limit (Released key ∷ past) = released_limits (released key (worker_after made past)) (worker_after made past) (limits_after made limit past)
 
 -- ---- the command that comes next
 
