@@ -11,5 +11,5 @@ mod state;
 
 pub use generator::{Generator, generate};
 pub use laws::{apart, one_order, one_text, untrimmed};
-pub use limits::drill_limits;
+pub use limits::{MEMBER_TURNS, MOST_RECORDS, MOST_WORKERS, RECORDS_A_TURN, TICK, drill_limits};
 pub use records::stream_name;
