@@ -7,7 +7,7 @@ use kds_defs::Command;
 use std::alloc::Global;
 use std::test::Fail;
 
-const LINES: [&str; 18] = [
+const LINES: [&str; 19] = [
     "1000 api CreateStream ",
     "1000 raw 999 rows",
     "0 raw 1 survey",
@@ -24,6 +24,7 @@ const LINES: [&str; 18] = [
     "4611686018427387903 raw 2 cut 1/0 5",
     "3000 worker w1 tally",
     "3000 worker w4294967295 lines latest",
+    "3000 worker w2 users time 5",
     "3000 step 4294967295",
     "3000 stop 0",
 ];
