@@ -39,6 +39,7 @@ hired_goes old new ran w at name by kind from before after s going is made maker
     subst (λ v. GoesOn v ran (line.Worker at name kind from) before after) (sym is) (record {
       made = record { history = s.history; workers = λ g. employ_more old.workers ran.workers w (hired name kind from) all e };
       wrote = wrote ∙ ap (λ n. before ++ (codes "worker " ++ (decimal n ++ 10 ∷ []))) actor;
+      going = going;
     })
 
 -- ---- an actor without a worker
@@ -50,6 +51,7 @@ nobody_stops old new ran at by before after s going same none wrote =
     record {
       made = subst (λ o. RunsSo new (with_stop ran by o)) (sym is) (subst (λ v. RunsSo v ran) (sym same) s);
       wrote = wrote ∙ ap (λ o. before ++ stop_output o) (sym is);
+      going = ap (λ (v : SimValue). v.over) same ∙ going;
     }
 
 pub nobody_steps : (old new : SimValue) (ran : Ran) (at by : ℕ) (before after : List ℕ) → RunsSo old ran → old.over ≡ false → new ≡ old → place_among by (length old.workers) ≡ None
@@ -59,6 +61,7 @@ nobody_steps old new ran at by before after s going same none wrote =
     record {
       made = subst (λ o. RunsSo new (with_step ran at by o)) (sym is) (subst (λ v. RunsSo v ran) (sym same) s);
       wrote = wrote ∙ ap (λ o. before ++ step_output ran at by o) (sym is);
+      going = ap (λ (v : SimValue). v.over) same ∙ going;
     }
 
 -- ---- the worker of an actor
@@ -92,6 +95,7 @@ stop_goes old new ran at by place was now before after s going there stood is st
       made = subst (λ o. RunsSo (record old { workers = slice_set old.workers place now }) (with_stop ran by o)) (sym w.is)
           (record { history = s.history; workers = λ g. replaced old ran by place was now (stopped w.e) w (stops w.e w.employs) });
       wrote = wrote ∙ ap (λ o. before ++ stop_output o) (sym w.is);
+      going = going;
     })
 
 -- a step
@@ -104,8 +108,8 @@ step_made new ran at by place e None history workers = record { history = histor
 step_made new ran at by place e (Some what) history workers = record { history = history; workers = λ g. workers }
 
 pub step_goes : (old new : SimValue) (ran : Ran) (at by place : ℕ) (before after : List ℕ) → RunsSo old ran → old.over ≡ false → place_among by (length old.workers) ≡ Some place
-    → StepsAt at by place old new before after → GoesOn new ran (line.Step at by) before after
-step_goes old new ran at by place before after s going there t =
+    → StepsAt at by place old new before after → new.over ≡ false → GoesOn new ran (line.Step at by) before after
+step_goes old new ran at by place before after s going there t still =
     let c = t.workers in
     let w = works old ran by place c.was s going there c.stood in
     let f = c.related.1 w.e w.employs in
@@ -119,6 +123,7 @@ step_goes old new ran at by place before after s going there t =
           (step_made new ran at by place w.e t.what (t.history ∙ ap (λ h. history_after h at by t.what) s.history) all));
       wrote = t.wrote ∙ ap (λ h. before ++ command_output h at by t.what) s.history ∙ ap (λ o. before ++ command_output ran.history at by o) (sym next)
           ∙ ap (λ o. before ++ step_output ran at by o) (sym w.is);
+      going = still;
     }
 
 -- ---- want of memory

@@ -51,10 +51,11 @@ pub record RunsSo (s : SimValue) (ran : Ran) : Type 0 where
 
 -- ---- what a line does
 
--- the line was run after this run: its output was added, and the run is that with the line
+-- the line was run after this run: its output was added, the run is that with the line, and it isn't over
 pub record GoesOn (s : SimValue) (ran : Ran) (line : Line) (before after : List ℕ) : Type 0 where
   pub made : RunsSo s (with_line ran line)
   pub wrote : after ≡ before ++ output_of ran line
+  pub going : s.over ≡ false
 
 -- memory ran out: the line was run or not
 abbrev pub MayHaveRun : SimValue → Ran → Line → Type 0

@@ -1,4 +1,4 @@
-use Rattle.std.proofs.Common.{◌∷◌, ◌++◌, [], ◌∙◌, ap, sym}
+use Rattle.std.proofs.Common.{◌∷◌, ◌++◌, [], ◌∙◌, ap, refl, sym}
 use Rattle.std.specs.Prelude.{false, true}
 use Rattle.kcl_sim.specs.Standing.{SimValue}
 use Rattle.kcl_sim.proofs.Employing.{free_at}
@@ -23,4 +23,4 @@ pub returns-clause-goes : goal.returns-clause-goes
 returns-clause-goes g c = λ ran s.
     step_goes c.args.self.now _ ran c.args.at c.args.by c.in-Some.place c.args.to.now c.step_at.new.to s c.requires.going (sym c.place_of.ensures ∙ c.in-Some.is)
     (step_done c.args.self.now _ c.step_at.new.self _ c.args.at c.args.by c.in-Some.place c.args.to.now c.step_at.new.to
-    (ap (λ (v : SimValue). record v { over = true }) c.self.view_is) (ap (λ (v : SimValue). record v { over = false }) c.self-2.view_is) c.in_ok-step_at.ensures.steps)
+    (ap (λ (v : SimValue). record v { over = true }) c.self.view_is) (ap (λ (v : SimValue). record v { over = false }) c.self-2.view_is) c.in_ok-step_at.ensures.steps) refl
