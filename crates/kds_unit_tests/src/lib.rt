@@ -18,3 +18,5 @@ mod scalings;
 mod tokens;
 #[cfg(test)]
 mod trees;
+#[cfg(test)]
+mod values;
