@@ -82,9 +82,19 @@ pub fn print_unsound(alloc: Global, number: u64, name: &str, to: &mut Octets) ->
 }
 
 /// Adds the line that tells that so many entries are sound. After `Memory` a front of it may have been added.
-pub fn print_sound(alloc: Global, number: u64, to: &mut Octets) -> Result<(), Memory>
+fn fill_sound(alloc: Global, number: u64, to: &mut Octets) -> Result<(), Memory>
     ensures { OnOk result (to.new ≡ to.old ++ sound_text number) }
 {
     with_number(alloc, b"sound".as_slice(), number, to)?;
     to.extend(b"\n".as_slice())
+}
+
+/// Adds the line that tells that so many entries are sound. After `Memory` nothing was added.
+pub fn print_sound(alloc: Global, number: u64, to: &mut Octets) -> Result<(), Memory>
+    ensures ok { OnOk result (to.new ≡ to.old ++ sound_text number) }
+    ensures err { OnErr result (to.new ≡ to.old) }
+{
+    let mut line = Octets::new(alloc);
+    fill_sound(alloc, number, &mut line)?;
+    to.extend(line.as_slice())
 }
