@@ -82,14 +82,15 @@ pub fn report_stage(alloc: Global, stage: &Stage, to: &mut Octets) -> Result<(),
 }
 
 /// Adds what is written at this stage where the lines end, at a line feed or inside a line, behind what was written
-/// along them. The answer is whether the entries are sound. After `Memory` a front of it may have been added.
+/// along them. The answer is whether the entries are sound. After `Memory` nothing was added.
 pub fn finish_stage(
     alloc: Global,
     stage: &Stage,
     unfinished: bool,
     to: &mut Octets,
 ) -> Result<bool, Memory>
-    ensures { (a : JudgeValue) (p : Progress) → IsAt stage.now a p → IfOk result (λ says. Finishes p (end_by unfinished) says to.old to.new) }
+    ensures says { (a : JudgeValue) (p : Progress) → IsAt stage.now a p → IfOk result (λ says. Finishes p (end_by unfinished) says to.old to.new) }
+    ensures err { OnErr result (to.new ≡ to.old) }
 {
     let number = match stage {
         Stage::Found { .. } => return Ok(false),

@@ -88,9 +88,10 @@ impl AuditTaker {
     }
 
     /// Ends the audit where the lines end, at a line feed or inside a line, and adds what is written then. The answer is
-    /// whether the entries are sound. After `Memory` a front of it may have been added.
+    /// whether the entries are sound. After `Memory` nothing was added.
     pub fn finish(&self, alloc: Global, unfinished: bool, to: &mut Octets) -> Result<bool, Memory>
-        ensures { (texts : List (List ℕ)) → Took self.now texts → IfOk result (λ says. Finishes (progress texts) (end_by unfinished) says to.old to.new) }
+        ensures says { (texts : List (List ℕ)) → Took self.now texts → IfOk result (λ says. Finishes (progress texts) (end_by unfinished) says to.old to.new) }
+        ensures err { OnErr result (to.new ≡ to.old) }
     {
         finish_stage(alloc, &self.stage, unfinished, to)
     }
