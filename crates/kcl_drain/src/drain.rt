@@ -1,5 +1,5 @@
 //! The lone drain.
-ghost use Rattle.std.specs.Prelude.{◌≡◌, List, OnOk, OnErr};
+ghost use Rattle.std.specs.Prelude.{◌≡◌, List, OnOk};
 ghost use Rattle.kds_defs.specs.declared.command.Turn.{Turn as Asked};
 ghost use Rattle.kcl_drain.specs.Draining.{CanDrain};
 ghost use Rattle.kcl_drain.specs.Leased.{HasDrained, HasLeased};
@@ -51,11 +51,11 @@ fn drain_listed<M: Machine>(
 /// Brings every row of the lease table to the end of its shard: makes the missing rows, and then takes the rows that aren't at
 /// their shard's end one after another, in the order of their keys, opens their shards and reads them to the end, by turns
 /// of this actor at this moment. Then the row of each listed shard reads the number of the shard's last record, the trim
-/// horizon where it is open and has none, or the shard's end where it is closed. The error is want of memory
-/// (Kinesis Client Library, leases).
+/// horizon where it is open and has none, or the shard's end where it is closed. Whatever comes of it, the machine has
+/// answered such turns alone. The error is want of memory (Kinesis Client Library, leases).
 pub fn lone_drain<M: Machine>(machine: &mut M, by: u32, at: Moment) -> Result<(), Memory>
     ensures drained { (h : List Asked) → M.stands_for machine.old h → CanDrain h at → OnOk result (HasDrained (M.stands_for machine.new) by at h) }
-    ensures begun { (h : List Asked) → M.stands_for machine.old h → OnErr result (HasLeased (M.stands_for machine.new) by at h) }
+    ensures begun { (h : List Asked) → M.stands_for machine.old h → HasLeased (M.stands_for machine.new) by at h }
 {
     drain_laws();
     let before = ask(machine, by, at, Command::Survey)?;

@@ -1,5 +1,5 @@
 use Rattle.std.proofs.Common.{ℕ, ◌++◌, max, List, [], refl, ◌∙◌, ap, ◌≡◌}
-use Rattle.std.specs.Prelude.{length, Result, Ok, Err, OnErr, OnOk}
+use Rattle.std.specs.Prelude.{length, Result, Ok, Err, OnOk}
 use Rattle.kds_defs.specs.declared.command.Command.TheVariants as command
 use Rattle.kds_defs.specs.declared.command.Turn.{Turn}
 use Rattle.kds_base.specs.declared.lease_key.ShardRef.{ShardRef}
@@ -27,10 +27,6 @@ drained_so : {E : Type 0} (stands : List Turn → Type 0) (by at : ℕ) (h : Lis
 drained_so stands by at h among (Ok u) can laws l = has_drained stands by at h among can laws l
 drained_so stands by at h among (Err e) can laws l = tt
 
-leased_so : {E : Type 0} (stands : List Turn → Type 0) (by at : ℕ) (h : List Turn) (r : Result (Unit {0}) E) → HasLeased stands by at h → OnErr r (HasLeased stands by at h)
-leased_so stands by at h (Ok u) has = tt
-leased_so stands by at h (Err e) has = has
-
 told : (a : Result Reply Refusal) (keys keys' : List ShardRef) (among : List Row) → a ≡ Ok (reply.Survey keys among) → keys ≡ keys' → a ≡ Ok (reply.Survey keys' among)
 told a keys keys' among is same = is ∙ ap (λ ks. Ok (reply.Survey ks among)) same
 
@@ -54,5 +50,4 @@ returns-clause-drained g c = λ h now can.
 
 pub returns-clause-begun : goal.returns-clause-begun
 returns-clause-begun g c = λ h now.
-    leased_so (g.M.Machine.stands_for c.drain_listed.new.machine) c.args.by c.args.at h c.drain_listed.result
-    (c.drain_listed.ensures.leased h (c.in_ok-after.ensures.leased h (c.make_missing.ensures.leased h (c.in_ok-before.ensures.leased h (record { more = []; stands_now = now; are = tt })))))
+    c.drain_listed.ensures.leased h (c.in_ok-after.ensures.leased h (c.make_missing.ensures.leased h (c.in_ok-before.ensures.leased h (record { more = []; stands_now = now; are = tt }))))
