@@ -1,5 +1,5 @@
 -- From a drill's history to its text.
-use Rattle.std.proofs.Common.{◌≡◌, ℕ, ◌<◌, ◌≤◌, ◌^◌, max, false, List, [], ◌∷◌, ◌++◌, length, Option, Some, None, refl, sym, ap, subst, ◌∙◌, arith}
+use Rattle.std.proofs.Common.{◌≡◌, ℕ, ◌<◌, ◌≤◌, ◌^◌, max, false, List, [], ◌∷◌, ◌++◌, length, Option, Some, None, refl, sym, ap, subst, ◌∙◌, append_assoc, arith}
 use Rattle.std.specs.Prelude.{nat_lt}
 use Rattle.std.specs.List.{AllByRecursion}
 use Rattle.std.proofs.lemmas.Bool.Decides.{nat_tests}
@@ -66,6 +66,10 @@ pub record IsReady (stands : List Turn → Type 0) (by at number records : ℕ) 
   pub read : HasRead stands by at turns
   pub can : CanSum turns (max (clock turns) at)
   pub text : summary_text (journal turns) (max (clock turns) at) ≡ drill_text number records
+
+-- a machine that stands for a history and further turns, and then answers turns that only read
+pub later : (stands : List Turn → Type 0) (by at : ℕ) (h more : List Turn) → HasRead stands by at (more ++ h) → (all : List Turn) × stands (all ++ h)
+later stands by at h more r = (r.more ++ more, subst stands (sym (append_assoc r.more more h)) r.stands_now)
 
 pub ready : (laws : HasLaws) (stands : List Turn → Type 0) (h : List Turn) (number records by at then : ℕ) → at ≡ 0 → then ≡ 0 → IsDrill h number records
     → HasDrained stands by at h → IsReady stands by then number records

@@ -1,5 +1,5 @@
 //! The text of a drill.
-ghost use Rattle.std.specs.Prelude.{ℕ, ◌≡◌, ◌<◌, ◌^◌, List, length, IfOk};
+ghost use Rattle.std.specs.Prelude.{ℕ, ◌≡◌, ◌<◌, ◌^◌, ◌++◌, List, length, IfOk};
 ghost use Rattle.kds_defs.specs.declared.command.Turn.{Turn};
 ghost use Rattle.kds_defs.specs.Histories.{journal};
 ghost use Rattle.kcl_drill.specs.Fed.{IsDrill};
@@ -18,10 +18,11 @@ use std::alloc::Global;
 const NOBODY: u32 = 0;
 
 /// Reads each shard of a drill's machine to its end, and gives the summary. The turns are at the clock, whatever that is:
-/// their moment isn't above it. Memory: want of memory.
+/// their moment isn't above it. Whatever comes of it, the machine has answered some turns more. Memory: want of memory.
 pub fn drained_text<M: Machine>(alloc: Global, machine: &mut M) -> Result<Octets, Memory>
-    ensures { (number records : ℕ) (h : List Turn) → M.stands_for machine.old h → IsDrill h number records → length h < 2 ^ 32
+    ensures text { (number records : ℕ) (h : List Turn) → M.stands_for machine.old h → IsDrill h number records → length h < 2 ^ 32
         → AreFromHorizon (journal h) → IfOk result (λ text. text ≡ drill_text number records) }
+    ensures leased { (h : List Turn) → M.stands_for machine.old h → (more : List Turn) × M.stands_for machine.new (more ++ h) }
 {
     one_text();
     untrimmed();
