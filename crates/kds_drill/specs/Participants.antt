@@ -2,6 +2,7 @@
 use Rattle.std.specs.Prelude.{◌≡◌, ℕ, ◌+◌, ◌≤◌, List, [], ◌∷◌, length, map}
 use Rattle.std.specs.List.{range_with_len}
 use Rattle.kcl_defs.specs.Workers.{usual_settings}
+use Rattle.kcl_drill.specs.declared.limits.TheConstants.{MOST_WORKERS}
 use Rattle.kcl_live.specs.declared.crew.Member.{Member}
 use Rattle.kcl_proc.specs.Stocks.{StandsFor as StockStandsFor}
 use Rattle.kcl_proc.specs.declared.stock.Kind.{Kind}
@@ -34,4 +35,4 @@ pub record AreDealt (hall : Place) (p : Participants) : Type 0 where
   pub feeder : p.feeder ≡ new_pass hall.id 2
   pub members : AreMembersOf 1 (new_passes hall 3 (length p.members.items)) p.members.items
   pub all : hall.passes ≡ length p.members.items + 2
-  pub few : length p.members.items ≤ 64
+  pub few : length p.members.items ≤ MOST_WORKERS

@@ -8,6 +8,7 @@ use Rattle.kds_turn.specs.Known.{Continues, account}
 use Rattle.kds_turn.specs.Passes.{Place, Standing, accounts_of}
 use Rattle.kcl_closed.specs.Closed.{AreFromHorizon, IsFew, IsMemberAccount}
 use Rattle.kcl_crowd.specs.Feeding.{HasFed, HasFedSoFar, IsCrowdErr}
+use Rattle.kcl_drill.specs.declared.limits.TheConstants.{MOST_RECORDS, MOST_WORKERS}
 use Rattle.kcl_drill.specs.Fed.{IsDrill}
 use Rattle.kcl_live.specs.declared.crew.Member.{Member}
 use Rattle.kcl_world.specs.Standing.{StandsFor, WorldValue}
@@ -33,7 +34,7 @@ HavePasses hall from (m ∷ ms) = HasPass hall from m × HavePasses hall (from +
 -- The root and the feeder made the first of the generator's commands, and the workers so many turns at most. The hall has
 -- their passes and no others.
 pub record HaveStopped (hall : Place) (number records : ℕ) (p : Participants) : Type 0 where
-  pub limit : records ≤ 1000000
+  pub limit : records ≤ MOST_RECORDS
   pub at : (p.root.hall ≡ hall.id) × (p.feeder.hall ≡ hall.id)
   pub by : (p.root.by ≡ 1) × (p.feeder.by ≡ 2)
   pub alone : (p.root.joined ≡ []) × (p.feeder.joined ≡ [])
@@ -41,7 +42,7 @@ pub record HaveStopped (hall : Place) (number records : ℕ) (p : Participants) 
   pub passes : HavePasses hall 3 p.members.items
   pub turns : AllByRecursion (λ m. IsFew records (account_in m)) p.members.items
   pub all : hall.passes ≡ length p.members.items + 2
-  pub few : length p.members.items ≤ 64
+  pub few : length p.members.items ≤ MOST_WORKERS
 
 -- They made all of the generator's commands, and the workers ran to their ends.
 pub record HaveRun (hall : Place) (number records : ℕ) (p : Participants) : Type 0 where

@@ -1,5 +1,6 @@
 //! Who takes part in a drill.
 ghost use Rattle.std.specs.Prelude.{◌≡◌, ◌+◌, ◌≤◌, [], length, IfOk, vec_len};
+ghost use Rattle.kcl_drill.specs.declared.limits.TheConstants.{MOST_WORKERS};
 ghost use Rattle.kds_drill.specs.Participants.{AreDealt, AreMembersOf, IsMemberOf};
 
 use kcl_defs::Settings;
@@ -37,7 +38,7 @@ fn member(alloc: Global, name: u32, pass: Pass<World>) -> DrillMember
 
 /// The workers w1, w2, .., one for each of the passes.
 fn members_of(alloc: Global, passes: Vec<Pass<World>>) -> Result<Vec<DrillMember>, Memory>
-    requires { vec_len passes ≤ 64 }
+    requires { vec_len passes ≤ MOST_WORKERS }
     ensures { IfOk result (λ made. AreMembersOf 1 passes.items made.items) }
 {
     let mut made = Vec::with_capacity(alloc, passes.len())?;
@@ -52,7 +53,7 @@ fn members_of(alloc: Global, passes: Vec<Pass<World>>) -> Result<Vec<DrillMember
 /// The hall of a new machine, and who takes part there: the root has the first pass, the feeder the second, and each worker
 /// another one. Memory: want of memory.
 pub fn assemble(alloc: Global, workers: u32) -> Result<(Hall<World>, Participants), Memory>
-    requires { workers ≤ 64 }
+    requires { workers ≤ MOST_WORKERS }
     ensures { IfOk result (λ made. AreDealt made.0 made.1 × (length made.1.members.items ≡ workers)) }
 {
     let Ok((hall, mut passes)) = Hall::new(alloc, World::new(alloc), workers + 2) else {

@@ -1,6 +1,7 @@
 //! The run of a drill.
 ghost use Rattle.std.specs.Prelude.{◌≡◌, ◌≤◌, IfOk};
 ghost use Rattle.kds_ends.specs.Causes.{Rose};
+ghost use Rattle.kcl_drill.specs.declared.limits.TheConstants.{MOST_RECORDS, MOST_WORKERS};
 ghost use Rattle.kcl_drill.specs.Summed.{drill_text};
 ghost use Rattle.kds_drill.specs.Running.{HasDrilled};
 ghost use Rattle.kds_drill.specs.Told.{DrillTells};
@@ -26,7 +27,7 @@ fn drill<R: Threads + Wait + Sync>(
     workers: u32,
     records: u64,
 ) -> Result<World, Memory>
-    requires within { (1 ≤ workers) × (workers ≤ 64) × (records ≤ 1000000) }
+    requires within { (1 ≤ workers) × (workers ≤ MOST_WORKERS) × (records ≤ MOST_RECORDS) }
     ensures { IfOk result (HasDrilled number records) }
 {
     let (hall, mut participants) = assemble(alloc, workers)?;
@@ -48,7 +49,7 @@ fn find_text<R: Threads + Wait + Sync>(
     workers: u32,
     records: u64,
 ) -> Result<Octets, Memory>
-    requires within { (1 ≤ workers) × (workers ≤ 64) × (records ≤ 1000000) }
+    requires within { (1 ≤ workers) × (workers ≤ MOST_WORKERS) × (records ≤ MOST_RECORDS) }
     ensures { IfOk result (λ text. text ≡ drill_text number records) }
 {
     let mut world = drill(rt, alloc, number, workers, records)?;
@@ -66,7 +67,7 @@ pub fn run_drill<R: Threads + Wait + Sync, K: Sink>(
     records: u64,
     out: &mut K,
 ) -> Status
-    requires within { (1 ≤ workers) × (workers ≤ 64) × (records ≤ 1000000) }
+    requires within { (1 ≤ workers) × (workers ≤ MOST_WORKERS) × (records ≤ MOST_RECORDS) }
     ensures told { DrillTells result number records (K.held out.old) (K.held out.new) }
     ensures write { result ≡ Status.Write → Rose (K.faults out.old) (K.faults out.new) }
 {

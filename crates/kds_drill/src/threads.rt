@@ -1,6 +1,7 @@
 //! The threads of a drill.
 ghost use Rattle.std.specs.Prelude.{◌≡◌, ◌≤◌, IfErr, OnOk};
 ghost use Rattle.kds_turn.specs.declared.pass.TurnErr.TheVariants as failed;
+ghost use Rattle.kcl_drill.specs.declared.limits.TheConstants.{MOST_RECORDS};
 ghost use Rattle.kds_drill.specs.Ends.{AllEnded, SomeFailed};
 ghost use Rattle.kds_drill.specs.Participants.{AreDealt};
 ghost use Rattle.kds_drill.specs.Running.{AreFull, HaveFailed, HaveRun, HaveStopped};
@@ -39,7 +40,7 @@ pub fn run_threads<R: Threads + Wait + Sync>(
     records: u64,
 ) -> Result<(), TurnErr>
     requires dealt { AreDealt hall.now participants.old }
-    requires few { records ≤ 1000000 }
+    requires few { records ≤ MOST_RECORDS }
     ensures stopped { HaveStopped hall.now number records participants.new }
     ensures ran { OnOk result (HaveRun hall.now number records participants.new) }
     ensures err { IfErr result (HaveFailed participants.old participants.new) }
