@@ -173,12 +173,3 @@ pub ran_safely : (output : List Line → List ℕ) (status : Status) (all held n
     → IfSome all (λ bytes. RanBy output status bytes held now s) → IfSome all (λ bytes. RanSafely output status bytes held now)
 ran_safely output status None held now s lawful safe served so = tt
 ran_safely output status (Some bytes) held now s lawful safe served so = run_safely output status bytes held now s lawful safe served so
-
--- the same where the run isn't at hand
-pub some_ran_safely : (output : List Line → List ℕ) (status : Status) (all held now : Option (List ℕ))
-    → ((bytes : List ℕ) (lines later : List Line) → (judged bytes).lines ≡ lines ++ later → IsHistory (with_schedule fresh lines).history)
-    → ((h : List Turn) → IsHistory h → IsSafe (journal h) (clock h))
-    → ((bytes : List ℕ) (lines later : List Line) → (judged bytes).lines ≡ lines ++ later → AreAllServed (with_schedule fresh lines))
-    → IfSome all (λ bytes. (s : SimValue) × RanBy output status bytes held now s) → IfSome all (λ bytes. RanSafely output status bytes held now)
-some_ran_safely output status None held now lawful safe served so = tt
-some_ran_safely output status (Some bytes) held now lawful safe served so = run_safely output status bytes held now so.0 lawful safe served so.1

@@ -1,20 +1,21 @@
 -- What the writing of a journal tells, by its parts.
-use Rattle.std.proofs.Common.{◌≡◌, ◌≢◌, ℕ, true, false, List, [], ◌∷◌, ◌++◌, reverse, Option, Some, None, refl, sym, ap, ◌∙◌, subst}
-use Rattle.std.proofs.lemmas.List.{append_assoc, append-nil, reverse-reverse}
+use Rattle.std.proofs.Common.{◌≡◌, ◌≢◌, ◌<◌, ℕ, true, false, List, [], ◌∷◌, ◌++◌, length, reverse, Option, Some, None, refl, sym, ap, ◌∙◌, subst, arith}
+use Rattle.std.proofs.lemmas.List.{append_assoc, append-nil, length-append, reverse-reverse}
 use mathlib.Core.List.{reverse_aux}
 use Rattle.std.specs.Io.KnownBytes.{Appends}
 use Rattle.std.specs.Option.{IfSome}
 use Rattle.kds_defs.specs.declared.command.Turn.{Turn}
 use Rattle.kds_defs.specs.Histories.{clock}
 use Rattle.kds_defs.specs.Lawful.{IsHistory}
-use Rattle.kds_ends.proofs.Writing.{appends_more, appends_nothing, front_later}
-use Rattle.kds_ends.specs.Causes.{AppendsFront}
+use Rattle.kds_ends.proofs.Writing.{appends_more, appends_nothing, front_later, front_longer, front_part, part_front, part_later}
+use Rattle.kds_ends.specs.Causes.{AppendsFront, AppendsPart}
 use Rattle.kds_ends.specs.declared.status.Status.{Status}
 use Rattle.kds_ends.specs.declared.status.Status.TheVariants.{Done, BadLine, Read, Write, Memory, TooLong}
 use Rattle.kcl_audit.specs.Progress.{audit_of, over, sound}
 use Rattle.kcl_audit.specs.Text.{counted}
 use Rattle.kcl_recorder.specs.Recording.{lines_journal}
-use Rattle.kcl_scribe.specs.Added.{history_entries, journal_text}
+use Rattle.kcl_scribe.specs.Added.{entries_text, history_entries, journal_text}
+use Rattle.kcl_journal.specs.Entries.{end_spelling}
 use Rattle.kcl_sim.specs.Output.{fresh, with_schedule}
 use Rattle.kcl_sim.specs.Schedule.{history, judged}
 use Rattle.kcl_sim.specs.Standing.{RunsSo, SimValue}
@@ -26,13 +27,29 @@ use Rattle.kds_runs.specs.Told.{TellsBy}
 pub nothing_written : (held : Option (List ℕ)) (xs : List ℕ) → AppendsFront held held xs
 nothing_written held xs = ([], xs, refl, appends_nothing held)
 
-front_more : (held now : Option (List ℕ)) (xs ys : List ℕ) → AppendsFront held now xs → AppendsFront held now (xs ++ ys)
-front_more held now xs ys f = (f.0, f.1 ++ ys, ap (λ z. z ++ ys) f.2 ∙ append_assoc f.0 f.1 ys, f.3)
+-- ---- a front that isn't all
+
+longer : (xs ys : List ℕ) → 0 < length ys → 0 < length (xs ++ ys)
+longer xs ys some = let both = length-append xs ys in omega arith
+
+some_last : (c : ℕ) → 0 < length (last_line c)
+some_last c = longer (end_spelling c) (10 ∷ []) (omega arith)
+
+some_behind : (xs : List ℕ) (c : ℕ) → 0 < length (xs ++ last_line c)
+some_behind xs c = longer xs (last_line c) (some_last c)
+
+-- nothing of the last line
+no_last : (c : ℕ) (held now : Option (List ℕ)) → Appends held now [] → AppendsPart held now (last_line c)
+no_last c held now e = ([], last_line c, some_last c, refl, e)
+
+pub nothing_recorded : (h : List Turn) (held : Option (List ℕ)) → AppendsPart held held (journal_text h)
+nothing_recorded h held = ([], journal_text h, some_behind (first_line ++ entries_text (history_entries h)) (clock h), refl, appends_nothing held)
 
 -- ---- the first line
 
 broke_first : (bytes : List ℕ) (left held now : Option (List ℕ)) → AppendsFront held now first_line → JournalTells Write bytes left held now
-broke_first bytes left held now f = front_more held now first_line (entries bytes ++ last_line (clock (history bytes))) f
+broke_first bytes left held now f =
+    front_part held now first_line (entries bytes ++ last_line (clock (history bytes))) f (some_behind (entries bytes) (clock (history bytes)))
 
 pub first_broke : (all left held now : Option (List ℕ)) (line : List ℕ) → line ≡ first_line → AppendsFront held now line
     → IfSome all (λ bytes. JournalTells Write bytes left held now)
@@ -44,16 +61,16 @@ first_there held now line is h = subst (λ (l : List ℕ). Appends held now l) i
 
 -- ---- and then the entries
 
-front_of_all : (bytes : List ℕ) (held now : Option (List ℕ)) → AppendsFront held now (first_line ++ entries bytes) → AppendsFront held now (journal_text (history bytes))
-front_of_all bytes held now f = front_more held now (first_line ++ entries bytes) (last_line (clock (history bytes))) f
+part_of_all : (bytes : List ℕ) (held now : Option (List ℕ)) → AppendsFront held now (first_line ++ entries bytes) → AppendsPart held now (journal_text (history bytes))
+part_of_all bytes held now f = front_part held now (first_line ++ entries bytes) (last_line (clock (history bytes))) f (some_last (clock (history bytes)))
 
 begins : (st : Status) (bytes : List ℕ) (left a b c : Option (List ℕ)) → (st ≡ Done → ⊥) → Appends a b first_line → TellsBy entries st bytes left b c → JournalTells st bytes left a c
 begins Done bytes left a b c not_done h t = absurd (not_done refl)
 begins (BadLine n) bytes left a b c not_done h t = (t.0, appends_more a b c first_line (entries bytes) h t.1)
 begins TooLong bytes left a b c not_done h t = (t.0, appends_more a b c first_line (entries bytes) h t.1)
 begins Read bytes left a b c not_done h t = (t.0, t.1, t.2, t.3, appends_more a b c first_line (entries t.0) h t.4)
-begins Write bytes left a b c not_done h t = front_of_all bytes a c (front_later a b c first_line (entries bytes) h t)
-begins Memory bytes left a b c not_done h t = front_of_all bytes a c (front_later a b c first_line (entries bytes) h t)
+begins Write bytes left a b c not_done h t = part_of_all bytes a c (front_later a b c first_line (entries bytes) h t)
+begins Memory bytes left a b c not_done h t = part_of_all bytes a c (front_later a b c first_line (entries bytes) h t)
 begins _ bytes left a b c not_done h t = absurd t
 
 pub begins_all : (st : Status) (all left a b c : Option (List ℕ)) (line : List ℕ) → line ≡ first_line → (st ≡ Done → ⊥) → Appends a b line
@@ -73,9 +90,10 @@ ends_at : (st : Status) (bytes : List ℕ) (left a b c d : Option (List ℕ)) �
 ends_at Done bytes left a b c d h t e =
     (t.0, appends_more a c d (first_line ++ entries bytes) (last_line (clock (history bytes))) (appends_more a b c first_line (entries bytes) h t.1) e)
 ends_at Write bytes left a b c d h t e =
-    front_later a c d (first_line ++ entries bytes) (last_line (clock (history bytes))) (appends_more a b c first_line (entries bytes) h t.1) e
+    part_later a c d (first_line ++ entries bytes) (last_line (clock (history bytes))) (appends_more a b c first_line (entries bytes) h t.1) e
 ends_at Memory bytes left a b c d h t e =
-    front_later a c d (first_line ++ entries bytes) (last_line (clock (history bytes))) (appends_more a b c first_line (entries bytes) h t.1) e
+    part_later a c d (first_line ++ entries bytes) (last_line (clock (history bytes))) (appends_more a b c first_line (entries bytes) h t.1)
+    (no_last (clock (history bytes)) c d e)
 ends_at _ bytes left a b c d h t e = absurd e
 
 pub ends_all : (st : Status) (all left a b c d : Option (List ℕ)) (line : List ℕ) (s : SimValue) (last : ℕ) → line ≡ first_line → last ≡ clock s.history → Appends a b line
@@ -211,10 +229,12 @@ ran_ended Done bytes a b c d s h r e =
     ran_front Done bytes a b c d s r (recorded Done r.lines) [] (sym (append-nil _)) (r.remains.0, refl)
     (appends_more a c d (first_line ++ lines_journal r.lines) line (ran_whole bytes a b c s h r) e)
 ran_ended Write bytes a b c d s h r e =
-    let f = front_later a c d (first_line ++ lines_journal r.lines) (last_line (clock (with_schedule fresh r.lines).history)) (ran_whole bytes a b c s h r) e in
+    let last = last_line (clock (with_schedule fresh r.lines).history) in
+    let f = front_later a c d (first_line ++ lines_journal r.lines) last (ran_whole bytes a b c s h r) (part_front c d last e) in
     ran_front Write bytes a b c d s r f.0 f.1 f.2 tt f.3
 ran_ended Memory bytes a b c d s h r e =
-    let f = front_later a c d (first_line ++ lines_journal r.lines) (last_line (clock (with_schedule fresh r.lines).history)) (ran_whole bytes a b c s h r) e in
+    let last = last_line (clock (with_schedule fresh r.lines).history) in
+    let f = front_later a c d (first_line ++ lines_journal r.lines) last (ran_whole bytes a b c s h r) ([], last, refl, e) in
     ran_front Memory bytes a b c d s r f.0 f.1 f.2 tt f.3
 ran_ended _ bytes a b c d s h r e = absurd e
 
@@ -232,15 +252,10 @@ ran_ends_with entered st all a b c d s last done at h r e =
 -- no line was run
 none_ran : (bytes : List ℕ) (a b : Option (List ℕ)) (s : SimValue) → RunsSo s fresh → AppendsFront a b first_line → RanBy (recorded Write) Write bytes a b s
 none_ran bytes a b s made f =
-    let m = front_more a b first_line (lines_journal [] ++ last_line (clock [])) f in
+    let m = front_longer a b first_line (lines_journal [] ++ last_line (clock [])) f in
     record { lines = []; later = (judged bytes).lines; parts = refl; made = made; front = m.0; back = m.1; output_is = m.2; written = m.3; remains = tt }
 
 pub none_ran_all : (all a b : Option (List ℕ)) (s : SimValue) (line : List ℕ) → line ≡ first_line → RunsSo s fresh → AppendsFront a b line
-    → IfSome all (λ bytes. (s : SimValue) × RanBy (recorded Write) Write bytes a b s)
+    → IfSome all (λ bytes. RanBy (recorded Write) Write bytes a b s)
 none_ran_all None a b s line is made f = tt
-none_ran_all (Some bytes) a b s line is made f = (s, none_ran bytes a b s made (subst (λ (l : List ℕ). AppendsFront a b l) is f))
-
-pub some_ran : (st : Status) (all a b : Option (List ℕ)) (s : SimValue) → IfSome all (λ bytes. RanBy (recorded st) st bytes a b s)
-    → IfSome all (λ bytes. (s : SimValue) × RanBy (recorded st) st bytes a b s)
-some_ran st None a b s r = tt
-some_ran st (Some bytes) a b s r = (s, r)
+none_ran_all (Some bytes) a b s line is made f = none_ran bytes a b s made (subst (λ (l : List ℕ). AppendsFront a b l) is f)

@@ -1,5 +1,5 @@
 -- Want of memory before anything is read is an end of each task.
-use Rattle.std.proofs.Common.{◌≡◌, ℕ, Bool, true, false, List, [], ◌++◌, Option, Some, None, refl, inl}
+use Rattle.std.proofs.Common.{◌≡◌, ℕ, Bool, true, false, List, [], ◌++◌, Option, Some, None, refl, inl, inr}
 use Rattle.std.specs.Option.{IfSome}
 use Rattle.kds_defs.specs.declared.command.Turn.{Turn}
 use Rattle.kds_defs.specs.Histories.{journal, clock}
@@ -15,13 +15,13 @@ use Rattle.kds_server.specs.Texts.{Tells}
 use Rattle.kds_session.specs.Text.{commands}
 use Rattle.kcl_script.specs.declared.line.Line.{Line}
 use Rattle.kcl_sim.specs.Output.{fresh, with_schedule}
-use Rattle.kcl_sim.specs.Schedule.{judged}
+use Rattle.kcl_sim.specs.Schedule.{history, judged}
 use Rattle.kcl_sim.specs.Serving.{AreAllServed}
 use Rattle.kcl_sim.specs.Standing.{SimValue}
 use Rattle.kds_runs.specs.Answered.{RanBy}
 use Rattle.kds_runs.specs.Ends.{Answers, Audited, Performed, Replayed, ReplayTells, shown}
 use Rattle.kds_runs.proofs.Answering.{run_safely}
-use Rattle.kds_runs.proofs.Journaling.{nothing_written}
+use Rattle.kds_runs.proofs.Journaling.{nothing_recorded, nothing_written}
 
 -- no turn ran
 still : SimValue
@@ -69,7 +69,7 @@ unserved all left moments held = record {
 
 told_none : (journal : Bool) (bytes : List ℕ) (left held : Option (List ℕ)) → ReplayTells journal Memory bytes left held held
 told_none false bytes left held = nothing_written held _
-told_none true bytes left held = nothing_written held _
+told_none true bytes left held = nothing_recorded (history bytes) held
 
 audit_none : (all held : Option (List ℕ)) → IfSome all (λ bytes. TellsAudit Memory bytes held held)
 audit_none None held = tt
@@ -96,9 +96,9 @@ module _ (lawful : (bytes : List ℕ) (lines later : List Line) → (judged byte
     sound = λ j e. absurd (not_done e);
   }
 
-  pub wanting : (task : Task) (bytes left moments held : Option (List ℕ)) → Performed task Memory bytes left moments held held
-  wanting (Replay journal) bytes left moments held = unreplayed journal bytes left held
-  wanting Answer bytes left moments held = unserved bytes left moments held
-  wanting Audit bytes left moments held = unaudited bytes held
-  wanting (Serve port passes) bytes left moments held = nothing_written held _
-  wanting (Drill number workers records) bytes left moments held = appends_nothing held
+  pub wanting : (task : Task) (bytes left moments held : Option (List ℕ)) → (listens : ℕ → Type 0) → Performed task Memory bytes left moments held held listens
+  wanting (Replay journal) bytes left moments held listens = unreplayed journal bytes left held
+  wanting Answer bytes left moments held listens = unserved bytes left moments held
+  wanting Audit bytes left moments held listens = unaudited bytes held
+  wanting (Serve port passes) bytes left moments held listens = inr (appends_nothing held)
+  wanting (Drill number workers records) bytes left moments held listens = appends_nothing held

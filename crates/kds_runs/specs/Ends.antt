@@ -5,7 +5,7 @@ use Rattle.std.specs.Io.KnownBytes.{Appends}
 use Rattle.kds_audit.specs.Audited.{IsAuditStatus, IsNoJournal, IsSafely, TellsAudit}
 use Rattle.kds_ends.specs.declared.status.Status.{Status}
 use Rattle.kds_ends.specs.declared.status.Status.TheVariants.{Done, Unsound, Write, Memory, Door}
-use Rattle.kds_ends.specs.Causes.{AppendsFront}
+use Rattle.kds_ends.specs.Causes.{AppendsPart}
 use Rattle.kds_server.specs.Texts.{IsAnswerStatus}
 use Rattle.kds_server.specs.Serving.{Served}
 use Rattle.kds_tasks.specs.declared.task.Task.{Task}
@@ -56,19 +56,35 @@ pub record Answers (all left moments start held : Option (List ℕ)) (status : S
   pub spent : Option (List ℕ)
   pub served : Served [] all left moments spent start held status
 
--- What serving a door writes: that it listens, or nothing where it doesn't, or a front of it.
-abbrev pub ServeTells : Status → Option (List ℕ) → Option (List ℕ) → Type 0
-ServeTells Door held now = Appends held now listening ⊎ Appends held now []
-ServeTells Write held now = AppendsFront held now listening
-ServeTells Memory held now = AppendsFront held now listening
-ServeTells _ held now = ⊥
+-- it was written that the door listens, and it does; or nothing was
+abbrev pub SaysThatItListens : Option (List ℕ) → Option (List ℕ) → Type 0 → Type 0
+SaysThatItListens held now listens = (Appends held now listening × listens) ⊎ Appends held now []
+
+-- What serving a door writes, where `listens` says that it listens at the port: that it does, or nothing, or a part of it where
+-- the sink failed.
+abbrev pub ServeTells : Status → Option (List ℕ) → Option (List ℕ) → Type 0 → Type 0
+ServeTells Door held now listens = SaysThatItListens held now listens
+ServeTells Memory held now listens = SaysThatItListens held now listens
+ServeTells Write held now listens = AppendsPart held now listening × listens
+ServeTells _ held now listens = ⊥
 
 -- ---- all of them
 
--- the run of a task ended so
-abbrev pub Performed : Task → Status → Option (List ℕ) → Option (List ℕ) → Option (List ℕ) → Option (List ℕ) → Option (List ℕ) → Type 0
-Performed (Replay journal) status bytes left moments held now = Replayed journal status bytes left held now
-Performed Answer status bytes left moments held now = Answers bytes left moments held now status
-Performed Audit status bytes left moments held now = Audited status bytes held now
-Performed (Serve port passes) status bytes left moments held now = ServeTells status held now
-Performed (Drill number workers records) status bytes left moments held now = DrillTells status number records held now
+-- the run of a task ended so, where `listens` says that the door listens at a port
+abbrev pub Performed : Task → Status → Option (List ℕ) → Option (List ℕ) → Option (List ℕ) → Option (List ℕ) → Option (List ℕ) → (ℕ → Type 0) → Type 0
+Performed (Replay journal) status bytes left moments held now listens = Replayed journal status bytes left held now
+Performed Answer status bytes left moments held now listens = Answers bytes left moments held now status
+Performed Audit status bytes left moments held now listens = Audited status bytes held now
+Performed (Serve port passes) status bytes left moments held now listens = ServeTells status held now (listens port)
+Performed (Drill number workers records) status bytes left moments held now listens = DrillTells status number records held now
+
+-- the task serves a door
+abbrev pub serves_door : Task → Bool
+serves_door (Serve port passes) = true
+serves_door _ = false
+
+-- the task reads the input
+abbrev pub reads_input : Task → Bool
+reads_input (Serve port passes) = false
+reads_input (Drill number workers records) = false
+reads_input _ = true

@@ -6,7 +6,7 @@ ghost use Rattle.kds_ends.specs.Causes.{Rose};
 ghost use Rattle.kcl_recorder.specs.Recording.{lines_journal};
 ghost use Rattle.kcl_sim.specs.Output.{fresh};
 ghost use Rattle.kcl_sim.specs.Schedule.{history};
-ghost use Rattle.kcl_sim.specs.Standing.{RunsSo, SimValue};
+ghost use Rattle.kcl_sim.specs.Standing.{RunsSo};
 ghost use Rattle.kcl_sound.specs.Bits.{HaveBits};
 ghost use Rattle.kds_runs.specs.Answered.{RanBy};
 ghost use Rattle.kds_runs.specs.Journal.{EndTells, IsAuditedSound, JournalTells, entries, first_line, is_done, last_line, recorded};
@@ -101,32 +101,46 @@ fn write_rest<M: Machine, S: Source, K: Sink>(
     status
 }
 
+/// How the recording of a schedule ended, and the turns that it made.
+#[derive(Drop)]
+pub struct Recorded<M: Machine> {
+    pub status: Status,
+    pub recorder: Recorder<M>,
+}
+
 /// Runs a schedule on a machine, and writes its journal. Condition: the machine stands for the empty history.
 pub fn record_schedule<M: Machine + Drop, S: Source, K: Sink>(
     alloc: Global,
     machine: M,
     input: &mut S,
     out: &mut K,
-) -> Status
+) -> Recorded<M>
     requires { M.stands_for machine [] }
     ensures told { IfSome (S.left input.old) (λ bytes.
-        JournalTells result bytes (S.left input.new) (K.held out.old) (K.held out.new)) }
+        JournalTells result.status bytes (S.left input.new) (K.held out.old) (K.held out.new)) }
 
-    // The turns that ran are those of the schedule's lines that were answered: all of them, unless an end failed or memory
+    // The recorder's turns are those of the schedule's lines that were answered: all of them, unless an end failed or memory
     // ran out.
-    ensures ran { IfSome (S.left input.old) (λ bytes. (s : SimValue) × RanBy (recorded result) result bytes (K.held out.old) (K.held out.new) s) }
+    ensures ran { IfSome (S.left input.old) (λ bytes.
+        RanBy (recorded result.status) result.status bytes (K.held out.old) (K.held out.new) result.recorder) }
 
     // What was written to its end is a legal journal.
-    ensures sound { result ≡ Status.Done → IfSome (S.left input.old) IsAuditedSound }
-    ensures read { result ≡ Status.Read → Rose (S.faults input.old) (S.faults input.new) }
-    ensures write { result ≡ Status.Write → Rose (K.faults out.old) (K.faults out.new) }
-    ensures kinds { IsReplayStatus result }
+    ensures sound { result.status ≡ Status.Done → IfSome (S.left input.old) IsAuditedSound }
+    ensures read { result.status ≡ Status.Read → Rose (S.faults input.old) (S.faults input.new) }
+    ensures write { result.status ≡ Status.Write → Rose (K.faults out.old) (K.faults out.new) }
+    ensures kinds { IsReplayStatus result.status }
 {
     lawful();
     sound_histories();
     let mut recorder = Recorder::new(alloc, machine);
     match write_all(out, b"journal 2\n".as_slice()) {
-        Ok(()) => write_rest(alloc, &mut recorder, input, out),
-        Err(_) => Status::Write,
+        Ok(()) => Recorded {
+            status: write_rest(alloc, &mut recorder, input, out),
+            recorder,
+        },
+        Err(_) => Recorded {
+            status: Status::Write,
+            recorder,
+        },
     }
 }

@@ -31,9 +31,9 @@ pub fn schedules()
     served();
 }
 
-/// Want of memory before anything is read is an end of each task.
+/// Want of memory before anything is read is an end of each task, whose door doesn't listen.
 pub fn no_room()
-    ensures { (task : Task) (bytes left moments held : Option (List ℕ)) → Performed task Status.Memory bytes left moments held held }
+    ensures { (task : Task) (bytes left moments held : Option (List ℕ)) → Performed task Status.Memory bytes left moments held held (λ port. ⊥) }
 {
     lawful();
     safety();

@@ -1,13 +1,14 @@
 //! The runs of a schedule, of a connection and of a door.
-ghost use Rattle.std.specs.Prelude.{◌≡◌, ◌≤◌, [], true, IfSome};
+ghost use Rattle.std.specs.Prelude.{◌≡◌, ◌≤◌, [], ℕ, true, IfSome};
 ghost use Rattle.kds_defs.specs.Histories.{clock as clock_of, journal as journal_of};
 ghost use Rattle.kds_defs.specs.Safe.{IsSafe};
 ghost use Rattle.kds_ends.specs.Causes.{Rose};
 ghost use Rattle.kcl_sim.specs.Schedule.{history, ran};
 ghost use Rattle.kcl_sim.specs.Serving.{AreAllServed};
-ghost use Rattle.kds_server.specs.Texts.{IsAnswerStatus, IsCrewStatus};
+ghost use Rattle.kds_server.specs.Texts.{EndsAs, IsAnswerStatus, IsCrewStatus};
 ghost use Rattle.kds_server.specs.Serving.{Served};
 ghost use Rattle.kds_runs.specs.Answered.{RanSafely};
+ghost use Rattle.kds_runs.specs.Completed.{ReplaysAs};
 ghost use Rattle.kds_runs.specs.Ends.{ReplayTells, ServeTells, shown};
 ghost use Rattle.kds_runs.specs.Journal.{IsAuditedSound};
 ghost use Rattle.kds_runs.specs.Told.{IsReplayStatus};
@@ -50,6 +51,11 @@ pub fn run_replay<S: Source, K: Sink>(
 
     // A journal that is written to its end is found sound by an audit.
     ensures sound { journal ≡ true → result ≡ Status.Done → IfSome (S.left input.old) IsAuditedSound }
+
+    // Over ends whose faults don't rise the bytes decide the end, unless memory runs out: with Done, and so with the whole
+    // output, where all lines are lines of a schedule.
+    ensures complete { (Rose (S.faults input.old) (S.faults input.new) → ⊥) → (Rose (K.faults out.old) (K.faults out.new) → ⊥)
+        → IfSome (S.left input.old) (λ bytes. ReplaysAs bytes result) }
     ensures read { result ≡ Status.Read → Rose (S.faults input.old) (S.faults input.new) }
     ensures write { result ≡ Status.Write → Rose (K.faults out.old) (K.faults out.new) }
     ensures kinds { IsReplayStatus result }
@@ -58,7 +64,7 @@ pub fn run_replay<S: Source, K: Sink>(
     safety();
     served();
     if journal {
-        return record_schedule(alloc, World::new(alloc), input, out);
+        return record_schedule(alloc, World::new(alloc), input, out).status;
     }
     run_schedule(alloc, World::new(alloc), input, out).status
 }
@@ -76,6 +82,10 @@ pub fn run_answer<S: Source, K: Sink, C: Clock>(
     // The turns are those of the commands, each at its moment from the clock. Over a source that tells its bytes, the
     // commands, the responses and the end are those of these bytes.
     ensures served { Served [] (S.left input.old) (S.left input.new) (C.moments clock.old) (C.moments clock.new) (K.held out.old) (K.held out.new) result }
+
+    // Over ends whose faults don't rise the connection ends as its bytes do, unless memory runs out.
+    ensures complete { (Rose (S.faults input.old) (S.faults input.new) → ⊥) → (Rose (K.faults out.old) (K.faults out.new) → ⊥)
+        → IfSome (S.left input.old) (λ bytes. EndsAs bytes result) }
     ensures read { result ≡ Status.Read → Rose (S.faults input.old) (S.faults input.new) }
     ensures write { result ≡ Status.Write → Rose (K.faults out.old) (K.faults out.new) }
     ensures kinds { IsAnswerStatus result }
@@ -93,6 +103,7 @@ where
     D::Input: Send,
     D::Output: Send,
     requires { 1 ≤ passes }
+    ensures listens { (port : ℕ) → D.listens door.old port → D.listens door.new port }
     ensures door { result ≡ Status.Door → Rose (D.faults door.old) (D.faults door.new) }
     ensures kinds { IsCrewStatus result }
 {
@@ -122,7 +133,8 @@ where
     D::Input: Send,
     D::Output: Send,
     requires { 1 ≤ passes }
-    ensures told { ServeTells result (K.held out.old) (K.held out.new) }
+    // It listens at this port before it says so.
+    ensures told { ServeTells result (K.held out.old) (K.held out.new) (D.listens door.new port) }
     ensures write { result ≡ Status.Write → Rose (K.faults out.old) (K.faults out.new) }
     ensures door { result ≡ Status.Door → Rose (D.faults door.old) (D.faults door.new) }
 {

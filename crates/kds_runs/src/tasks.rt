@@ -1,8 +1,9 @@
 //! What each task runs.
-ghost use Rattle.std.specs.Prelude.{◌≡◌};
+ghost use Rattle.std.specs.Prelude.{◌≡◌, false};
 ghost use Rattle.kds_ends.specs.Causes.{Rose};
 ghost use Rattle.kds_tasks.specs.Words.{IsWithin};
-ghost use Rattle.kds_runs.specs.Ends.{Performed};
+ghost use Rattle.kds_runs.specs.Completed.{Completed};
+ghost use Rattle.kds_runs.specs.Ends.{Performed, reads_input, serves_door};
 
 use crate::runs::{run_answer, run_replay, run_serve};
 use kds_audit::run_audit;
@@ -33,7 +34,12 @@ where
     D::Input: Send,
     D::Output: Send,
     requires { IsWithin task }
-    ensures performed { Performed task result (S.left input.old) (S.left input.new) (C.moments clock) (K.held out.old) (K.held out.new) }
+    ensures performed { Performed task result (S.left input.old) (S.left input.new) (C.moments clock) (K.held out.old) (K.held out.new) (D.listens door.new) }
+    // A task leaves the ends that it hasn't.
+    ensures door_left { serves_door task ≡ false → door.new ≡ door.old }
+    ensures input_left { reads_input task ≡ false → input.new ≡ input.old }
+    ensures complete { (Rose (S.faults input.old) (S.faults input.new) → ⊥) → (Rose (K.faults out.old) (K.faults out.new) → ⊥)
+        → (Rose (D.faults door.old) (D.faults door.new) → ⊥) → Completed task result (S.left input.old) }
     ensures usage { result ≡ Status.Usage → ⊥ }
     ensures read { result ≡ Status.Read → Rose (S.faults input.old) (S.faults input.new) }
     ensures write { result ≡ Status.Write → Rose (K.faults out.old) (K.faults out.new) }

@@ -1,7 +1,8 @@
-use Rattle.std.proofs.Common.{sym, ◌∙◌}
+use Rattle.std.proofs.Common.{true, false, sym, ◌∙◌}
 use Rattle.kcl_sim.specs.Output.{fresh, outputs}
 use Rattle.kds_runs.specs.Journal.{recorded}
-use Rattle.kds_runs.proofs.Answering.{ran_safely, some_ran_safely}
+use Rattle.kds_runs.proofs.Answering.{ran_safely}
+use Rattle.kds_runs.proofs.Completing.{replays}
 use Rattle.kds_runs.proofs.Journaling.{false_true}
 use Rattle.kds_runs.proofs.runs.run_replay.Goals as goal
 
@@ -11,7 +12,7 @@ returns-then-journal-clause-told g c = rw c.if-journal.true c.record_schedule.en
 pub returns-then-journal-clause-ran : goal.returns-then-journal-clause-ran
 returns-then-journal-clause-ran g c =
     rw c.if-journal.true
-    (some_ran_safely (recorded c.record_schedule.result) c.record_schedule.result (g.S.Source.left c.args.input.now) _ _
+    (ran_safely (recorded c.record_schedule.result.status) c.record_schedule.result.status (g.S.Source.left c.args.input.now) _ _ c.record_schedule.result.recorder
     c.lawful.ensures.first c.safety.ensures c.served.ensures.first c.record_schedule.ensures.ran)
 
 pub returns-clause-told : goal.returns-clause-told
@@ -28,3 +29,13 @@ returns-then-journal-clause-sound g c = λ asked done. c.record_schedule.ensures
 
 pub returns-clause-sound : goal.returns-clause-sound
 returns-clause-sound g c = λ asked done. absurd (false_true (sym c.if-journal.false ∙ asked))
+
+pub returns-then-journal-clause-complete : goal.returns-then-journal-clause-complete
+returns-then-journal-clause-complete g c = λ read write.
+    replays true c.record_schedule.result.status (g.S.Source.left c.args.input.now) _ _ _ (λ is. read (c.record_schedule.ensures.read is)) (λ is. write (c.record_schedule.ensures.write is))
+    c.record_schedule.ensures.told
+
+pub returns-clause-complete : goal.returns-clause-complete
+returns-clause-complete g c = λ read write.
+    replays false c.run_schedule.result.status (g.S.Source.left c.args.input.now) _ _ _ (λ is. read (c.run_schedule.ensures.read is)) (λ is. write (c.run_schedule.ensures.write is))
+    c.run_schedule.ensures.told
