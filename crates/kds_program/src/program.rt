@@ -1,5 +1,5 @@
 //! The whole program.
-ghost use Rattle.std.specs.Prelude.{◌≡◌, ◌⊎◌, Bool, true, None, Some, IfSome};
+ghost use Rattle.std.specs.Prelude.{◌≡◌, ◌⊎◌, Bool, true, false, None, Some, IfSome};
 ghost use Rattle.kds_defs.specs.Histories.{clock as clock_of, journal as journal_of};
 ghost use Rattle.kds_defs.specs.Safe.{IsSafe};
 ghost use Rattle.kds_ends.specs.Causes.{Rose};
@@ -7,9 +7,10 @@ ghost use Rattle.kds_tasks.specs.Words.{task_of, texts_of};
 ghost use Rattle.kds_tasks.specs.declared.task.Task.TheVariants.{Replay};
 ghost use Rattle.kcl_sim.specs.Schedule.{history, ran};
 ghost use Rattle.kcl_sim.specs.Serving.{AreAllServed};
+ghost use Rattle.kds_runs.specs.Completed.{Completed};
 ghost use Rattle.kds_runs.specs.Ends.{Performed};
 ghost use Rattle.kds_runs.specs.Journal.{IsAuditedSound};
-ghost use Rattle.kds_program.specs.Ends.{EndsSo};
+ghost use Rattle.kds_program.specs.Ends.{CompletesSo, EndsSo, asks_for_door, asks_for_input};
 
 use kds_ends::{Clock, Door, Sink, Source, Status};
 use kds_runs::{no_room, perform, schedules, tell};
@@ -40,7 +41,12 @@ where
     ensures refused { task_of (texts_of words.now.items) ≡ None → (result ≡ Status.Usage) ⊎ (result ≡ Status.Memory) }
     ensures untouched { task_of (texts_of words.now.items) ≡ None → (input.new ≡ input.old) × (out.new ≡ out.old) }
     ensures performed { IfSome (task_of (texts_of words.now.items)) (λ task.
-        Performed task result (S.left input.old) (S.left input.new) (C.moments clock) (K.held out.old) (K.held out.new)) }
+        Performed task result (S.left input.old) (S.left input.new) (C.moments clock) (K.held out.old) (K.held out.new) (D.listens door.new)) }
+    ensures door_left { asks_for_door (task_of (texts_of words.now.items)) ≡ false → door.new ≡ door.old }
+    ensures input_left { asks_for_input (task_of (texts_of words.now.items)) ≡ false → input.new ≡ input.old }
+    ensures complete { (Rose (S.faults input.old) (S.faults input.new) → ⊥) → (Rose (K.faults out.old) (K.faults out.new) → ⊥)
+        → (Rose (D.faults door.old) (D.faults door.new) → ⊥)
+        → IfSome (task_of (texts_of words.now.items)) (λ task. Completed task result (S.left input.old)) }
     ensures read { result ≡ Status.Read → Rose (S.faults input.old) (S.faults input.new) }
     ensures write { result ≡ Status.Write → Rose (K.faults out.old) (K.faults out.new) }
     ensures door { result ≡ Status.Door → Rose (D.faults door.old) (D.faults door.new) }
@@ -79,9 +85,15 @@ where
     ensures refused { task_of (texts_of words.now.items) ≡ None → (result ≡ 2) ⊎ (result ≡ 6) }
     // Then the input and the output are as they were.
     ensures untouched { task_of (texts_of words.now.items) ≡ None → (input.new ≡ input.old) × (out.new ≡ out.old) }
+    // The door and the input are left alone unless the words ask for them.
+    ensures door_left { asks_for_door (task_of (texts_of words.now.items)) ≡ false → door.new ≡ door.old }
+    ensures input_left { asks_for_input (task_of (texts_of words.now.items)) ≡ false → input.new ≡ input.old }
     // Each task ends as told, and the error output is told this very end.
     ensures ended { EndsSo result words.now.items (S.left input.old) (S.left input.new) (C.moments clock)
-        (K.held out.old) (K.held out.new) (E.held err.old) (E.held err.new) (E.faults err.old) (E.faults err.new) }
+        (K.held out.old) (K.held out.new) (E.held err.old) (E.held err.new) (E.faults err.old) (E.faults err.new) (D.listens door.new) }
+    // Over ends whose faults don't rise each task ends as the bytes of its input decide, or by want of memory.
+    ensures complete { (Rose (S.faults input.old) (S.faults input.new) → ⊥) → (Rose (K.faults out.old) (K.faults out.new) → ⊥)
+        → (Rose (D.faults door.old) (D.faults door.new) → ⊥) → CompletesSo result words.now.items (S.left input.old) }
     // Of a schedule that is replayed, with its answers or its journal: the state of its turns is safe, at their clock, and
     // its workers' processors are called for the given reads of their tenures. A journal that is whole is found sound.
     ensures safe { (journal : Bool) → task_of (texts_of words.now.items) ≡ Some (Replay journal)

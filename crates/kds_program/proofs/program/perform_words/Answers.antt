@@ -1,8 +1,9 @@
 use Rattle.std.proofs.Common.{◌≡◌, Some, refl, sym, inl, inr, ◌∙◌}
 use Rattle.kds_ends.specs.declared.status.Status.TheVariants.{Memory}
 use Rattle.kds_tasks.specs.Words.{task_of, texts_of}
+use Rattle.kds_runs.specs.Completed.{Completed}
 use Rattle.kds_runs.specs.Ends.{Performed}
-use Rattle.kds_program.proofs.Asked.{not_none, performed_by}
+use Rattle.kds_program.proofs.Asked.{completed_by, listens_or_not, no_door, no_input, none_completed, not_none, performed_by}
 use Rattle.kds_program.proofs.Codes.{each, no_usage}
 use Rattle.kds_program.proofs.program.perform_words.Goals as goal
 
@@ -24,8 +25,20 @@ returns-in-Ok-Some-clause-untouched g c =
 
 pub returns-in-Ok-Some-clause-performed : goal.returns-in-Ok-Some-clause-performed
 returns-in-Ok-Some-clause-performed g c =
-    performed_by (task_of (texts_of c.args.words.now.items)) c.in-Ok-Some.task c.perform.result (g.S.Source.left c.args.input.now) _ _ _ _
+    performed_by (task_of (texts_of c.args.words.now.items)) c.in-Ok-Some.task c.perform.result (g.S.Source.left c.args.input.now) _ _ _ _ _
     (sym c.in-Ok-Some.field-0-is ∙ c.in-Ok-Some.ensures.task) c.perform.ensures.performed
+
+pub returns-in-Ok-Some-clause-complete : goal.returns-in-Ok-Some-clause-complete
+returns-in-Ok-Some-clause-complete g c = λ read write door.
+    completed_by (task_of (texts_of c.args.words.now.items)) c.in-Ok-Some.task c.perform.result _ (sym c.in-Ok-Some.field-0-is ∙ c.in-Ok-Some.ensures.task) (c.perform.ensures.complete read write door)
+
+pub returns-in-Ok-Some-clause-door_left : goal.returns-in-Ok-Some-clause-door_left
+returns-in-Ok-Some-clause-door_left g c = λ none.
+    c.perform.ensures.door_left (no_door _ c.in-Ok-Some.task (sym c.in-Ok-Some.field-0-is ∙ c.in-Ok-Some.ensures.task) none)
+
+pub returns-in-Ok-Some-clause-input_left : goal.returns-in-Ok-Some-clause-input_left
+returns-in-Ok-Some-clause-input_left g c = λ none.
+    c.perform.ensures.input_left (no_input _ c.in-Ok-Some.task (sym c.in-Ok-Some.field-0-is ∙ c.in-Ok-Some.ensures.task) none)
 
 pub returns-in-Ok-Some-clause-read : goal.returns-in-Ok-Some-clause-read
 returns-in-Ok-Some-clause-read g c = c.perform.ensures.read
@@ -60,4 +73,7 @@ pub returns-in-Err-clause-untouched : goal.returns-in-Err-clause-untouched
 returns-in-Err-clause-untouched g c = λ none. (refl, refl)
 
 pub returns-in-Err-clause-performed : goal.returns-in-Err-clause-performed
-returns-in-Err-clause-performed g c = each (λ task. Performed task Memory _ _ _ _ _) (λ task. c.no_room.ensures task _ _ _ _) (task_of (texts_of c.args.words.now.items))
+returns-in-Err-clause-performed g c = each (λ task. Performed task Memory _ _ _ _ _ _) (λ task. listens_or_not task _ _ _ _ _ _ (c.no_room.ensures task _ _ _ _)) (task_of (texts_of c.args.words.now.items))
+
+pub returns-in-Err-clause-complete : goal.returns-in-Err-clause-complete
+returns-in-Err-clause-complete g c = λ read write door. each (λ task. Completed task Memory _) (λ task. none_completed task _) (task_of (texts_of c.args.words.now.items))

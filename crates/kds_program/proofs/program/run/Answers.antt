@@ -16,12 +16,25 @@ returns-clause-refused g c = λ none. refused_code c.perform_words-status.result
 pub returns-clause-untouched : goal.returns-clause-untouched
 returns-clause-untouched g c = c.perform_words-status.ensures.untouched
 
+pub returns-clause-door_left : goal.returns-clause-door_left
+returns-clause-door_left g c = c.perform_words-status.ensures.door_left
+
+pub returns-clause-input_left : goal.returns-clause-input_left
+returns-clause-input_left g c = c.perform_words-status.ensures.input_left
+
 pub returns-clause-ended : goal.returns-clause-ended
 returns-clause-ended g c = record {
   status = c.perform_words-status.result;
   is_code = c.code.ensures;
   error = c.tell.ensures;
   performed = c.perform_words-status.ensures.performed;
+}
+
+pub returns-clause-complete : goal.returns-clause-complete
+returns-clause-complete g c = λ read write door. record {
+  status = c.perform_words-status.result;
+  is_code = c.code.ensures;
+  completed = c.perform_words-status.ensures.complete read write door;
 }
 
 pub returns-clause-safe : goal.returns-clause-safe
@@ -41,5 +54,5 @@ returns-clause-door g c = λ eight. c.perform_words-status.ensures.door (door_by
 
 pub returns-clause-sound : goal.returns-clause-sound
 returns-clause-sound g c = λ zero asked.
-    sound_by _ c.perform_words-status.result (g.S.Source.left c.args.input.now) _ _ _ _ c.perform_words-status.ensures.performed asked
+    sound_by _ c.perform_words-status.result (g.S.Source.left c.args.input.now) _ _ _ _ _ c.perform_words-status.ensures.performed asked
     (done_by c.perform_words-status.result (sym c.code.ensures ∙ zero))
