@@ -1,30 +1,36 @@
 //! The program: its runs over the real ends.
 #![tactic(auto)]
 
-use kds_ends::{StdSink, StdSource, SystemClock, TcpDoor};
+use kds_ends::{Status, StdSink, StdSource, SystemClock, TcpDoor};
 use kds_program::run;
+use kds_runs::tell;
 use std::env;
+use std::io::ErrorKind;
 use std::process::ExitCode;
 
-/// The words after the program's name. Words that can't be had are no command.
-fn given_words(rt: &HostRuntime) -> Vec<String> {
+/// The words after the program's name, or want of memory. Words that can't be had otherwise, as they are no UTF-8, are no command.
+fn given_words(rt: &HostRuntime) -> Option<Vec<String>> {
     let mut words = Vec::new(rt.alloc());
-    let Ok(given) = env::args(rt) else {
-        return words;
-    };
-    for word in given.skip(1) {
-        if words.push(word).is_err() {
-            return Vec::new(rt.alloc());
+    match env::args(rt) {
+        Ok(given) => {
+            for word in given.skip(1) {
+                words.push(word).ok()?;
+            }
+            Some(words)
         }
+        Err(error) if error.kind() == ErrorKind::OutOfMemory => None,
+        Err(_) => Some(words),
     }
-    words
 }
 
 fn main(rt: HostRuntime) -> ExitCode {
-    let words = given_words(&rt);
+    let mut err = StdSink::new(rt.stderr());
+    let Some(words) = given_words(&rt) else {
+        tell(&mut err, Status::Memory);
+        return ExitCode::from(Status::Memory.code());
+    };
     let mut input = StdSource::new(rt.stdin());
     let mut out = StdSink::new(rt.stdout());
-    let mut err = StdSink::new(rt.stderr());
     let clock = SystemClock::new(rt);
     let mut door = TcpDoor::new(rt);
     ExitCode::from(run(
