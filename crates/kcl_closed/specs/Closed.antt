@@ -16,6 +16,7 @@ use Rattle.kds_turn.specs.Known.{Continues, account}
 use Rattle.kds_turn.specs.Passes.{Standing, AreAllBy, IsSplitInto}
 use Rattle.kcl_live.specs.Records.{AreOnLeasesAt}
 use Rattle.kcl_crowd.specs.Feeding.{HasFed, HasFedSoFar}
+use Rattle.kcl_drill.specs.declared.limits.TheConstants.{MEMBER_TURNS, MOST_RECORDS, MOST_WORKERS, RECORDS_A_TURN, TICK}
 
 -- the command is one of a generator's or on leases, and a row that it makes lets reading begin at the trim horizon
 abbrev pub IsDrillCommand : Command → Type 0
@@ -32,11 +33,11 @@ AreDrillTurns h = AllByRecursion (λ turn. IsDrillCommand turn.what) h
 
 -- so many turns at most
 abbrev pub IsFew : ℕ → Account → Type 0
-IsFew records a = length a.turns ≤ 3 * (200 + records / 100)
+IsFew records a = length a.turns ≤ 3 * (MEMBER_TURNS + records / RECORDS_A_TURN)
 
--- the turns of a member are on leases, each 50 milliseconds after the one before, and so many at most
+-- the turns of a member are on leases, each a tick after the one before, and so many at most
 pub record IsMemberAccount (records : ℕ) (a : Account) : Type 0 where
-  pub moments : AreOnLeasesAt 50 a.turns
+  pub moments : AreOnLeasesAt TICK a.turns
   pub most : IsFew records a
   pub horizon : AreDrillTurns a.turns
 
@@ -46,8 +47,8 @@ all_accounts root feeder members = account root.by root.own ∷ account feeder.b
 
 -- The root and the feeder made the generator's commands, the members ran, and the history has their turns and no others.
 pub record IsClosed (number records : ℕ) (root feeder : Standing) (members : List Account) (h : List Turn) : Type 0 where
-  pub limit : records ≤ 1000000
-  pub few : length members ≤ 64
+  pub limit : records ≤ MOST_RECORDS
+  pub few : length members ≤ MOST_WORKERS
   pub apart : (root.by == feeder.by) ≡ false
   pub fed : HasFed number records root feeder
   pub ran : AllByRecursion (IsMemberAccount records) members
@@ -59,8 +60,8 @@ pub record IsClosed (number records : ℕ) (root feeder : Standing) (members : L
 -- The root and the feeder made the first of the generator's commands, the members so many turns at most, and the history
 -- has their turns and no others.
 pub record IsStopped (number records : ℕ) (root feeder : Standing) (members : List Account) (h : List Turn) : Type 0 where
-  pub limit : records ≤ 1000000
-  pub few : length members ≤ 64
+  pub limit : records ≤ MOST_RECORDS
+  pub few : length members ≤ MOST_WORKERS
   pub fed : HasFedSoFar number records root feeder
   pub ran : AllByRecursion (IsFew records) members
   pub all : AreAllBy (all_accounts root feeder members) h
