@@ -1,10 +1,12 @@
 //! Tests of workers on threads, of what no schedule reaches: that those of a crew, and those of a drill's crowd, run beside one
-//! another. They stand apart, so that no crate is proved a second time beside its tests.
+//! another, and that a gate is told before a call and after it. They stand apart, so that no crate is proved a second time beside its tests.
 #![tactic(auto)]
 
 #[cfg(test)]
 mod crews;
 #[cfg(test)]
 mod crowds;
+#[cfg(test)]
+mod gates;
 #[cfg(test)]
 mod meeting;
