@@ -1,9 +1,12 @@
 //! What no clause says of the ends over the machine.
-use kds_ends::{Door, Sink, Source, StdSink, StdSource, TcpDoor, write_all};
+use kds_ends::{Clock, Door, Sink, Source, StdSink, StdSource, SystemClock, TcpDoor, write_all};
 use std::io;
 use std::io::{Read, Write};
 use std::net::{TcpListener, TcpStream};
+use std::rt::Clock as Timer;
+use std::sync::atomic::{AtomicU32, Ordering};
 use std::test::Fail;
+use std::time::Duration;
 
 /// A port that is free.
 fn free_port(rt: &HostRuntime) -> Result<u16, Fail> {
@@ -89,4 +92,35 @@ fn failing_writer(rt: HostRuntime) -> Result<(), Fail> {
     assert!(rt; sink.write(b"c").is_err());
     assert!(rt; write_all(&mut sink, b"c").is_err());
     Ok(())
+}
+
+/// A timer that gives 5 ms at its first call, fails at its second, and gives 7 ms from its third on.
+#[derive(Drop)]
+struct FailingTimer {
+    calls: AtomicU32,
+}
+
+impl Timer for FailingTimer {
+    fn monotonic(&self) -> io::Result<Duration> {
+        Err(io::Error::from(io::ErrorKind::Unsupported))
+    }
+
+    fn since_1970(&self) -> io::Result<Duration> {
+        match self.calls.fetch_add(1, Ordering::SeqCst) {
+            0 => Ok(Duration::from_millis(5)),
+            1 => Err(io::Error::from(io::ErrorKind::Other)),
+            _ => Ok(Duration::from_millis(7)),
+        }
+    }
+}
+
+/// A clock asks the machine's each time, and where that fails gives its last answer again.
+#[test]
+fn failing_timer(rt: HostRuntime) {
+    let mut clock = SystemClock::new(FailingTimer {
+        calls: AtomicU32::new(0),
+    });
+    assert_eq!(rt; clock.now().ms(), 5);
+    assert_eq!(rt; clock.now().ms(), 5);
+    assert_eq!(rt; clock.now().ms(), 7);
 }
