@@ -1,7 +1,9 @@
 //! Connections, and what is written to each.
+ghost use Rattle.std.specs.Prelude.{◌<◌};
+
 use kds_base::{Items, Octets};
 use kds_ends::{Clock, MemDoor, MemSink, SystemClock};
-use kds_harness::{Left, answer_on};
+use kds_harness::{Case, Left, answer_on};
 use kds_runs::run_serve;
 use std::alloc::Global;
 use std::test::Fail;
@@ -123,7 +125,7 @@ fn long_head(alloc: Global, headers: u64, bytes: u64, end: &str) -> Result<Octet
     Ok(head)
 }
 
-/// Heads that are refused, each alone on a connection.
+/// Heads that are refused, each alone on a connection. A byte less than a head may have is none yet.
 #[test]
 fn refused_heads(rt: HostRuntime) -> Result<(), Fail> {
     let alloc = rt.alloc();
@@ -157,7 +159,8 @@ fn refused_heads(rt: HostRuntime) -> Result<(), Fail> {
     }
     let many = long_head(alloc, 64, 0, "\r\n\r\n")?;
     assert!(rt; is_refused(alloc, many.as_slice(), "400 Bad Request")?);
-    let long = long_head(alloc, 1, 16400, "")?;
+    let long = long_head(alloc, 1, 16345, "")?;
+    assert_eq!(rt; long.as_slice().len(), 16384);
     assert!(rt;
         is_refused(
             alloc,
@@ -165,6 +168,9 @@ fn refused_heads(rt: HostRuntime) -> Result<(), Fail> {
             "431 Request Header Fields Too Large"
         )?
     );
+    let cut = long_head(alloc, 1, 16344, "")?;
+    let left = answer_on(alloc, cut.as_slice(), 4096, &[], &[])?;
+    assert!(rt; left.is(7, b"", CUT));
     Ok(())
 }
 
@@ -192,6 +198,42 @@ fn failing_ends(rt: HostRuntime) -> Result<(), Fail> {
     assert!(rt; left.is(4, CREATED.as_bytes(), "read fault\n"));
     let left = answer_on(alloc, bytes.as_slice(), 4096, &[], &[1])?;
     assert!(rt; left.is(5, b"", "write fault\n"));
+    Ok(())
+}
+
+/// Whether each single read, and each single write, that fails leaves what was answered before, by pieces of a size. One more
+/// than there are is none.
+fn is_each(alloc: Global, case: &Case, step: usize) -> Result<bool, Fail>
+    requires { 0 < step }
+{
+    for before in 0..case.reads(step).saturating_add(1) {
+        let number = (before as u64).saturating_add(1);
+        let left = answer_on(alloc, case.input.as_bytes(), step, &[number], &[])?;
+        if !left.leaves(case.out, case.at_read(step, before)) {
+            return Ok(false);
+        }
+    }
+    for before in 0..case.writes(step).saturating_add(1) {
+        let number = (before as u64).saturating_add(1);
+        let left = answer_on(alloc, case.input.as_bytes(), step, &[], &[number])?;
+        if !left.leaves(case.out, case.at_write(step, before)) {
+            return Ok(false);
+        }
+    }
+    Ok(true)
+}
+
+/// Each read and each write of a listing, byte by byte and whole.
+#[test]
+fn each_failing_call(rt: HostRuntime) -> Result<(), Fail> {
+    let case = Case {
+        input: LIST,
+        out: LISTED,
+        parts: &[(183, 122)],
+    };
+    for step in [1usize, 4096] {
+        assert!(rt; is_each(rt.alloc(), &case, step)?, "by {step}");
+    }
     Ok(())
 }
 
