@@ -1,6 +1,6 @@
 -- What a consumer of a worker is made with is a tenure of the journal.
-use Rattle.std.proofs.Common.{◌≡◌, ℕ, ◌+◌, ◌<◌, Bool, true, false, List, [], ◌∷◌, ◌++◌, Option, Some, None, Ok, Err, refl, sym, ap, subst, ◌∙◌, arith, inl, inr}
-use Rattle.std.specs.Prelude.{◌==◌, ◌⊎◌, not, cond, if◌then◌else◌, Result}
+use Rattle.std.proofs.Common.{◌≡◌, ℕ, ◌+◌, ◌<◌, Bool, true, false, List, [], ◌∷◌, Option, Some, None, Ok, Err, refl, sym, ap, subst, ◌∙◌, arith, inl, inr}
+use Rattle.std.specs.Prelude.{◌==◌, ◌⊎◌, not, cond, Result}
 use Rattle.std.specs.List.{AllByRecursion, filter}
 use Rattle.std.specs.Option.{option_map}
 use Rattle.std.proofs.lemmas.Bool.Decides.{nat_tests}
@@ -14,21 +14,17 @@ use Rattle.kds_defs.specs.declared.entry.Entry.TheVariants as entry
 use Rattle.kds_defs.specs.declared.reply.Refusal.{Refusal}
 use Rattle.kds_defs.specs.declared.reply.Reply.{Reply}
 use Rattle.kds_defs.specs.declared.reply.Reply.TheVariants as reply
-use Rattle.kds_defs.specs.declared.reply.Row.{Row}
-use Rattle.kds_defs.specs.Decision.{Decision}
 use Rattle.kds_defs.specs.Histories.{decide, lines_of, answer_of, journal, clock, answer}
 use Rattle.kds_defs.specs.Journal.{Line, Journal, with_lines}
 use Rattle.kds_defs.specs.LeaseCommands.{take_lease}
 use Rattle.kds_defs.specs.Leases.{TenureState, tenure, tenure_after, taken_count, new_tenure, with_opened, with_read, with_given, row, checkpoint_in}
-use Rattle.kcl_defs.specs.declared.consumer.Ask.{Ask}
 use Rattle.kcl_defs.specs.declared.consumer.Tenancy.{Tenancy}
 use Rattle.kcl_defs.specs.declared.consumer.WorkerMade.{WorkerMade}
 use Rattle.kcl_defs.specs.declared.plans.Held.{Held}
-use Rattle.kcl_defs.specs.declared.plans.SyncStep.TheVariants.{Make, Cut}
 use Rattle.kcl_defs.specs.declared.plans.TakeStep.{TakeStep}
-use Rattle.kcl_defs.specs.Consumers.{Event, Called, Answered, Losing}
+use Rattle.kcl_defs.specs.Consumers.{Called, Answered, Losing}
 use Rattle.kcl_defs.specs.Lives.{Deal, deals_of}
-use Rattle.kcl_defs.specs.Workers.{Known, Pending, Chore, Surveying, Syncing, Taking, Renewing, Consuming, Finishing, Freeing, WorkerState, WorkerEvent, Made_call, Gave_command, Got_answer, Stopped, Released, Release, released, without_release, WorkerPast, worker_after, after_worker_event, deals_after, deals_with, id_of, id_of_held, same_id, is_due_known, settled, is_over, consumer_command, known_of, pending_of, pending_chore, next_pending, chore_at, after_survey, after_renewal, after_take, after_chore, absorbed, with_deal, consumed, is_of, still_stands, AtTakes, AtRenewals, AtStopping, command_of, happens_to, happens_to_first}
+use Rattle.kcl_defs.specs.Workers.{Known, Pending, Chore, Surveying, Syncing, Taking, Renewing, Consuming, Finishing, Freeing, WorkerState, WorkerEvent, Made_call, Gave_command, Got_answer, Stopped, Released, Release, released, without_release, WorkerPast, worker_after, after_worker_event, deals_after, deals_with, id_of, id_of_held, same_id, is_due_known, settled, is_over, consumer_command, known_of, pending_of, pending_chore, chore_at, after_survey, after_renewal, after_take, after_chore, absorbed, with_deal, consumed, is_of, still_stands, AtTakes, AtRenewals, AtStopping, happens_to, happens_to_first}
 use Rattle.kcl_defs.specs.WorkerLives.{IsOfTenure, IsToldIn}
 use Rattle.kcl_defs.proofs.DealLemmas.{Leads, leads_so, past_none, past_test, same_number, unborn}
 use Rattle.kcl_defs.proofs.WorkerLemmas.{all_append, all_event, all_filter, all_first, all_map, all_with_known, all_without}

@@ -2,6 +2,7 @@
 ghost use Rattle.std.specs.Prelude.{◌≡◌};
 ghost use Rattle.kcl_defs.specs.Workers.{usual_settings};
 
+use crate::limits::{USUAL_FAILOVER, USUAL_LIMIT};
 use kds_base::{Checkpoint, Items, ShardRef, TenureNo, WorkerNo};
 use kds_defs::{Origin, Refusal, Stored};
 
@@ -88,8 +89,8 @@ impl Settings {
         ensures { result ≡ usual_settings }
     {
         Settings {
-            failover: 10_000,
-            limit: 1_000,
+            failover: USUAL_FAILOVER,
+            limit: USUAL_LIMIT,
             from: Origin::TrimHorizon,
         }
     }

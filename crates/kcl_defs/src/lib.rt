@@ -2,7 +2,9 @@
 #![tactic(auto)]
 
 pub mod consumer;
+pub mod limits;
 pub mod plans;
 
 pub use consumer::{Ask, Call, Due, Fetched, Progress, Settings, Tenancy, Why, WorkerMade};
+pub use limits::usual_numbers;
 pub use plans::{Held, LeaseId, Seen, SyncStep, TakeStep};
