@@ -12,9 +12,9 @@ use Rattle.kds_lines.specs.declared.outcome.Outcome.TheVariants.{Whole, Unfinish
 use Rattle.kds_lines.specs.declared.reading.Reading.{Reading}
 use Rattle.kds_lines.specs.Lines.{unfinished, too_long, is_over, lined, last_of, preceded_by, Fed, Begins, IsTooLong, NoFeed}
 use Rattle.kds_lines.specs.Writing.{Wrote, Loses}
-use Rattle.kds_lines.specs.Reading.{Stands, Stops, Halted, FedLines, Running, HaltedAfter, HoldStops, IsOwnStop, IsFeedStop, IsStop}
+use Rattle.kds_lines.specs.Reading.{Stands, Stops, Halted, HasTakenFed, FedLines, Running, HaltedAfter, HoldStops, IsOwnStop, IsFeedStop, IsStop, lost_after}
 use Rattle.kds_lines.specs.Taking.{Goes, Breaks}
-use Rattle.kds_lines.specs.Telling.{Because, Unwritten, Told}
+use Rattle.kds_lines.specs.Telling.{Because, HasTaken, Unwritten, Told}
 use Rattle.kds_lines.proofs.Pieces.{fed_nothing, line_fed, line_over, more_fed, more_over, at_end, lines_so_far, fed_begins, begins_more, too_long_more}
 
 -- ---- what is written
@@ -67,7 +67,7 @@ at_length len used w {b} el h = subst (λ (z : ℕ). is_over z (used + z + 1) �
 pub within_limits : (len used : ℕ) → is_over len (used + len + 1) ≡ false → (len ≤ LINE_BYTES) × (used + len + 1 ≤ INPUT_BYTES)
 within_limits len used h = (grind (arith, common_steps), grind (arith, common_steps))
 
-module _ (before took : List (List ℕ) → Type 0) (refuses : List (List ℕ) → List ℕ → Type 0) (output : List (List ℕ) → List ℕ) where
+module _ (before took : List (List ℕ) → Type 0) (broke refuses : List (List ℕ) → List ℕ → Type 0) (output : List (List ℕ) → List ℕ) where
   pub line_taken : (y a : List ℕ) (len : ℕ) (old new : Reading) (start now : Option (List ℕ)) → len ≡ length (old.held ++ a)
       → (st : Stands before output y old start now) → NoFeed a → is_over len (old.used + len + 1) ≡ false
       → ((lines : List (List ℕ)) → before lines → Goes took output lines (old.held ++ a) old.output new.output)
@@ -92,8 +92,8 @@ module _ (before took : List (List ℕ) → Type 0) (refuses : List (List ℕ) �
 
   -- a line stops it
   pub line_stops : (o : Outcome) (y a : List ℕ) (ts : List (List ℕ)) (used : ℕ) (held waits : List ℕ) (start now : Option (List ℕ)) → Fed y ts used held → NoFeed a
-      → took ts → Stops o refuses (y ++ (a ++ 10 ∷ [])) ts → Unwritten o [] → Wrote start now (output ts) waits []
-      → Halted o took refuses output (y ++ (a ++ 10 ∷ [])) waits start now
+      → HasTakenFed o took broke (y ++ (a ++ 10 ∷ [])) ts → Stops o refuses (y ++ (a ++ 10 ∷ [])) ts → Unwritten o [] → Wrote start now (output ts) waits []
+      → Halted o took broke refuses output (y ++ (a ++ 10 ∷ [])) waits start now
   line_stops o y a ts used held waits start now f n taken stops all w = record {
     texts = ts;
     begins = begins_more y (a ++ 10 ∷ []) ts (fed_begins y ts used held f);
@@ -104,15 +104,17 @@ module _ (before took : List (List ℕ) → Type 0) (refuses : List (List ℕ) �
     unwritten = all;
   }
 
-  -- after its own line memory ran out
+  -- memory ran out before its own line, after it, or in the middle of it
   line_breaks : (y a held waits : List ℕ) (ts : List (List ℕ)) (used : ℕ) (start now : Option (List ℕ)) → Fed y ts used held → NoFeed a
       → is_over (length (held ++ a)) (used + length (held ++ a) + 1) ≡ false → Wrote start now (output ts) waits []
-      → Breaks took output ts (held ++ a) → Halted Memory took refuses output (y ++ (a ++ 10 ∷ [])) waits start now
-  line_breaks y a held waits ts used start now f n short w (inl taken) = line_stops Memory y a ts used held waits start now f n taken tt tt w
-  line_breaks y a held waits ts used start now f n short w (inr more) = record {
+      → Breaks took broke output ts (held ++ a) → Halted Memory took broke refuses output (y ++ (a ++ 10 ∷ [])) waits start now
+  line_breaks y a held waits ts used start now f n short w (inl taken) = line_stops Memory y a ts used held waits start now f n (inl taken) tt tt w
+  line_breaks y a held waits ts used start now f n short w (inr (inr part)) =
+      line_stops Memory y a ts used held waits start now f n (inr (held ++ a, fed_begins _ _ _ _ (line_fed y a ts used held f n short), part)) tt tt w
+  line_breaks y a held waits ts used start now f n short w (inr (inl more)) = record {
     texts = ts ++ (held ++ a) ∷ [];
     begins = fed_begins _ _ _ _ (line_fed y a ts used held f n short);
-    taken = more.0;
+    taken = inl more.0;
     stops = tt;
     missing = more.1.0;
     wrote = record {
@@ -125,7 +127,7 @@ module _ (before took : List (List ℕ) → Type 0) (refuses : List (List ℕ) �
 
   pub stands_over : (y a : List ℕ) (len : ℕ) (old : Reading) (start now : Option (List ℕ)) → len ≡ length (old.held ++ a)
       → Stands took output y old start now → NoFeed a → is_over len (old.used + len + 1) ≡ true
-      → Halted TooLong took refuses output (y ++ (a ++ 10 ∷ [])) old.output start now
+      → Halted TooLong took broke refuses output (y ++ (a ++ 10 ∷ [])) old.output start now
   stands_over y a len old start now el st n over =
       line_stops TooLong y a st.texts old.used old.held old.output start now st.bytes n st.taken
       (line_over y a st.texts old.used old.held st.bytes n (at_length len old.used (old.held ++ a) el over)) refl st.wrote
@@ -133,7 +135,7 @@ module _ (before took : List (List ℕ) → Type 0) (refuses : List (List ℕ) �
   pub stands_stops : (y a waits : List ℕ) (len : ℕ) (old : Reading) (start now : Option (List ℕ)) → len ≡ length (old.held ++ a)
       → (st : Stands before output y old start now) → NoFeed a → is_over len (old.used + len + 1) ≡ false → waits ≡ old.output
       → ((lines : List (List ℕ)) → before lines → took lines × refuses lines (old.held ++ a))
-      → Halted (Stopped (old.count + 1)) took refuses output (y ++ (a ++ 10 ∷ [])) waits start now
+      → Halted (Stopped (old.count + 1)) took broke refuses output (y ++ (a ++ 10 ∷ [])) waits start now
   stands_stops y a waits len old start now el st n short same stops =
       let s = stops st.texts st.taken in
       let fed = line_fed y a st.texts old.used old.held st.bytes n (at_length len old.used (old.held ++ a) el short) in
@@ -142,8 +144,8 @@ module _ (before took : List (List ℕ) → Type 0) (refuses : List (List ℕ) �
 
   pub stands_breaks : (y a waits : List ℕ) (len : ℕ) (old : Reading) (start now : Option (List ℕ)) → len ≡ length (old.held ++ a)
       → (st : Stands before output y old start now) → NoFeed a → is_over len (old.used + len + 1) ≡ false → waits ≡ old.output
-      → ((lines : List (List ℕ)) → before lines → Breaks took output lines (old.held ++ a))
-      → Halted Memory took refuses output (y ++ (a ++ 10 ∷ [])) waits start now
+      → ((lines : List (List ℕ)) → before lines → Breaks took broke output lines (old.held ++ a))
+      → Halted Memory took broke refuses output (y ++ (a ++ 10 ∷ [])) waits start now
   stands_breaks y a waits len old start now el st n short same breaks =
       line_breaks y a old.held waits st.texts old.used start now st.bytes n (at_length len old.used (old.held ++ a) el short) (rw same st.wrote) (breaks st.texts st.taken)
 
@@ -164,7 +166,7 @@ module _ (before took : List (List ℕ) → Type 0) (refuses : List (List ℕ) �
 
   pub stands_lost : (y waits : List ℕ) (old : Reading) (start mid now : Option (List ℕ)) → waits ≡ []
       → (st : Stands took output y old start mid) → ((whole missing : List ℕ) → Wrote start mid whole old.output missing → Loses start now whole)
-      → Halted Write took refuses output y waits start now
+      → Halted Write took broke refuses output y waits start now
   stands_lost y waits old start mid now none st loses =
       let l = loses (output st.texts) [] st.wrote in record {
         texts = st.texts;
@@ -176,8 +178,8 @@ module _ (before took : List (List ℕ) → Type 0) (refuses : List (List ℕ) �
         unwritten = tt;
       }
 
-  pub halted_written : (o : Outcome) (y waits : List ℕ) (start mid now : Option (List ℕ)) → Halted o took refuses output y waits start mid
-      → ((whole missing : List ℕ) → Wrote start mid whole waits missing → Wrote start now whole [] missing) → Halted o took refuses output y [] start now
+  pub halted_written : (o : Outcome) (y waits : List ℕ) (start mid now : Option (List ℕ)) → Halted o took broke refuses output y waits start mid
+      → ((whole missing : List ℕ) → Wrote start mid whole waits missing → Wrote start now whole [] missing) → Halted o took broke refuses output y [] start now
   halted_written o y waits start mid now h writes = record {
     texts = h.texts;
     begins = h.begins;
@@ -188,9 +190,22 @@ module _ (before took : List (List ℕ) → Type 0) (refuses : List (List ℕ) �
     unwritten = h.unwritten;
   }
 
-  pub halted_lost : (o : Outcome) (y waits : List ℕ) (start mid now : Option (List ℕ)) → Halted o took refuses output y waits start mid
-      → ((whole missing : List ℕ) → Wrote start mid whole waits missing → Loses start now whole) → Halted Write took refuses output y [] start now
-  halted_lost o y waits start mid now h loses =
+  -- the sink failed where it had stopped already
+  lost_there : (y : List ℕ) (ts : List (List ℕ)) (start now : Option (List ℕ)) → Begins y ts → took ts → Loses start now (output ts)
+      → Halted Write took broke refuses output y [] start now
+  lost_there y ts start now begins taken l = record {
+    texts = ts;
+    begins = begins;
+    taken = taken;
+    stops = tt;
+    missing = l.0;
+    wrote = l.1;
+    unwritten = tt;
+  }
+
+  pub halted_lost : (o : Outcome) (y waits : List ℕ) (start mid now : Option (List ℕ)) → Halted o took broke refuses output y waits start mid
+      → ((whole missing : List ℕ) → Wrote start mid whole waits missing → Loses start now whole) → Halted (lost_after (Err o)) took broke refuses output y [] start now
+  halted_lost Memory y waits start mid now h loses =
       let l = loses (output h.texts) h.missing h.wrote in record {
         texts = h.texts;
         begins = h.begins;
@@ -200,13 +215,19 @@ module _ (before took : List (List ℕ) → Type 0) (refuses : List (List ℕ) �
         wrote = l.1;
         unwritten = tt;
       }
+  halted_lost TooLong y waits start mid now h loses = lost_there y h.texts start now h.begins h.taken (loses (output h.texts) h.missing h.wrote)
+  halted_lost (Stopped n) y waits start mid now h loses = lost_there y h.texts start now h.begins h.taken (loses (output h.texts) h.missing h.wrote)
+  halted_lost Read y waits start mid now h loses = lost_there y h.texts start now h.begins h.taken (loses (output h.texts) h.missing h.wrote)
+  halted_lost Write y waits start mid now h loses = lost_there y h.texts start now h.begins h.taken (loses (output h.texts) h.missing h.wrote)
+  halted_lost Whole y waits start mid now h loses = lost_there y h.texts start now h.begins h.taken (loses (output h.texts) h.missing h.wrote)
+  halted_lost (Unfinished n) y waits start mid now h loses = lost_there y h.texts start now h.begins h.taken (loses (output h.texts) h.missing h.wrote)
 
   pub fed_lost : (r : Result (Unit {0}) Outcome) (piece : List ℕ) (old new : Reading) (held mid now : Option (List ℕ))
       → OnOk r ((fed : List ℕ) (start : Option (List ℕ)) → Stands before output fed old start held → Stands took output (fed ++ piece) new start mid)
-      → IfErr r (λ o. (fed : List ℕ) (start : Option (List ℕ)) → Stands before output fed old start held → Halted o took refuses output (fed ++ piece) new.output start mid)
+      → IfErr r (λ o. (fed : List ℕ) (start : Option (List ℕ)) → Stands before output fed old start held → Halted o took broke refuses output (fed ++ piece) new.output start mid)
       → (fed : List ℕ) (start : Option (List ℕ)) → Stands before output fed old start held
       → ((whole missing : List ℕ) → Wrote start mid whole new.output missing → Loses start now whole)
-      → Halted Write took refuses output (fed ++ piece) [] start now
+      → Halted (lost_after r) took broke refuses output (fed ++ piece) [] start now
   fed_lost (Ok x) piece old new held mid now ok err fed start st loses = stands_lost (fed ++ piece) [] new start mid now refl (ok fed start st) loses
   fed_lost (Err o) piece old new held mid now ok err fed start st loses = halted_lost o (fed ++ piece) new.output start mid now (err fed start st) loses
 
@@ -221,13 +242,23 @@ module _ (before took : List (List ℕ) → Type 0) (refuses : List (List ℕ) �
   stops_more Whole y z ts k s = absurd k
   stops_more (Unfinished n) y z ts k s = absurd k
 
+  taken_more : (o : Outcome) (y z : List ℕ) (ts : List (List ℕ)) → HasTakenFed o took broke y ts → HasTakenFed o took broke (y ++ z) ts
+  taken_more Memory y z ts (inl t) = inl t
+  taken_more Memory y z ts (inr part) = inr (part.0, begins_more y z _ part.1, part.2)
+  taken_more TooLong y z ts t = t
+  taken_more (Stopped n) y z ts t = t
+  taken_more Read y z ts t = t
+  taken_more Write y z ts t = t
+  taken_more Whole y z ts t = t
+  taken_more (Unfinished n) y z ts t = t
+
   -- where it stopped, more bytes change nothing
-  pub halted_more : (o : Outcome) (y z waits : List ℕ) (start now : Option (List ℕ)) → IsFeedStop o → Halted o took refuses output y waits start now
-      → Halted o took refuses output (y ++ z) waits start now
+  pub halted_more : (o : Outcome) (y z waits : List ℕ) (start now : Option (List ℕ)) → IsFeedStop o → Halted o took broke refuses output y waits start now
+      → Halted o took broke refuses output (y ++ z) waits start now
   halted_more o y z waits start now k h = record {
     texts = h.texts;
     begins = begins_more y z h.texts h.begins;
-    taken = h.taken;
+    taken = taken_more o y z h.texts h.taken;
     stops = stops_more o y z h.texts k h.stops;
     missing = h.missing;
     wrote = h.wrote;
@@ -253,11 +284,11 @@ module _ (before took : List (List ℕ) → Type 0) (refuses : List (List ℕ) �
 
   pub lines_stop : (fed piece rest line next waits : List ℕ) (old : Reading) (start mid now : Option (List ℕ)) (o : Outcome) → IsFeedStop o
       → (f : FedLines before output fed piece rest old start mid) → rest ≡ line ++ next
-      → Halted o took refuses output ((fed ++ f.front) ++ line) waits start now → Halted o took refuses output (fed ++ piece) waits start now
+      → Halted o took broke refuses output ((fed ++ f.front) ++ line) waits start now → Halted o took broke refuses output (fed ++ piece) waits start now
   lines_stop fed piece rest line next waits old start mid now o k f parts h =
       let e : ((fed ++ f.front) ++ line) ++ next ≡ fed ++ piece =
       append_assoc (fed ++ f.front) line next ∙ append_assoc fed f.front (line ++ next) ∙ ap (λ z. fed ++ (f.front ++ z)) (sym parts) ∙ ap (λ z. fed ++ z) (sym f.parts) in
-      subst (λ (z : List ℕ). Halted o took refuses output z waits start now) e (halted_more o ((fed ++ f.front) ++ line) next waits start now k h)
+      subst (λ (z : List ℕ). Halted o took broke refuses output z waits start now) e (halted_more o ((fed ++ f.front) ++ line) next waits start now k h)
 
   -- ---- a whole piece
 
@@ -275,29 +306,29 @@ module _ (before took : List (List ℕ) → Type 0) (refuses : List (List ℕ) �
         wrote = rw eo f.stands.wrote;
       })
 
-  held_stops : (o : Outcome) (y : List ℕ) (ts : List (List ℕ)) → HoldStops o y ts → Stops o refuses y ts × Unwritten o []
-  held_stops TooLong y ts h = (h, refl)
-  held_stops Memory y ts h = (tt, tt)
-  held_stops (Stopped n) y ts h = absurd h
-  held_stops Read y ts h = absurd h
-  held_stops Write y ts h = absurd h
-  held_stops Whole y ts h = absurd h
-  held_stops (Unfinished n) y ts h = absurd h
+  held_stops : (o : Outcome) (y : List ℕ) (ts : List (List ℕ)) → took ts → HoldStops o y ts → Stops o refuses y ts × (Unwritten o [] × HasTakenFed o took broke y ts)
+  held_stops TooLong y ts t h = (h, (refl, t))
+  held_stops Memory y ts t h = (tt, (tt, inl t))
+  held_stops (Stopped n) y ts t h = absurd h
+  held_stops Read y ts t h = absurd h
+  held_stops Write y ts t h = absurd h
+  held_stops Whole y ts t h = absurd h
+  held_stops (Unfinished n) y ts t h = absurd h
 
   pub piece_stops : (fed piece rest waits : List ℕ) (old : Reading) (start now : Option (List ℕ)) (o : Outcome) → (f : FedLines took output fed piece rest old start now) → NoFeed rest
       → waits ≡ old.output → ((y : List ℕ) (ts : List (List ℕ)) → Fed y ts old.used old.held → NoFeed rest → HoldStops o (y ++ rest) ts)
-      → Halted o took refuses output (fed ++ piece) waits start now
+      → Halted o took broke refuses output (fed ++ piece) waits start now
   piece_stops fed piece rest waits old start now o f n eo holds =
       let e : (fed ++ f.front) ++ rest ≡ fed ++ piece = append_assoc fed f.front rest ∙ ap (λ z. fed ++ z) (sym f.parts) in
-      let s = held_stops o ((fed ++ f.front) ++ rest) f.stands.texts (holds (fed ++ f.front) f.stands.texts f.stands.bytes n) in
-      subst (λ (z : List ℕ). Halted o took refuses output z waits start now) e (record {
+      let s = held_stops o ((fed ++ f.front) ++ rest) f.stands.texts f.stands.taken (holds (fed ++ f.front) f.stands.texts f.stands.bytes n) in
+      subst (λ (z : List ℕ). Halted o took broke refuses output z waits start now) e (record {
         texts = f.stands.texts;
         begins = begins_more (fed ++ f.front) rest f.stands.texts (fed_begins _ _ _ _ f.stands.bytes);
-        taken = f.stands.taken;
+        taken = s.1.1;
         stops = s.0;
         missing = [];
         wrote = rw eo f.stands.wrote;
-        unwritten = s.1;
+        unwritten = s.1.0;
       })
 
 -- ---- bytes that are held
@@ -363,7 +394,7 @@ not_over len used a b = grind (arith, common_steps)
 
 -- ---- what is told
 
-module _ (took : List (List ℕ) → Type 0) (refuses : List (List ℕ) → List ℕ → Type 0) (output : List (List ℕ) → List ℕ) where
+module _ (took : List (List ℕ) → Type 0) (broke refuses : List (List ℕ) → List ℕ → Type 0) (output : List (List ℕ) → List ℕ) where
   pub runs_from : (left start : Option (List ℕ)) (reading : Reading) → reading.held ≡ [] → reading.output ≡ [] → reading.count ≡ 0 → reading.used ≡ 0 → took []
       → output [] ≡ [] → Running took output left left reading start start
   runs_from left start reading eh eo ec eu t none = record {
@@ -381,7 +412,7 @@ module _ (took : List (List ℕ) → Type 0) (refuses : List (List ℕ) → List
 
   -- the source fails
   pub halted_read : (all left after start now : Option (List ℕ)) (reading : Reading) → Running took output all left reading start now → Keeps left after
-      → HaltedAfter Read took refuses output all after start now
+      → HaltedAfter Read took broke refuses output all after start now
   halted_read all left after start now reading r keeps =
       let st = r.stands in record {
         fed = r.fed;
@@ -397,13 +428,13 @@ module _ (took : List (List ℕ) → Type 0) (refuses : List (List ℕ) → List
         };
       }
 
-  told_with : (o : Outcome) (x fed : List ℕ) (left start now : Option (List ℕ)) (h : Halted o took refuses output fed [] start now) (rest : List (List ℕ))
-      → (lined x).texts ≡ h.texts ++ rest → Because o refuses x left h.texts rest → Told o took refuses output x left start now
-  told_with o x fed left start now h rest parts because = record {
+  told_with : (o : Outcome) (x fed : List ℕ) (left start now : Option (List ℕ)) (h : Halted o took broke refuses output fed [] start now) (rest : List (List ℕ))
+      → (lined x).texts ≡ h.texts ++ rest → HasTaken o took broke h.texts rest → Because o refuses x left h.texts rest → Told o took broke refuses output x left start now
+  told_with o x fed left start now h rest parts taken because = record {
     texts = h.texts;
     rest = rest;
     parts = parts;
-    taken = h.taken;
+    taken = taken;
     because = because;
     front = h.wrote.front;
     back = h.missing;
@@ -416,30 +447,39 @@ module _ (took : List (List ℕ) → Type 0) (refuses : List (List ℕ) → List
   begun : (x fed ys : List ℕ) (ts : List (List ℕ)) → x ≡ fed ++ ys → (b : Begins fed ts) → (lined x).texts ≡ ts ++ (b ys).0
   begun x fed ys ts e b = ap (λ z. (lined z).texts) e ∙ (b ys).1
 
-  told_at : (o : Outcome) (x fed ys : List ℕ) (start now : Option (List ℕ)) → IsStop o → x ≡ fed ++ ys → Halted o took refuses output fed [] start now
-      → Told o took refuses output x (Some ys) start now
+  -- where memory ran out, by how far it took the next line
+  told_broken : (x fed ys : List ℕ) (start now : Option (List ℕ)) → x ≡ fed ++ ys → (h : Halted Memory took broke refuses output fed [] start now)
+      → HasTakenFed Memory took broke fed h.texts → Told Memory took broke refuses output x (Some ys) start now
+  told_broken x fed ys start now e h (inl t) = told_with Memory x fed (Some ys) start now h (h.begins ys).0 (begun x fed ys _ e h.begins) (inl t) tt
+  told_broken x fed ys start now e h (inr part) =
+      let later = (part.1 ys).0 in
+      told_with Memory x fed (Some ys) start now h (part.0 ∷ later) (begun x fed ys _ e part.1 ∙ append_assoc h.texts (part.0 ∷ []) later)
+      (inr (part.0, later, refl, part.2)) tt
+
+  told_at : (o : Outcome) (x fed ys : List ℕ) (start now : Option (List ℕ)) → IsStop o → x ≡ fed ++ ys → Halted o took broke refuses output fed [] start now
+      → Told o took broke refuses output x (Some ys) start now
   told_at TooLong x fed ys start now k e h =
       let d : lined x ≡ record { texts = h.texts; end = too_long } = ap lined e ∙ h.stops ys in
-      told_with TooLong x fed (Some ys) start now h [] (ap (λ l. l.texts) d ∙ sym (append-nil h.texts)) (ap (λ l. l.end) d, refl)
+      told_with TooLong x fed (Some ys) start now h [] (ap (λ l. l.texts) d ∙ sym (append-nil h.texts)) h.taken (ap (λ l. l.end) d, refl)
   told_at (Stopped n) x fed ys start now k e h =
       let s = h.stops in
       let later = (s.1 ys).0 in
-      told_with (Stopped n) x fed (Some ys) start now h (s.0 ∷ later) (begun x fed ys _ e s.1 ∙ append_assoc h.texts (s.0 ∷ []) later) (s.0, later, refl, s.2, s.3)
-  told_at Read x fed ys start now k e h = told_with Read x fed (Some ys) start now h (h.begins ys).0 (begun x fed ys _ e h.begins) (fed, ys, e, refl, h.stops)
-  told_at Write x fed ys start now k e h = told_with Write x fed (Some ys) start now h (h.begins ys).0 (begun x fed ys _ e h.begins) tt
-  told_at Memory x fed ys start now k e h = told_with Memory x fed (Some ys) start now h (h.begins ys).0 (begun x fed ys _ e h.begins) tt
+      told_with (Stopped n) x fed (Some ys) start now h (s.0 ∷ later) (begun x fed ys _ e s.1 ∙ append_assoc h.texts (s.0 ∷ []) later) h.taken (s.0, later, refl, s.2, s.3)
+  told_at Read x fed ys start now k e h = told_with Read x fed (Some ys) start now h (h.begins ys).0 (begun x fed ys _ e h.begins) h.taken (fed, ys, e, refl, h.stops)
+  told_at Write x fed ys start now k e h = told_with Write x fed (Some ys) start now h (h.begins ys).0 (begun x fed ys _ e h.begins) h.taken tt
+  told_at Memory x fed ys start now k e h = told_broken x fed ys start now e h h.taken
   told_at Whole x fed ys start now k e h = absurd k
   told_at (Unfinished n) x fed ys start now k e h = absurd k
 
-  pub told_halt : (o : Outcome) (all left start now : Option (List ℕ)) → IsStop o → HaltedAfter o took refuses output all left start now
-      → IfSome all (λ bytes. Told o took refuses output bytes left start now)
+  pub told_halt : (o : Outcome) (all left start now : Option (List ℕ)) → IsStop o → HaltedAfter o took broke refuses output all left start now
+      → IfSome all (λ bytes. Told o took broke refuses output bytes left start now)
   told_halt o None left start now k h = tt
   told_halt o (Some x) None start now k h = absurd h.consumed
   told_halt o (Some x) (Some ys) start now k h = told_at o x h.fed ys start now k h.consumed h.halted
 
   told_last : (x : List ℕ) (count used : ℕ) (held : List ℕ) (ts : List (List ℕ)) (left start now : Option (List ℕ)) → length held ≤ LINE_BYTES → used + length held ≤ INPUT_BYTES
       → lined x ≡ preceded_by ts (last_of used held) → count ≡ length ts → took ts → Wrote start now (output ts) [] []
-      → Told (if length held == 0 then Whole else Unfinished (count + 1)) took refuses output x left start now
+      → Told (if length held == 0 then Whole else Unfinished (count + 1)) took broke refuses output x left start now
   told_last x count used [] ts left start now a b e c t w = record {
     texts = ts;
     rest = [];
@@ -471,7 +511,7 @@ module _ (took : List (List ℕ) → Type 0) (refuses : List (List ℕ) → List
 
   pub told_end : (all left start now : Option (List ℕ)) (reading : Reading) → Running took output all left reading start now → IsAtEnd left
       → length reading.held ≤ LINE_BYTES → reading.used + length reading.held ≤ INPUT_BYTES
-      → IfSome all (λ bytes. Told (if length reading.held == 0 then Whole else Unfinished (reading.count + 1)) took refuses output bytes left start now)
+      → IfSome all (λ bytes. Told (if length reading.held == 0 then Whole else Unfinished (reading.count + 1)) took broke refuses output bytes left start now)
   told_end None left start now reading r e a b = tt
   told_end (Some x) None start now reading r e a b = absurd r.consumed
   told_end (Some x) (Some ys) start now reading r e a b =

@@ -1,5 +1,5 @@
 -- What stands while an input is read.
-use Rattle.std.specs.Prelude.{◌≡◌, ℕ, ◌+◌, List, [], ◌∷◌, ◌++◌, length}
+use Rattle.std.specs.Prelude.{◌≡◌, ◌⊎◌, ℕ, ◌+◌, List, [], ◌∷◌, ◌++◌, length, Result, Err}
 use Rattle.std.specs.declared.option.Option.{Option}
 use Rattle.std.specs.Io.KnownBytes.{Consumes}
 use Rattle.kds_lines.specs.Lines.{Fed, Begins, IsTooLong, NoFeed, lined}
@@ -26,11 +26,17 @@ Stops Write refuses fed texts = Unit {0}
 Stops Memory refuses fed texts = Unit {0}
 Stops _ refuses fed texts = ⊥
 
+-- These lines of the bytes that were fed were taken. Where memory ran out, it may have done so in the middle of the next
+-- one.
+abbrev pub HasTakenFed : Outcome → (List (List ℕ) → Type 0) → (List (List ℕ) → List ℕ → Type 0) → List ℕ → List (List ℕ) → Type 0
+HasTakenFed Memory took broke fed texts = took texts ⊎ ((text : List ℕ) × Begins fed (texts ++ text ∷ []) × broke texts text)
+HasTakenFed _ took broke fed texts = took texts
+
 -- These bytes were fed when it stopped so: the lines that were taken are their first ones.
-pub record Halted (outcome : Outcome) (took : List (List ℕ) → Type 0) (refuses : List (List ℕ) → List ℕ → Type 0) (output : List (List ℕ) → List ℕ) (fed waits : List ℕ) (start now : Option (List ℕ)) : Type 0 where
+pub record Halted (outcome : Outcome) (took : List (List ℕ) → Type 0) (broke refuses : List (List ℕ) → List ℕ → Type 0) (output : List (List ℕ) → List ℕ) (fed waits : List ℕ) (start now : Option (List ℕ)) : Type 0 where
   pub texts : List (List ℕ)
   pub begins : Begins fed texts
-  pub taken : took texts
+  pub taken : HasTakenFed outcome took broke fed texts
   pub stops : Stops outcome refuses fed texts
   pub missing : List ℕ
   pub wrote : Wrote start now (output texts) waits missing
@@ -59,18 +65,18 @@ module _ (took took_now : List (List ℕ) → Type 0) (output : List (List ℕ) 
       (fed : List ℕ) (start : Option (List ℕ)) → Stands took output fed before start held → NoFeed tail
       → Stands took_now output (fed ++ (tail ++ 10 ∷ [])) after start now
 
-  module _ (refuses : List (List ℕ) → List ℕ → Type 0) where
+  module _ (broke refuses : List (List ℕ) → List ℕ → Type 0) where
     -- it stops so in this piece
     abbrev pub StopsIn : Outcome → List ℕ → Type 0
     StopsIn outcome piece =
         (fed : List ℕ) (start : Option (List ℕ)) → Stands took output fed before start held
-        → Halted outcome took_now refuses output (fed ++ piece) after.output start now
+        → Halted outcome took_now broke refuses output (fed ++ piece) after.output start now
 
     -- it stops so in this line
     abbrev pub StopsInLine : Outcome → List ℕ → Type 0
     StopsInLine outcome tail =
         (fed : List ℕ) (start : Option (List ℕ)) → Stands took output fed before start held → NoFeed tail
-        → Halted outcome took_now refuses output (fed ++ (tail ++ 10 ∷ [])) after.output start now
+        → Halted outcome took_now broke refuses output (fed ++ (tail ++ 10 ∷ [])) after.output start now
 
 -- how many bytes were fed
 abbrev pub fed_count : Reading → ℕ
@@ -84,10 +90,10 @@ pub record Running (took : List (List ℕ) → Type 0) (output : List (List ℕ)
   pub flushed : reading.output ≡ []
 
 -- It stopped so after some bytes were taken from the source.
-pub record HaltedAfter (outcome : Outcome) (took : List (List ℕ) → Type 0) (refuses : List (List ℕ) → List ℕ → Type 0) (output : List (List ℕ) → List ℕ) (all left start now : Option (List ℕ)) : Type 0 where
+pub record HaltedAfter (outcome : Outcome) (took : List (List ℕ) → Type 0) (broke refuses : List (List ℕ) → List ℕ → Type 0) (output : List (List ℕ) → List ℕ) (all left start now : Option (List ℕ)) : Type 0 where
   pub fed : List ℕ
   pub consumed : Consumes all left fed
-  pub halted : Halted outcome took refuses output fed [] start now
+  pub halted : Halted outcome took broke refuses output fed [] start now
 
 -- ---- a read and all that follows from it, from what was left of the source to what is left now
 
@@ -95,9 +101,15 @@ module _ (took took_now : List (List ℕ) → Type 0) (output : List (List ℕ) 
   abbrev pub RunsOn : Reading → Reading → Type 0
   RunsOn before after = (all start : Option (List ℕ)) → Running took output all left before start held → Running took_now output all left_now after start now
 
-  abbrev pub StopsRunning : (List (List ℕ) → List ℕ → Type 0) → Outcome → Reading → Type 0
-  StopsRunning refuses outcome before =
-      (all start : Option (List ℕ)) → Running took output all left before start held → HaltedAfter outcome took_now refuses output all left_now start now
+  abbrev pub StopsRunning : (List (List ℕ) → List ℕ → Type 0) → (List (List ℕ) → List ℕ → Type 0) → Outcome → Reading → Type 0
+  StopsRunning broke refuses outcome before =
+      (all start : Option (List ℕ)) → Running took output all left before start held → HaltedAfter outcome took_now broke refuses output all left_now start now
+
+-- How it stops where the output of a piece that was fed so can't be written: by want of memory where that came before,
+-- since a line may have been taken in part.
+abbrev pub lost_after : Result (Unit {0}) Outcome → Outcome
+lost_after (Err Memory) = Memory
+lost_after _ = Write
 
 -- why bytes that end no line are not held
 abbrev pub HoldStops : Outcome → List ℕ → List (List ℕ) → Type 0

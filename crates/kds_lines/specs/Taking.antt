@@ -12,6 +12,6 @@ pub record Goes (took : List (List ℕ) → Type 0) (output : List (List ℕ) �
 abbrev pub GoesOn : List ℕ → List ℕ → Type 0
 GoesOn front whole = (back : List ℕ) × (whole ≡ front ++ back)
 
--- memory ran out: the line was taken after those, or it was not
-abbrev pub Breaks : (List (List ℕ) → Type 0) → (List (List ℕ) → List ℕ) → List (List ℕ) → List ℕ → Type 0
-Breaks took output lines text = took lines ⊎ (took (lines ++ text ∷ []) × GoesOn (output lines) (output (lines ++ text ∷ [])))
+-- memory ran out after those lines: this one was not taken, or it was, or it ran out in the middle of it
+abbrev pub Breaks : (List (List ℕ) → Type 0) → (List (List ℕ) → List ℕ → Type 0) → (List (List ℕ) → List ℕ) → List (List ℕ) → List ℕ → Type 0
+Breaks took broke output lines text = took lines ⊎ ((took (lines ++ text ∷ []) × GoesOn (output lines) (output (lines ++ text ∷ []))) ⊎ broke lines text)

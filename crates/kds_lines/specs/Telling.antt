@@ -1,5 +1,5 @@
 -- How the reading of an input ends, by its bytes.
-use Rattle.std.specs.Prelude.{◌≡◌, ℕ, ◌+◌, List, [], ◌∷◌, ◌++◌, length, Some}
+use Rattle.std.specs.Prelude.{◌≡◌, ◌⊎◌, ℕ, ◌+◌, List, [], ◌∷◌, ◌++◌, length, Some}
 use Rattle.std.specs.declared.option.Option.{Option}
 use Rattle.std.specs.Io.KnownBytes.{Appends}
 use Rattle.kds_lines.specs.Lines.{whole, unfinished, too_long, lined}
@@ -25,13 +25,19 @@ Unwritten Write back = Unit {0}
 Unwritten Memory back = Unit {0}
 Unwritten _ back = back ≡ []
 
+-- These lines were taken, before those that are left. Where memory ran out, it may have done so in the middle of the next
+-- one.
+abbrev pub HasTaken : Outcome → (List (List ℕ) → Type 0) → (List (List ℕ) → List ℕ → Type 0) → List (List ℕ) → List (List ℕ) → Type 0
+HasTaken Memory took broke texts rest = took texts ⊎ ((text : List ℕ) × (later : List (List ℕ)) × (rest ≡ text ∷ later) × broke texts text)
+HasTaken _ took broke texts rest = took texts
+
 -- The reading of these bytes ended so: the lines that were taken are the first ones of the bytes, and a front of their
 -- output was written.
-pub record Told (outcome : Outcome) (took : List (List ℕ) → Type 0) (refuses : List (List ℕ) → List ℕ → Type 0) (output : List (List ℕ) → List ℕ) (bytes : List ℕ) (left before after : Option (List ℕ)) : Type 0 where
+pub record Told (outcome : Outcome) (took : List (List ℕ) → Type 0) (broke refuses : List (List ℕ) → List ℕ → Type 0) (output : List (List ℕ) → List ℕ) (bytes : List ℕ) (left before after : Option (List ℕ)) : Type 0 where
   pub texts : List (List ℕ)
   pub rest : List (List ℕ)
   pub parts : (lined bytes).texts ≡ texts ++ rest
-  pub taken : took texts
+  pub taken : HasTaken outcome took broke texts rest
   pub because : Because outcome refuses bytes left texts rest
   pub front : List ℕ
   pub back : List ℕ

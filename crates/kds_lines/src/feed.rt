@@ -52,7 +52,7 @@ fn take_joined<T: Taker>(
         → T.took taker.new lines × T.refuses lines (held.old ++ tail.now)) }
     ensures silent { IfOk result (λ more. more ≡ false → output.new ≡ output.old) }
     ensures breaks { OnErr result ((lines : List (List ℕ)) → T.took taker.old lines
-        → Breaks (T.took taker.new) T.output lines (held.old ++ tail.now)) }
+        → Breaks (T.took taker.new) (T.broke taker.new) T.output lines (held.old ++ tail.now)) }
     ensures same { OnErr result (output.new ≡ output.old) }
     ensures size { length held.new ≤ length held.old + length tail.now }
 {
@@ -73,7 +73,7 @@ fn end_line<T: Taker>(
     ensures ok { OnOk result ((held : Option (List ℕ)) →
         EndsLine (T.took taker.old) (T.took taker.new) T.output reading.old reading.new held held tail.now) }
     ensures err { IfErr result (λ o. (held : Option (List ℕ)) →
-        StopsInLine (T.took taker.old) (T.took taker.new) T.output reading.old reading.new held held T.refuses o tail.now) }
+        StopsInLine (T.took taker.old) (T.took taker.new) T.output reading.old reading.new held held (T.broke taker.new) T.refuses o tail.now) }
     ensures count { OnOk result (fed_count reading.new ≡ fed_count reading.old + length tail.now + 1) }
     ensures kinds { IfErr result IsOwnStop }
 {
@@ -106,7 +106,7 @@ fn next_line<T: Taker, K: Sink>(
     ensures ok { OnOk result
         (EndsLine (T.took taker.old) (T.took taker.new) T.output reading.old reading.new (K.held out.old) (K.held out.new) tail.now) }
     ensures err { IfErr result (λ o.
-        StopsInLine (T.took taker.old) (T.took taker.new) T.output reading.old reading.new (K.held out.old) (K.held out.new) T.refuses o tail.now) }
+        StopsInLine (T.took taker.old) (T.took taker.new) T.output reading.old reading.new (K.held out.old) (K.held out.new) (T.broke taker.new) T.refuses o tail.now) }
     ensures count { OnOk result (fed_count reading.new ≡ fed_count reading.old + length tail.now + 1) }
     ensures later { K.faults out.old ≤ K.faults out.new }
     ensures write { IsErrOf result Outcome.Write → Rose (K.faults out.old) (K.faults out.new) }
@@ -132,7 +132,7 @@ fn feed_lines<'a, T: Taker, K: Sink>(
     ensures rest { IfOk result (λ rest. NoFeed rest.now) }
     ensures count { IfOk result (λ rest. fed_count reading.new + length rest.now ≡ fed_count reading.old + length piece.entry.now) }
     ensures err { IfErr result (λ o.
-        StopsIn (T.took taker.old) (T.took taker.new) T.output reading.old reading.new (K.held out.old) (K.held out.new) T.refuses o piece.entry.now) }
+        StopsIn (T.took taker.old) (T.took taker.new) T.output reading.old reading.new (K.held out.old) (K.held out.new) (T.broke taker.new) T.refuses o piece.entry.now) }
     ensures later { K.faults out.old ≤ K.faults out.new }
     ensures write { IsErrOf result Outcome.Write → Rose (K.faults out.old) (K.faults out.new) }
     ensures kinds { IfErr result IsFeedStop }
@@ -182,7 +182,7 @@ pub fn feed<T: Taker, K: Sink>(
         (Feeds (T.took taker.old) (T.took taker.new) T.output reading.old reading.new (K.held out.old) (K.held out.new) piece.now) }
     ensures count { OnOk result (fed_count reading.new ≡ fed_count reading.old + length piece.now) }
     ensures err { IfErr result (λ o.
-        StopsIn (T.took taker.old) (T.took taker.new) T.output reading.old reading.new (K.held out.old) (K.held out.new) T.refuses o piece.now) }
+        StopsIn (T.took taker.old) (T.took taker.new) T.output reading.old reading.new (K.held out.old) (K.held out.new) (T.broke taker.new) T.refuses o piece.now) }
     ensures later { K.faults out.old ≤ K.faults out.new }
     ensures write { IsErrOf result Outcome.Write → Rose (K.faults out.old) (K.faults out.new) }
     ensures kinds { IfErr result IsFeedStop }

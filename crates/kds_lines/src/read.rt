@@ -3,7 +3,7 @@ ghost use Rattle.std.specs.Prelude.{◌≡◌, ◌<◌, ◌≤◌, [], List, ℕ
 ghost use Rattle.std.specs.declared.option.Option.{Option};
 ghost use Rattle.std.specs.Io.KnownBytes.{IsAtEnd};
 ghost use Rattle.kds_ends.specs.Causes.{Rose};
-ghost use Rattle.kds_lines.specs.Reading.{RunsOn, StopsRunning, IsStop, fed_count};
+ghost use Rattle.kds_lines.specs.Reading.{RunsOn, StopsRunning, IsStop, fed_count, lost_after};
 ghost use Rattle.kds_lines.specs.Telling.{Told};
 
 use crate::feed::feed;
@@ -15,6 +15,17 @@ use std::alloc::Global;
 
 /// The bytes of one read.
 const PIECE_BYTES: usize = 65_536;
+
+/// How the reading ends where the output of a piece that was fed can't be written: with want of memory where that came
+/// before, since a line may have been taken in part.
+fn lost_after(fed: Result<(), Outcome>) -> Outcome
+    ensures { result ≡ lost_after fed }
+{
+    match fed {
+        Err(Outcome::Memory) => Outcome::Memory,
+        _ => Outcome::Write,
+    }
+}
 
 /// Reads a piece, feeds it, and writes the output of its lines. The answer is whether there was one.
 fn step<T: Taker, S: Source, K: Sink>(
@@ -31,7 +42,7 @@ fn step<T: Taker, S: Source, K: Sink>(
     ensures grows { IfOk result (λ more. more ≡ true → fed_count reading.old < fed_count reading.new) }
     ensures ends { IfOk result (λ more. more ≡ false → IsAtEnd (S.left input.new)) }
     ensures err { IfErr result (λ o. StopsRunning (T.took taker.old) (T.took taker.new) T.output
-        (S.left input.old) (S.left input.new) (K.held out.old) (K.held out.new) T.refuses o reading.old) }
+        (S.left input.old) (S.left input.new) (K.held out.old) (K.held out.new) (T.broke taker.new) T.refuses o reading.old) }
     ensures source_later { S.faults input.old ≤ S.faults input.new }
     ensures sink_later { K.faults out.old ≤ K.faults out.new }
     ensures read { IsErrOf result Outcome.Read → Rose (S.faults input.old) (S.faults input.new) }
@@ -45,7 +56,7 @@ fn step<T: Taker, S: Source, K: Sink>(
             let fed = feed(alloc, taker, reading, piece, out);
             match reading.flush(out) {
                 Ok(()) => {}
-                Err(_) => return Err(Outcome::Write),
+                Err(_) => return Err(lost_after(fed)),
             }
             match fed {
                 Ok(()) => Ok(true),
@@ -79,7 +90,7 @@ pub fn read_lines<T: Taker, S: Source, K: Sink>(
 ) -> Outcome
     requires { T.took taker.old [] }
     ensures told { IfSome (S.left input.old) (λ bytes.
-        Told result (T.took taker.new) T.refuses T.output bytes (S.left input.new) (K.held out.old) (K.held out.new)) }
+        Told result (T.took taker.new) (T.broke taker.new) T.refuses T.output bytes (S.left input.new) (K.held out.old) (K.held out.new)) }
     ensures read { result ≡ Outcome.Read → Rose (S.faults input.old) (S.faults input.new) }
     ensures write { result ≡ Outcome.Write → Rose (K.faults out.old) (K.faults out.new) }
     ensures later { K.faults out.old ≤ K.faults out.new }
