@@ -1,5 +1,5 @@
 -- Where an audit stands after one more line.
-use Rattle.std.proofs.Common.{◌≡◌, ℕ, Bool, true, false, List, [], ◌∷◌, ◌++◌, refl, sym, ap, subst, ◌∙◌, inr, Some, None}
+use Rattle.std.proofs.Common.{◌≡◌, ℕ, Bool, true, false, List, [], ◌∷◌, ◌++◌, refl, sym, ap, subst, ◌∙◌, inl, inr, Some, None}
 use Rattle.std.specs.Prelude.{Result, Ok, Err, OnErr, codes}
 use Rattle.std.proofs.lemmas.List.{append-nil}
 use Rattle.kds_lines.specs.Lines.{End, unfinished, whole}
@@ -12,7 +12,7 @@ use Rattle.kcl_journal.specs.declared.line.EntryLine.{EntryLine}
 use Rattle.kcl_journal.specs.Entries.{IsVersion}
 use Rattle.kcl_streams.specs.Verdict.{Verdict}
 use Rattle.kcl_audit.specs.Progress.{Progress, after_end, after_entry, closed, fresh, going, line_of, next, progress, progress_from, step}
-use Rattle.kcl_auditor.specs.Standing.{Finishes, IsAt, IsNamed, IsOver, TakerValue, Took, end_by, is_bad, is_found, name_in, stage_report, texts_report}
+use Rattle.kcl_auditor.specs.Standing.{Broke, Finishes, IsAt, IsNamed, IsOver, TakerValue, Took, end_by, is_bad, is_found, name_in, stage_report, texts_report}
 use Rattle.kcl_audit.specs.Text.{named_text, report, rule_name, sound_text}
 
 from_last : (p : Progress) (texts : List (List ℕ)) (text : List ℕ) → progress_from p (texts ++ text ∷ []) ≡ step (progress_from p texts) text
@@ -74,8 +74,8 @@ module _ (old new : TakerValue) (texts : List (List ℕ)) (text : List ℕ) (bef
   pub goes_on : (from to : List ℕ) → to ≡ from ++ stage_report new.stage → Goes (Took new) texts_report texts text from to
   goes_on from to wrote = record { taken = takes; added = stage_report new.stage; grows = grows; wrote = wrote }
 
-  pub breaks_off : Breaks (Took new) texts_report texts text
-  breaks_off = inr (takes, (stage_report new.stage, grows))
+  pub breaks_off : Breaks (Took new) (Broke new) texts_report texts text
+  breaks_off = inr (inl (takes, (stage_report new.stage, grows)))
 
 pub on_err : {A B : Type 0} (r : Result A B) (X : Type 0) → X → OnErr r X
 on_err (Ok x) X h = tt

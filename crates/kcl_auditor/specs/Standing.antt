@@ -45,6 +45,10 @@ IsAt (stage.Found n name) a p = IsNamed n name.now p
 abbrev pub Took : TakerValue → List (List ℕ) → Type 0
 Took v texts = IsAt v.stage v.judge (progress texts)
 
+-- no line is taken in part
+abbrev pub Broke : TakerValue → List (List ℕ) → List ℕ → Type 0
+Broke v texts text = ⊥
+
 -- one of the lines was bad, so that no more are taken
 abbrev pub IsOver : List (List ℕ) → List ℕ → Type 0
 IsOver texts text = (n : ℕ) × ((r : Rule) × (progress texts ≡ found n r))

@@ -126,9 +126,11 @@ impl AuditTaker {
 /// An audit takes the lines of a journal's text, and no more once an entry was bad.
 impl Taker for AuditTaker {
     ghost use Rattle.std.specs.Prelude.{refl};
-    ghost use Rattle.kcl_auditor.specs.Standing.{IsOver, Took, texts_report};
+    ghost use Rattle.kcl_auditor.specs.Standing.{Broke, IsOver, Took, texts_report};
 
     ghost took = { Took };
+
+    ghost broke = { Broke };
 
     ghost refuses = { IsOver };
 
