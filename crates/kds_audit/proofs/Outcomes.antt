@@ -4,10 +4,10 @@ use Rattle.kds_ends.specs.declared.status.Status.{Status}
 use Rattle.kds_ends.specs.declared.status.Status.TheVariants as status
 use Rattle.kds_lines.specs.declared.outcome.Outcome.{Outcome}
 use Rattle.kds_lines.specs.declared.outcome.Outcome.TheVariants as outcome
-use Rattle.kds_lines.specs.Telling.{Told, Unwritten}
+use Rattle.kds_lines.specs.Telling.{HasTaken, Told, Unwritten}
 use Rattle.kcl_audit.specs.Progress.{finish, progress}
 use Rattle.kcl_audit.specs.Text.{report}
-use Rattle.kcl_auditor.specs.Standing.{IsOver, TakerValue, Took, end_by, is_bad, texts_report}
+use Rattle.kcl_auditor.specs.Standing.{Broke, IsOver, TakerValue, Took, end_by, is_bad, texts_report}
 use Rattle.kds_audit.specs.Audited.{TellsAudit, TellsEnd}
 use Rattle.kds_audit.proofs.Ends.{is_bad_found}
 use Rattle.kds_audit.proofs.Telling.{bad_tells, end_tells, long_tells, memory_tells, read_tells, write_tells}
@@ -22,9 +22,19 @@ all_of outcome.TooLong back w m u = u
 all_of (outcome.Stopped n) back w m u = u
 all_of outcome.Read back w m u = u
 
+-- and the lines were taken whole
+taken_of : (o : Outcome) (v : TakerValue) (texts rest : List (List ℕ)) → (o ≡ outcome.Memory → ⊥) → HasTaken o (Took v) (Broke v) texts rest → Took v texts
+taken_of outcome.Memory v texts rest m t = absurd (m refl)
+taken_of outcome.Write v texts rest m t = t
+taken_of outcome.Whole v texts rest m t = t
+taken_of (outcome.Unfinished n) v texts rest m t = t
+taken_of outcome.TooLong v texts rest m t = t
+taken_of (outcome.Stopped n) v texts rest m t = t
+taken_of outcome.Read v texts rest m t = t
+
 module _ (v : TakerValue) (bytes : List ℕ) (left start mid : Option (List ℕ)) where
   abbrev Reads : Outcome → Type 0
-  Reads o = Told o (λ ts. Took v ts) IsOver texts_report bytes left start mid
+  Reads o = Told o (Took v) (Broke v) IsOver texts_report bytes left start mid
 
   pub told_write : (o : Outcome) → Reads o → TellsAudit status.Write bytes start mid
   told_write o t = write_tells bytes t.texts t.rest t.front t.back start mid t.parts t.output_is t.written
@@ -36,7 +46,7 @@ module _ (v : TakerValue) (bytes : List ℕ) (left start mid : Option (List ℕ)
   pub told_bad : (o : Outcome) → (o ≡ outcome.Write → ⊥) → (o ≡ outcome.Memory → ⊥) → ((texts : List (List ℕ)) → Took v texts → true ≡ is_bad (progress texts)) → Reads o
       → TellsAudit status.Unsound bytes start mid
   told_bad o w m bad t =
-      bad_tells bytes t.texts t.rest t.front t.back start mid t.parts t.output_is t.written (all_of o t.back w m t.unwritten) (sym (bad t.texts t.taken))
+      bad_tells bytes t.texts t.rest t.front t.back start mid t.parts t.output_is t.written (all_of o t.back w m t.unwritten) (sym (bad t.texts (taken_of o v t.texts t.rest m t.taken)))
 
   -- no entry was bad
   module _ (good : (texts : List (List ℕ)) → Took v texts → false ≡ is_bad (progress texts)) where

@@ -1,6 +1,6 @@
 use Rattle.std.proofs.Common.{subst}
 use Rattle.kds_lines.specs.Telling.{Told}
-use Rattle.kcl_auditor.specs.Standing.{IsOver, Took, texts_report}
+use Rattle.kcl_auditor.specs.Standing.{Broke, IsOver, Took, texts_report}
 use Rattle.kds_audit.proofs.Outcomes.{told_bad, told_memory, told_unfinished, told_whole, told_write}
 use Rattle.kds_audit.proofs.run.end_audit.Goals as goal
 
@@ -17,10 +17,10 @@ pub returns-in-Whole-clause-told : goal.returns-in-Whole-clause-told
 returns-in-Whole-clause-told g c = λ bytes left start t.
     let mid = g.K.Sink.held c.args.out.now in
     told_whole c.args.taker.now bytes left start mid _ c.tell_end.result c.tell_end.ensures.told
-    (subst (λ o. Told o (λ ts. Took c.args.taker.now ts) IsOver texts_report bytes left start mid) c.in-Whole.is t)
+    (subst (λ o. Told o (Took c.args.taker.now) (Broke c.args.taker.now) IsOver texts_report bytes left start mid) c.in-Whole.is t)
 
 pub returns-in-Unfinished-clause-told : goal.returns-in-Unfinished-clause-told
 returns-in-Unfinished-clause-told g c = λ bytes left start t.
     let mid = g.K.Sink.held c.args.out.now in
     told_unfinished c.args.taker.now bytes left start mid _ c.tell_end-in-Unfinished.result c.in-Unfinished.field-0 c.tell_end-in-Unfinished.ensures.told
-    (subst (λ o. Told o (λ ts. Took c.args.taker.now ts) IsOver texts_report bytes left start mid) c.in-Unfinished.is t)
+    (subst (λ o. Told o (Took c.args.taker.now) (Broke c.args.taker.now) IsOver texts_report bytes left start mid) c.in-Unfinished.is t)
