@@ -1,6 +1,6 @@
 -- What was given in a tenure whose row was freed by a hand-off is marked.
 use Rattle.std.proofs.Common.{◌≡◌, ℕ, zero, suc, ◌+◌, ◌≤◌, true, List, [], ◌∷◌, ◌++◌, take, drop, Option, Some, None, refl, sym, ap, subst, ◌∙◌, arith, inl, inr, append_assoc}
-use Rattle.std.specs.Prelude.{◌==◌, ◌⊎◌, map, IsSome}
+use Rattle.std.specs.Prelude.{◌==◌, map}
 use Rattle.std.specs.List.{AllByRecursion}
 use Rattle.std.proofs.lemmas.Bool.Decides.{nat_tests}
 use Rattle.std.proofs.lemmas.List.{take-append-drop}
@@ -12,26 +12,23 @@ use Rattle.kds_defs.specs.declared.reply.Stored.{Stored}
 use Rattle.kds_defs.specs.Histories.{clock, journal}
 use Rattle.kds_defs.specs.Lawful.{IsHistory}
 use Rattle.kds_defs.specs.Leases.{ReadDone, TenureState, checkpoint_in, given_reads, row, tenure}
-use Rattle.kds_defs.specs.Safe.{IsAmong, IsRead, RiseFrom, all_numbers}
+use Rattle.kds_defs.specs.Safe.{IsAmong, RiseFrom, all_numbers}
 use Rattle.kcl_laws.proofs.CoverageLemmas.{all_covered}
 use Rattle.kcl_laws.proofs.LegalLemmas.{journals}
 use Rattle.kcl_laws.proofs.Steps.{same_some}
 use Rattle.kcl_defs.specs.declared.consumer.Fetched.{Fetched}
 use Rattle.kcl_defs.specs.declared.consumer.Tenancy.{Tenancy}
 use Rattle.kcl_defs.specs.declared.consumer.WorkerMade.{WorkerMade}
-use Rattle.kcl_defs.specs.Consumers.{last_number_in, over_at}
-use Rattle.kcl_defs.specs.Lives.{Deal, deals_of, gives_after, gives_in, last_given, reads_after, reads_in, records_in}
+use Rattle.kcl_defs.specs.Lives.{deals_of, gives_after, gives_in, last_given, reads_after, reads_in, records_in}
 use Rattle.kcl_defs.specs.WorkerLives.{AreOfTenure, IsOfTenure, read_done}
 use Rattle.kcl_defs.specs.Workers.{phase_of_known}
 use Rattle.kcl_defs.proofs.DealLemmas.{new_tenures, of_tenure}
 use Rattle.kcl_defs.proofs.GiveLemmas.{AreGivesTaken, gives_taken}
 use Rattle.kcl_defs.proofs.GivenLemmas.{last_is, last_of}
 use Rattle.kcl_defs.proofs.WorkerLemmas.{AreNewTenures, InStep}
-use Rattle.kcl_hand.specs.declared.stand.Left.TheVariants as left
-use Rattle.kcl_hand.specs.declared.stand.Stand.TheVariants as stand
 use Rattle.kcl_hand.specs.Joints.{AreOrderly, AreToldIn, HandOff, IsHandServed, JointPast, hands_after, joint_deals, known_in, state_of, worker_in}
 use Rattle.kcl_hand.specs.Standing.{IsGoing}
-use Rattle.kcl_hand.specs.Twice.{IsHandedOff, IsHandedOffIfFreed, IsMarked, IsNeverReadAgain, IsUpTo}
+use Rattle.kcl_hand.specs.Twice.{IsHandedOffIfFreed, IsMarked, IsNeverReadAgain, IsUpTo}
 use Rattle.kcl_hand.proofs.HandLemmas.{IsHandOk, IsMarkedAt, MarkOf, all_ok}
 use Rattle.kcl_hand.proofs.Jointly.{all_left}
 use Rattle.kcl_hand.proofs.MarkLemmas.{HasMarked, marked_in}

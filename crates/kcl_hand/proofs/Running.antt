@@ -1,6 +1,6 @@
 -- A hand-off that is run to its end.
-use Rattle.std.proofs.Common.{◌≡◌, ℕ, zero, suc, ◌+◌, ◌<◌, ◌≤◌, List, [], ◌∷◌, ◌++◌, length, Option, Some, None, refl, sym, ap, subst, ◌∙◌, arith}
-use Rattle.std.specs.Prelude.{IsSome, map, Result}
+use Rattle.std.proofs.Common.{◌≡◌, ℕ, zero, suc, ◌≤◌, List, [], ◌∷◌, ◌++◌, length, Option, Some, None, refl, sym, ap, subst, ◌∙◌, arith}
+use Rattle.std.specs.Prelude.{IsSome, Result}
 use Rattle.kds_base.specs.declared.lease_key.ShardRef.{ShardRef}
 use Rattle.kds_defs.specs.declared.command.Command.{Command}
 use Rattle.kds_defs.specs.declared.command.Turn.{Turn}
@@ -10,14 +10,14 @@ use Rattle.kds_defs.specs.Histories.{answer}
 use Rattle.kcl_defs.specs.declared.consumer.Ask.TheVariants as ask
 use Rattle.kcl_defs.specs.declared.consumer.Due.{Due}
 use Rattle.kcl_defs.specs.declared.consumer.WorkerMade.{WorkerMade}
-use Rattle.kcl_defs.specs.Consumers.{Answered, Called, Giving, Leaving, Losing, Over, Phase, after_answer, after_call, after_loss, due_call, over_at, phase_after}
-use Rattle.kcl_defs.specs.Lives.{Deal, last_given}
-use Rattle.kcl_defs.specs.Workers.{Release, Released, released}
+use Rattle.kcl_defs.specs.Consumers.{Answered, Called, Giving, Leaving, Losing, Over, Phase, due_call, over_at, phase_after}
+use Rattle.kcl_defs.specs.Lives.{last_given}
+use Rattle.kcl_defs.specs.Workers.{Release, released}
 use Rattle.kcl_hand.specs.declared.stand.Stand.{Stand}
 use Rattle.kcl_hand.specs.declared.stand.Stand.TheVariants as stand
-use Rattle.kcl_hand.specs.Handing.{HandEvent, HandPast, HandState, Hand_answered, Hand_called, answered_at, called_at, command_at, hand_command, hand_due, hand_left, left_at, stand_by}
-use Rattle.kcl_hand.specs.Joints.{HandOff, JointPast, Of_hand, Of_worker, answered_deals, begun, command_in, hand_of, hands_after, joint_deals, state_of, with_hand_event, worker_in}
-use Rattle.kcl_hand.specs.Runs.{HandRun, answered_by, called_if, called_up, hand_run, or_stop, run_hand, turn_of, with_first, with_hand}
+use Rattle.kcl_hand.specs.Handing.{HandEvent, HandPast, HandState, Hand_answered, answered_at, called_at, command_at, hand_command, hand_due, hand_left, left_at, stand_by}
+use Rattle.kcl_hand.specs.Joints.{HandOff, JointPast, answered_deals, begun, command_in, hand_of, hands_after, joint_deals, state_of, with_hand_event, worker_in}
+use Rattle.kcl_hand.specs.Runs.{answered_by, called_if, called_up, hand_run, or_stop, run_hand, turn_of, with_first, with_hand}
 use Rattle.kcl_hand.specs.Standing.{IsGoing, IsLeaving, turns_left}
 use Rattle.kcl_hand.proofs.Handings.{answered_few, at_its_consumer, answered_leaves, called_few, called_leaves, few, freed_few, freed_goes, goes, lost_leaves, marked_few, marked_goes}
 

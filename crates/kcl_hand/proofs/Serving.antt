@@ -1,19 +1,15 @@
 -- The processors of a worker, and of what it released, in a history.
-use Rattle.std.proofs.Common.{◌≡◌, ℕ, zero, suc, ◌+◌, ◌≤◌, Bool, true, false, List, [], ◌∷◌, ◌++◌, Option, Some, None, refl, sym, ap, subst, ◌∙◌, arith}
-use Rattle.std.specs.Prelude.{◌||◌, map, Result}
+use Rattle.std.proofs.Common.{◌≡◌, ℕ, zero, suc, ◌+◌, ◌≤◌, true, List, [], ◌∷◌, ◌++◌, Option, Some, None, refl, sym, subst, ◌∙◌, arith}
+use Rattle.std.specs.Prelude.{map}
 use Rattle.std.specs.List.{AllByRecursion}
-use Rattle.std.proofs.lemmas.List.{append-nil}
 use Rattle.kds_defs.specs.declared.command.Command.{Command}
 use Rattle.kds_defs.specs.declared.command.Turn.{Turn}
 use Rattle.kcl_defs.specs.declared.consumer.WorkerMade.{WorkerMade}
-use Rattle.kds_defs.specs.declared.reply.Refusal.{Refusal}
-use Rattle.kds_defs.specs.declared.reply.Reply.{Reply}
-use Rattle.kcl_defs.specs.Consumers.{Called, Losing, calls_after}
+use Rattle.kcl_defs.specs.Consumers.{calls_after}
 use Rattle.kcl_defs.specs.Lives.{Deal, deals_of, gives_in, reads_in, IsLifeAmong, IsWholeLife}
-use Rattle.kcl_defs.specs.WorkerLives.{IsServed, IsServedWhole}
-use Rattle.kcl_defs.specs.Workers.{Chore, Surveying, Syncing, Taking, Renewing, Consuming, Finishing, Freeing, Known, Pending, Release, Released, WorkerEvent, Made_call, Gave_command, Got_answer, Stopped, WorkerState, after_worker_event, deals_with, id_of_held, is_over, known_of, leaving, phase_of_known, released, with_deal, with_event}
+use Rattle.kcl_defs.specs.Workers.{Chore, Surveying, Syncing, Taking, Renewing, Consuming, Finishing, Freeing, Known, Pending, Release, Released, WorkerEvent, Made_call, Gave_command, Got_answer, Stopped, WorkerState, after_worker_event, deals_with, id_of_held, is_over, known_of, leaving, phase_of_known, released, with_deal}
 use Rattle.kcl_defs.proofs.DealLemmas.{new_tenures}
-use Rattle.kcl_defs.proofs.GiveLemmas.{AreGivesTaken, IsGiveTaken, gives_taken}
+use Rattle.kcl_defs.proofs.GiveLemmas.{AreGivesTaken, gives_taken}
 use Rattle.kcl_defs.proofs.RetiredLemmas.{AreUnrefused, IsUnrefused, all_whole, answered_unrefused, called_unrefused, lost_unrefused, state_unrefused, whole_among}
 use Rattle.kcl_defs.proofs.StepLemmas.{life_among}
 use Rattle.kcl_defs.proofs.TenancyLemmas.{all_both, all_tenures, of_tenancy}
@@ -21,7 +17,7 @@ use Rattle.kcl_defs.proofs.WorkerLemmas.{AreGood, AreNewTenures, InStep, IsFine,
 use Rattle.kcl_hand.specs.declared.stand.Stand.{Stand}
 use Rattle.kcl_hand.specs.declared.stand.Stand.TheVariants as stand
 use Rattle.kcl_hand.specs.Handing.{HandEvent, Hand_answered, Hand_called, answered_at, called_at, command_at, hand_command}
-use Rattle.kcl_hand.specs.Joints.{AreAllServed, AreOrderly, AreToldIn, HandOff, IsHandServed, JointEvent, JointPast, MayHand, Of_hand, Of_worker, begun, begun_by, command_in, hand_deals, hands_after, joint_deals, known_in, state_of, with_hand_event, worker_in}
+use Rattle.kcl_hand.specs.Joints.{AreAllServed, AreOrderly, AreToldIn, HandOff, IsHandServed, JointPast, MayHand, Of_hand, Of_worker, begun, begun_by, command_in, hand_deals, hands_after, joint_deals, known_in, state_of, with_hand_event, worker_in}
 use Rattle.kcl_hand.proofs.Jointly.{JointFine, all_left, all_right, found_all, hand_joint, map-append, release_is, worker_joint}
 use Rattle.kcl_hand.proofs.Tenancies.{AreAllBegun, IsBegunHand, all_begun}
 use Rattle.kcl_hand.proofs.Widened.{wide_consumer, widened}

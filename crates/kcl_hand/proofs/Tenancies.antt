@@ -8,7 +8,7 @@ use Rattle.kds_defs.specs.declared.reply.Refusal.{Refusal}
 use Rattle.kds_defs.specs.declared.reply.Reply.{Reply}
 use Rattle.kcl_defs.specs.declared.consumer.WorkerMade.{WorkerMade}
 use Rattle.kcl_defs.specs.Lives.{Deal}
-use Rattle.kcl_defs.specs.Workers.{Known, Pending, Release, Released, WorkerEvent, Made_call, Gave_command, Got_answer, Stopped, WorkerState, deals_with, id_of_held, leaving, released, with_deal}
+use Rattle.kcl_defs.specs.Workers.{Pending, Release, Released, WorkerEvent, Made_call, Gave_command, Got_answer, Stopped, WorkerState, deals_with, id_of_held, leaving, released, with_deal}
 use Rattle.kcl_defs.proofs.TenancyLemmas.{AreBegun, IsBegun, IsBegunIn, state_begun}
 use Rattle.kcl_defs.proofs.WorkerLemmas.{all_map}
 use Rattle.kcl_hand.specs.Handing.{HandEvent, Hand_answered, Hand_called}
