@@ -1,0 +1,163 @@
+//! The hand-off of a lease by a pass: its calls between turns, each of its commands a turn at one moment.
+ghost use Rattle.std.specs.Prelude.{◌≡◌, ◌<◌, ◌≤◌, ℕ, None, Some, IfErr, IfNone, IfOk, IfSome, IsSome, OnErr, OnOk};
+ghost use Rattle.std.specs.Option.{MatchOption};
+ghost use Rattle.kcl_defs.specs.Consumers.{due_call};
+ghost use Rattle.kcl_defs.specs.Workers.{WorkerPast};
+ghost use Rattle.kcl_hand.specs.Handing.{left_at};
+ghost use Rattle.kcl_hand.specs.Standing.{turns_left_in};
+ghost use Rattle.kcl_worker.specs.Standing.{StandsFor};
+ghost use Rattle.kds_turn.specs.Known.{Continues};
+ghost use Rattle.kds_turn.specs.Passes.{Standing};
+ghost use Rattle.kcl_live.specs.Hands.{Goes, HandWasCut, HasHandedOff, HasNothing, StoodStill};
+
+use kcl_consumer::{Maker, Processor};
+use kcl_hand::{Handover, Left, handed, service};
+use kcl_worker::Worker;
+use kds_base::{Memory, Moment, ShardRef};
+use kds_defs::Machine;
+use kds_turn::{Hall, Pass, TurnErr};
+use std::sync::Wait;
+
+/// Makes the processor call that is due, if there is one. Memory: the processor's; then its call is still due.
+fn call_one<P: Processor>(hand: &mut Handover<P>) -> Result<(), TurnErr>
+    ensures held { hand.new.held ≡ hand.old.held }
+    ensures made { hand.new.consumer.made ≡ hand.old.consumer.made }
+    ensures none_due { OnOk result (due_call hand.new.consumer.phase ≡ None) }
+    ensures few { OnOk result (turns_left_in hand.new ≤ turns_left_in hand.old) }
+    ensures goes { (at : ℕ) (q : Standing) → Goes P.stands_for at hand.old hand.new q q }
+    ensures error { IfErr result (λ e. e ≡ TurnErr.Memory) }
+    ensures left { OnErr result (IsSome (due_call hand.new.consumer.phase)) }
+{
+    match hand.due() {
+        Some(_) => match hand.call() {
+            Ok(()) => Ok(()),
+            Err(Memory) => Err(TurnErr::Memory),
+        },
+        None => Ok(()),
+    }
+}
+
+/// The hand-off's next command as a turn of the pass at this moment, whose answer it takes.
+fn answer_one<M: Machine, P: Processor, R: Wait>(
+    rt: &R,
+    hall: &Hall<M>,
+    pass: &mut Pass<M>,
+    hand: &mut Handover<P>,
+    at: Moment,
+) -> Result<(), TurnErr>
+    requires hall { pass.old.hall ≡ hall.now.id }
+    requires none_due { due_call hand.old.consumer.phase ≡ None }
+    requires going { left_at hand.old.stand ≡ None }
+    ensures kept { (pass.new.hall ≡ pass.old.hall) × (pass.new.by ≡ pass.old.by) × (pass.new.joined ≡ pass.old.joined) }
+    ensures held { hand.new.held ≡ hand.old.held }
+    ensures made { hand.new.consumer.made ≡ hand.old.consumer.made }
+    ensures seen { Continues pass.new.seen pass.old.seen }
+    ensures few { OnOk result (turns_left_in hand.new < turns_left_in hand.old) }
+    ensures goes { Goes P.stands_for at hand.old hand.new pass.old pass.new }
+    ensures still { IfErr result (StoodStill hand.new pass.new) }
+{
+    let what = hand.next();
+    match hall.turn(rt, pass, at, what) {
+        Ok(answer) => {
+            hand.absorb(answer);
+            Ok(())
+        }
+        Err(error) => Err(error),
+    }
+}
+
+/// The call that is due, if there is one, and then the next command, if the hand-off hasn't ended: how it ended, where it has.
+fn advance<M: Machine, P: Processor, R: Wait>(
+    rt: &R,
+    hall: &Hall<M>,
+    pass: &mut Pass<M>,
+    hand: &mut Handover<P>,
+    at: Moment,
+) -> Result<Option<Left>, TurnErr>
+    requires hall { pass.old.hall ≡ hall.now.id }
+    ensures kept { (pass.new.hall ≡ pass.old.hall) × (pass.new.by ≡ pass.old.by) × (pass.new.joined ≡ pass.old.joined) }
+    ensures held { hand.new.held ≡ hand.old.held }
+    ensures made { hand.new.consumer.made ≡ hand.old.consumer.made }
+    ensures seen { Continues pass.new.seen pass.old.seen }
+    ensures few { IfOk result (λ o. IfNone o (turns_left_in hand.new < turns_left_in hand.old)) }
+    ensures ended { IfOk result (λ o. IfSome o (λ left. left_at hand.new.stand ≡ Some left)) }
+    ensures goes { Goes P.stands_for at hand.old hand.new pass.old pass.new }
+    ensures still { IfErr result (StoodStill hand.new pass.new) }
+{
+    match call_one(hand) {
+        Ok(()) => {}
+        Err(error) => return Err(error),
+    }
+    if let Some(left) = hand.over() {
+        return Ok(Some(left));
+    }
+    match answer_one(rt, hall, pass, hand, at) {
+        Ok(()) => Ok(None),
+        Err(error) => Err(error),
+    }
+}
+
+/// Runs a hand-off to its end.
+fn carry<M: Machine, P: Processor, R: Wait>(
+    rt: &R,
+    hall: &Hall<M>,
+    pass: &mut Pass<M>,
+    hand: &mut Handover<P>,
+    at: Moment,
+) -> Result<Left, TurnErr>
+    requires hall { pass.old.hall ≡ hall.now.id }
+    ensures kept { (pass.new.hall ≡ pass.old.hall) × (pass.new.by ≡ pass.old.by) × (pass.new.joined ≡ pass.old.joined) }
+    ensures held { hand.new.held ≡ hand.old.held }
+    ensures made { hand.new.consumer.made ≡ hand.old.consumer.made }
+    ensures seen { Continues pass.new.seen pass.old.seen }
+    ensures goes { Goes P.stands_for at hand.old hand.new pass.old pass.new }
+    ensures ended { IfOk result (λ left. left_at hand.new.stand ≡ Some left) }
+    ensures still { IfErr result (StoodStill hand.new pass.new) }
+{
+    loop {
+        match advance(rt, hall, pass, hand, at) {
+            Ok(Some(left)) => return Ok(left),
+            Ok(None) => {}
+            Err(error) => return Err(error),
+        }
+    }
+}
+
+/// Hands off the lease of a key: its consumer's batch is finished, what was given is marked, and the row is freed, each
+/// command a turn of the pass at this moment. None where the worker has no such lease. No turn is held while the processor
+/// is called. Memory: the processor's want of memory. Spent: the hall's history is full. After an error the lease is left as
+/// the turns that were made say.
+pub fn hand_over<M: Machine, P: Processor + Drop, F: Maker<P>, R: Wait>(
+    rt: &R,
+    hall: &Hall<M>,
+    pass: &mut Pass<M>,
+    worker: &mut Worker<P, F>,
+    key: ShardRef,
+    at: Moment,
+) -> Result<Option<(Left, P)>, TurnErr>
+    requires hall { pass.old.hall ≡ hall.now.id }
+    requires free { worker.old.waiting ≡ None }
+    ensures kept { (pass.new.hall ≡ pass.old.hall) × (pass.new.by ≡ pass.old.by) × (pass.new.joined ≡ pass.old.joined) }
+    ensures made { worker.new.made ≡ worker.old.made }
+    ensures maker { worker.new.maker ≡ worker.old.maker }
+    ensures free { worker.new.waiting ≡ None }
+    ensures seen { Continues pass.new.seen pass.old.seen }
+    ensures ok { IfOk result (λ o. (past : WorkerPast) → StandsFor P.stands_for worker.old past
+        → MatchOption o (HasNothing P.stands_for at key worker.old worker.new pass.old pass.new past)
+        (λ out. HasHandedOff P.stands_for at key worker.old worker.new pass.old pass.new out.0 out.1 past)) }
+    ensures err { IfErr result (λ e. (past : WorkerPast) → StandsFor P.stands_for worker.old past
+        → HandWasCut P.stands_for at key worker.old worker.new pass.old pass.new e past) }
+{
+    match worker.release(key) {
+        None => Ok(None),
+        Some((held, consumer)) => {
+            let mut hand = Handover::new(held, consumer);
+            service();
+            handed();
+            match carry(rt, hall, pass, &mut hand, at) {
+                Ok(left) => Ok(Some((left, hand.into_processor()))),
+                Err(error) => Err(error),
+            }
+        }
+    }
+}
