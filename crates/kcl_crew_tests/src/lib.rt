@@ -1,5 +1,6 @@
 //! Tests of workers on threads, of what no schedule reaches: that those of a crew, and those of a drill's crowd, run beside one
-//! another, and that a gate is told before a call and after it. They stand apart, so that no crate is proved a second time beside its tests.
+//! another, that a gate is told before a call and after it, and that a pass hands off a lease. They stand apart, so that no
+//! crate is proved a second time beside its tests.
 #![tactic(auto)]
 
 #[cfg(test)]
@@ -8,5 +9,7 @@ mod crews;
 mod crowds;
 #[cfg(test)]
 mod gates;
+#[cfg(test)]
+mod hands;
 #[cfg(test)]
 mod meeting;

@@ -1,0 +1,125 @@
+//! A lease is handed off by a pass of a hall.
+ghost use Rattle.std.specs.Prelude.{◌≡◌, [], None, true};
+
+use crate::crews::request;
+use kcl_defs::Settings;
+use kcl_hand::Left;
+use kcl_live::hand_over;
+use kcl_proc::{Kind, Stock};
+use kcl_worker::Worker;
+use kcl_world::World;
+use kds_base::{Moment, ShardNo, ShardRef, StreamNo, WorkerNo};
+use kds_defs::Machine;
+use kds_turn::{Hall, Pass, TurnErr};
+use std::sync::Wait;
+use std::test::Fail;
+
+/// Makes the call that is due, if there is one: a worker of one shard has no second. Whether it went well.
+fn call_due(worker: &mut Worker<Stock, Kind>) -> bool
+    requires free { worker.old.waiting ≡ None }
+    ensures free { worker.new.waiting ≡ None }
+{
+    match worker.due() {
+        Some(_) => worker.call().is_ok(),
+        None => true,
+    }
+}
+
+/// One step of a worker: the call that is due, then a command as a turn of the pass. Whether all went well.
+fn step<M: Machine, R: Wait>(
+    rt: &R,
+    hall: &Hall<M>,
+    pass: &mut Pass<M>,
+    worker: &mut Worker<Stock, Kind>,
+    at: Moment,
+) -> bool
+    requires hall { pass.old.hall ≡ hall.now.id }
+    requires free { worker.old.waiting ≡ None }
+    ensures kept { (pass.new.hall ≡ pass.old.hall) × (pass.new.by ≡ pass.old.by) × (pass.new.joined ≡ pass.old.joined) }
+    ensures free { result ≡ true → worker.new.waiting ≡ None }
+{
+    if !call_due(worker) || worker.due().is_some() || worker.idle() {
+        return false;
+    }
+    let what = worker.next(at);
+    match hall.turn(rt, pass, at, what) {
+        Ok(answer) => worker.absorb(at, answer).is_ok(),
+        Err(_) => false,
+    }
+}
+
+/// How many records a Tally was handed.
+fn records(processor: &Stock) -> u64 {
+    match processor {
+        Stock::Tally(tally) => tally.records(),
+        _ => 0,
+    }
+}
+
+/// Hands off the lease of a key, and tells how that ended and how many records its processor was handed.
+fn hand_off<M: Machine, R: Wait>(
+    rt: &R,
+    hall: &Hall<M>,
+    pass: &mut Pass<M>,
+    worker: &mut Worker<Stock, Kind>,
+    key: ShardRef,
+    at: Moment,
+) -> Result<Option<(Left, u64)>, TurnErr>
+    requires hall { pass.old.hall ≡ hall.now.id }
+    requires free { worker.old.waiting ≡ None }
+    ensures kept { (pass.new.hall ≡ pass.old.hall) × (pass.new.by ≡ pass.old.by) × (pass.new.joined ≡ pass.old.joined) }
+    ensures free { worker.new.waiting ≡ None }
+{
+    match hand_over(rt, hall, pass, worker, key, at) {
+        Ok(Some((left, processor))) => Ok(Some((left, records(&processor)))),
+        Ok(None) => Ok(None),
+        Err(error) => Err(error),
+    }
+}
+
+/// How many turns were made at a hall of these two passes.
+fn turns_of<M: Machine + Drop>(hall: Hall<M>, first: Pass<M>, second: Pass<M>) -> u64
+    requires hall { (first.hall ≡ hall.id) × (second.hall ≡ hall.id) × (hall.passes ≡ 2) }
+    requires passes { (first.by ≡ 1) × (first.joined ≡ []) × (second.by ≡ 2) }
+{
+    let mut first = first;
+    hall.join(&mut first, second);
+    let (_, past) = hall.close(first);
+    past.turns()
+}
+
+#[test]
+fn a_lease_is_handed_off(rt: HostRuntime) -> Result<(), Fail> {
+    let alloc = rt.alloc();
+    let Ok((hall, mut passes)) = Hall::new(alloc, World::new(alloc), 2) else {
+        return Err("hall".into());
+    };
+    let (mut second, mut first) = (passes.pop().unwrap(), passes.pop().unwrap());
+    let stream = "{\"StreamName\":\"s\",\"ShardCount\":1}";
+    let record = "{\"StreamName\":\"s\",\"Data\":\"aGk=\",\"PartitionKey\":\"a\"}";
+    assert!(rt; request(&rt, alloc, &hall, &mut second, "CreateStream", stream)?);
+    assert!(rt; request(&rt, alloc, &hall, &mut second, "PutRecord", record)?);
+    assert!(rt; request(&rt, alloc, &hall, &mut second, "PutRecord", record)?);
+    let Some(at) = Moment::new(3000) else {
+        return Err("moment".into());
+    };
+    let mut worker = Worker::new(alloc, WorkerNo(1), Settings::usual(), Kind::Tally);
+    for _ in 0..10 {
+        assert!(rt; step(&rt, &hall, &mut first, &mut worker, at));
+    }
+    let key = ShardRef {
+        stream: StreamNo(1),
+        shard: ShardNo(0),
+    };
+    assert_eq!(rt;
+        hand_off(&rt, &hall, &mut first, &mut worker, key, at),
+        Ok(Some((Left::Handed(3), 2)))
+    );
+    assert_eq!(rt;
+        hand_off(&rt, &hall, &mut first, &mut worker, key, at),
+        Ok(None)
+    );
+    // three requests, ten steps, the mark and the freeing
+    assert_eq!(rt; turns_of(hall, first, second), 3 + 10 + 2);
+    Ok(())
+}
