@@ -1,4 +1,4 @@
-mod Handings
+pub mod Handings
 mod ReadLemmas
 mod Widened
 mod Jointly
