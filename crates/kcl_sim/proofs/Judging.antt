@@ -8,8 +8,8 @@ use Rattle.kcl_script.specs.declared.line.Line.{Line}
 use Rattle.kcl_script.specs.Line.{line_of}
 use Rattle.kcl_sim.specs.Output.{Ran, fresh, with_line, output_of, with_schedule, outputs}
 use Rattle.kcl_sim.specs.Schedule.{whole, judge_form, judge, preceded_by}
-use Rattle.kcl_sim.specs.Standing.{GoesOn, MayHaveRun, RunsSo, SimValue}
-use Rattle.kcl_sim.specs.Taking.{judged_texts, Took, texts_output}
+use Rattle.kcl_sim.specs.Standing.{GoesOn, MayHaveBroken, RunsSo, SimValue}
+use Rattle.kcl_sim.specs.Taking.{Broke, judged_texts, Took, texts_output}
 
 pub outputs-append : (ran : Ran) (ls ks : List Line) → outputs ran (ls ++ ks) ≡ outputs ran ls ++ outputs (with_schedule ran ls) ks
 outputs-append ran [] ks = refl
@@ -71,10 +71,19 @@ takes old new text l before after is goes texts t =
     }
 
 breaks_by : (old new : SimValue) (text : List ℕ) (l : Line) → line_of text ≡ Some l → (texts : List (List ℕ)) → Took old texts
-    → MayHaveRun new (with_schedule fresh (judged_texts texts).lines) l → Breaks (λ z. Took new z) texts_output texts text
-breaks_by old new text l is texts t (inl same) = inl (record { are_lines = t.are_lines; made = same })
-breaks_by old new text l is texts t (inr made) = inr (took_more old new texts text l t is made, (output_of (with_schedule fresh (judged_texts texts).lines) l, output_more texts text l t.are_lines is))
+    → MayHaveBroken new (with_schedule fresh (judged_texts texts).lines) l → Breaks (λ z. Took new z) (λ z w. Broke new z w) texts_output texts text
+breaks_by old new text l is texts t (inl (inl same)) = inl (record { are_lines = t.are_lines; made = same })
+breaks_by old new text l is texts t (inl (inr made)) =
+    inr (inl (
+      took_more old new texts text l t is made,
+      (
+        output_of (with_schedule fresh (judged_texts texts).lines) l,
+        output_more texts text l t.are_lines
+            is,
+      ),
+    ))
+breaks_by old new text l is texts t (inr part) = inr (inr (record { are_lines = t.are_lines; line = l; is = is; part = part }))
 
-pub breaks : (old new : SimValue) (text : List ℕ) (l : Line) → line_of text ≡ Some l → ((ran : Ran) → RunsSo old ran → MayHaveRun new ran l)
-    → (texts : List (List ℕ)) → Took old texts → Breaks (λ z. Took new z) texts_output texts text
+pub breaks : (old new : SimValue) (text : List ℕ) (l : Line) → line_of text ≡ Some l → ((ran : Ran) → RunsSo old ran → MayHaveBroken new ran l)
+    → (texts : List (List ℕ)) → Took old texts → Breaks (λ z. Took new z) (λ z w. Broke new z w) texts_output texts text
 breaks old new text l is may texts t = breaks_by old new text l is texts t (may (with_schedule fresh (judged_texts texts).lines) t.made)

@@ -6,14 +6,16 @@ use Rattle.kds_defs.specs.Lawful.{IsHistory}
 use Rattle.kds_member.specs.declared.problem.Fault.{Fault}
 use Rattle.kds_json.specs.Asked.{asked, IsRequest}
 use Rattle.kcl_script.specs.declared.line.Line.{Line}
-use Rattle.kcl_script.specs.declared.line.Line.TheVariants.{Api, Raw, Step, Stop, Worker}
+use Rattle.kcl_script.specs.declared.line.Line.TheVariants.{Api, Hand, Raw, Step, Stop, Worker}
 use Rattle.kcl_script.specs.Line.{line_of, IsLine}
 use Rattle.kds_lines.specs.Lines.{End, lined}
 use Rattle.kds_defs.specs.declared.command.Turn.{Turn}
 use Rattle.kcl_sim.specs.Output.{Ran, fresh, requested, with_line, with_schedule}
 use Rattle.kcl_sim.specs.Workers.{employed_by}
+use Rattle.kcl_sim.proofs.LawfulHands.{hand_lawful, part_lawful}
 use Rattle.kcl_sim.proofs.LawfulSteps.{AreBounded, line_bounded, step_lawful, stop_lawful}
 use Rattle.kcl_sim.specs.Schedule.{Judged, judge_form, judge, judged, history}
+use Rattle.kcl_sim.specs.Standing.{HasRunPart, SimValue}
 
 pub request_lawful : (h : List Turn) (at : ℕ) (r : Result Command Fault) → at < 2 ^ 62 → ((what : Command) → r ≡ Ok what → IsRequest what) → IsHistory h → IsHistory (requested h at r)
 request_lawful h at (Ok what) early lawful past = ((early, (lawful what refl).0), past)
@@ -58,6 +60,7 @@ module _ (asks : AskLawfully) (reads : ReadLines) where
   line_lawful ran (Worker at name kind from) is bound past = past
   line_lawful ran (Step at by) is bound past = step_lawful ran at by is.0 bound past
   line_lawful ran (Stop at by) is bound past = stop_lawful ran by (employed_by by ran.workers) past
+  line_lawful ran (Hand at by key) is bound past = hand_lawful ran at by key (employed_by by ran.workers) refl is.0 bound past
 
   schedule_lawful : (ran : Ran) (ls : List Line) → AllByRecursion IsLine ls → AreBounded ran.workers → IsHistory ran.history → IsHistory (with_schedule ran ls).history
   schedule_lawful ran [] are bound past = past
@@ -68,3 +71,19 @@ module _ (asks : AskLawfully) (reads : ReadLines) where
 
   pub front_lawful : (bytes : List ℕ) (lines later : List Line) → (judged bytes).lines ≡ lines ++ later → IsHistory (with_schedule fresh lines).history
   front_lawful bytes lines later parts = schedule_lawful fresh lines (first_lines reads bytes lines later parts) tt tt
+
+  middle_line : (ls ks : List Line) (l : Line) → AllByRecursion IsLine (ls ++ l ∷ ks) → IsLine l
+  middle_line [] ks l are = are.0
+  middle_line (k ∷ ls) ks l are = middle_line ls ks l are.1
+
+  schedule_bounded : (ran : Ran) (ls : List Line) → AllByRecursion IsLine ls → AreBounded ran.workers → AreBounded (with_schedule ran ls).workers
+  schedule_bounded ran [] are bound = bound
+  schedule_bounded ran (l ∷ ls) are bound = schedule_bounded (with_line ran l) ls are.1 (line_bounded ran l are.0 bound)
+
+  pub middle_lawful : (bytes : List ℕ) (lines later : List Line) (l : Line) (s : SimValue) → (judged bytes).lines ≡ lines ++ l ∷ later
+      → HasRunPart s (with_schedule fresh lines) l → IsHistory s.history
+  middle_lawful bytes lines later l s parts p =
+      let all : AllByRecursion IsLine (lines ++ l ∷ later) = subst (λ (z : List Line). AllByRecursion IsLine z) parts (schedule_lines reads bytes) in
+      part_lawful p.ran_of_it (with_schedule fresh lines) l s.history p.history (middle_line lines later l all)
+      (schedule_bounded fresh lines (front_lines reads lines (l ∷ later) all) tt)
+      (front_lawful bytes lines (l ∷ later) parts)

@@ -2,6 +2,7 @@
 use Rattle.std.proofs.Common.{◌≡◌, ℕ, zero, suc, ◌<◌, ◌≤◌, ◌^◌, Bool, true, false, List, [], ◌∷◌, ◌++◌, Option, Some, None, Result, Ok, Err, refl, subst, arith}
 use Rattle.std.specs.Prelude.{cond, not, nat_le, if◌then◌else◌, option_map, slice_get, slice_set}
 use Rattle.std.specs.List.{AllByRecursion, filter, find}
+use Rattle.kds_base.specs.declared.lease_key.ShardRef.{ShardRef}
 use Rattle.kds_defs.specs.declared.command.Command.{Command}
 use Rattle.kds_defs.specs.declared.limits.TheConstants.{MOST_ACTOR}
 use Rattle.kds_defs.specs.declared.reply.Refusal.{Refusal}
@@ -17,17 +18,18 @@ use Rattle.kcl_defs.specs.declared.plans.TakeStep.{TakeStep}
 use Rattle.kcl_defs.specs.Consumers.{Called, Event, Losing, Phase, Opening, Starting, Filling, Holding, Giving, Marking, Ending, MarkingEnd, Leaving, Over, next_command}
 use Rattle.kcl_defs.specs.Workers.{Chore, Consuming, Finishing, Freeing, Renewing, Surveying, Syncing, Taking, Known, Pending, WorkerPast, WorkerState, Gave_command, Got_answer, Made_call, Stopped, absorbed, after_chore, after_renewal, after_survey, after_take, chore_at, command_of, consumer_command, counter_of, happens_to, happens_to_first, id_of, is_before_id, is_due_known, is_over, known_of, next_pending, pending_chore, pending_of, phase_of_known, same_id, sync_command, with_event, with_known, worker_after, Release, Released, id_of_held, released, without_known, without_release}
 use Rattle.kcl_script.specs.declared.line.Line.{Line}
-use Rattle.kcl_script.specs.declared.line.Line.TheVariants.{Api, Raw, Step, Stop, Worker}
+use Rattle.kcl_hand.specs.Joints.{worker_past}
+use Rattle.kcl_script.specs.declared.line.Line.TheVariants.{Api, Hand, Raw, Step, Stop, Worker}
 use Rattle.kcl_script.specs.Line.{IsLine}
-use Rattle.kcl_sim.specs.Output.{Ran, with_command, with_line, with_step, with_stop}
-use Rattle.kcl_sim.specs.Workers.{Employed, all_called, command_at, employed_by, place_of, state_of}
+use Rattle.kcl_sim.specs.Output.{Ran, with_command, with_handed, with_line, with_release, with_step, with_stop}
+use Rattle.kcl_sim.specs.Workers.{Employed, all_called, command_at, employed_by, place_of, release_by, state_of}
 
 -- ---- the consumers of a worker read at most so many records as a read may ask for
 
-HasLimit : Known → Type 0
+unfoldable pub HasLimit : Known → Type 0
 HasLimit k = IsLimit k.made.limit
 
-AllLimits : List Known → Type 0
+unfoldable pub AllLimits : List Known → Type 0
 AllLimits ks = AllByRecursion HasLimit ks
 
 keeps : (b : Bool) (k : Known) (ks : List Known) → HasLimit k → AllLimits ks → AllLimits (cond b (k ∷ ks) ks)
@@ -113,7 +115,7 @@ released_limits : (o : Option Release) (w : WorkerState) → AllLimits w.consume
 released_limits None w h = h
 released_limits (Some r) w h = all_without (id_of_held r.held) w.consumers h
 
-limits_after : (made : WorkerMade) → IsLimit made.settings.limit → (past : WorkerPast) → AllLimits (worker_after made past).consumers
+pub limits_after : (made : WorkerMade) → IsLimit made.settings.limit → (past : WorkerPast) → AllLimits (worker_after made past).consumers
 unfolding AllLimits
 limits_after made limit [] = tt
 limits_after made limit (Made_call asked ∷ past) = filtered (λ k. not (is_over k)) _ (first_happens is_due_known (Called asked) (worker_after made past).consumers (limits_after made limit past))
@@ -128,15 +130,16 @@ found_by : (b : Bool) (k j : Known) (o : Option Known) → cond b (Some k) o ≡
 found_by true k j o is h rest = let e : k ≡ j = cc in subst HasLimit e h
 found_by false k j o is h rest = rest is
 
-found_limit : (p : Known → Bool) (ks : List Known) (k : Known) → find p ks ≡ Some k → AllLimits ks → HasLimit k
+pub found_limit : (p : Known → Bool) (ks : List Known) (k : Known) → find p ks ≡ Some k → AllLimits ks → HasLimit k
 unfolding AllLimits
 found_limit p [] k is h = absurd cc
 found_limit p (j ∷ ks) k is h = found_by (p j) j k _ is h.0 (λ more. found_limit p ks k more h.1)
 
-so_lawful : (a b : Command) → Some a ≡ Some b → IsLawfulCommand a → IsLawfulCommand b
+pub so_lawful : (a b : Command) → Some a ≡ Some b → IsLawfulCommand a → IsLawfulCommand b
 so_lawful a b is h = let e : a ≡ b = cc in subst IsLawfulCommand e h
 
-phase_command : (made : Tenancy) (p : Phase) (counter : ℕ) (what : Command) → next_command made p counter ≡ Some what → IsLimit made.limit → IsLawfulCommand what
+pub phase_command : (made : Tenancy) (p : Phase) (counter : ℕ) (what : Command) → next_command made p counter ≡ Some what → IsLimit made.limit
+    → IsLawfulCommand what
 phase_command made Opening counter what is limit = so_lawful _ _ is tt
 phase_command made Starting counter what is limit = absurd cc
 phase_command made (Filling reach waiting) counter what is limit = so_lawful _ _ is limit
@@ -186,7 +189,8 @@ AreBounded es = AllByRecursion IsBounded es
 
 next_lawful : (b : Bool) (at : ℕ) (e : Employed) (what : Command) → (if b then None else option_map (λ p. p.what) (next_pending e.made at (state_of e))) ≡ Some what → IsBounded e → IsLawfulCommand what
 next_lawful true at e what is h = absurd cc
-next_lawful false at e what is h = chore_lawful e.made (state_of e) (chore_at e.made at (state_of e)) what is h.name (limits_after e.made h.limit e.past)
+next_lawful false at e what is h =
+    chore_lawful e.made (state_of e) (chore_at e.made at (state_of e)) what is h.name (limits_after e.made h.limit (worker_past e.past))
 
 bounded_at : (es : List Employed) (place : ℕ) (e : Employed) → slice_get es place ≡ Some e → AreBounded es → IsBounded e
 bounded_at [] place e is h = absurd cc
@@ -226,12 +230,23 @@ stop_bounded ran by (Some e) is h =
     let g = bounded_by by ran.workers e is h in
     bounded_set ran.workers (place_of by) _ h (record { name = g.name; limit = g.limit })
 
+release_bounded : (ran : Ran) (at by : ℕ) (key : ShardRef) (e : Employed) (o : Option Release) → IsBounded e → AreBounded ran.workers
+    → AreBounded (with_release ran at by key e o).workers
+release_bounded ran at by key e None g h = h
+release_bounded ran at by key e (Some r) g h = bounded_set ran.workers (place_of by) _ h (record { name = g.name; limit = g.limit })
+
+hand_bounded : (ran : Ran) (at by : ℕ) (key : ShardRef) (o : Option Employed) → employed_by by ran.workers ≡ o → AreBounded ran.workers
+    → AreBounded (with_handed ran at by key o).workers
+hand_bounded ran at by key None is h = h
+hand_bounded ran at by key (Some e) is h = release_bounded ran at by key e (release_by key (Some e)) (bounded_by by ran.workers e is h) h
+
 pub line_bounded : (ran : Ran) (l : Line) → IsLine l → AreBounded ran.workers → AreBounded (with_line ran l).workers
 line_bounded ran (Api at operation body) is h = h
 line_bounded ran (Raw at by what long) is h = h
 line_bounded ran (Worker at name kind from) is h = bounded_more ran.workers _ h (record { name = is.1.0.0; limit = (omega arith, omega arith) })
 line_bounded ran (Step at by) is h = step_bounded ran at by (employed_by by ran.workers) refl h
 line_bounded ran (Stop at by) is h = stop_bounded ran by (employed_by by ran.workers) refl h
+line_bounded ran (Hand at by key) is h = hand_bounded ran at by key (employed_by by ran.workers) refl h
 
 -- ---- their turns
 

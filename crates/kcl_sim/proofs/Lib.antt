@@ -1,9 +1,14 @@
 pub mod Calling
 pub mod Employing
 pub mod Judging
+pub mod HandTelling
+pub mod MoreTurns
 pub mod LawfulSteps
+pub mod LawfulHands
 pub mod LawfulLines
 pub mod Stepping
 pub mod Running
+pub mod HandRuns
+pub mod HandLines
 pub mod Reversed
 pub mod Serving

@@ -82,7 +82,7 @@ works old ran by place was s going there stood =
     record { e = f.0; is = b.1 ∙ f.1; employs = f.2; all = all; at_place = b.0 }
 
 -- with another in its place
-replaced : (old : SimValue) (ran : Ran) (by place : ℕ) (was new : Stepped) (d : Employed) → Works old ran by place was → Employs new d → EmployAll (slice_set old.workers place new) (slice_set ran.workers (place_of by) d)
+pub replaced : (old : SimValue) (ran : Ran) (by place : ℕ) (was new : Stepped) (d : Employed) → Works old ran by place was → Employs new d → EmployAll (slice_set old.workers place new) (slice_set ran.workers (place_of by) d)
 replaced old ran by place was new d w h =
     subst (λ n. EmployAll (slice_set old.workers place new) (slice_set ran.workers n d)) (sym w.at_place) (employ_set old.workers ran.workers place new d w.all h)
 

@@ -3,6 +3,7 @@ use Rattle.std.proofs.Common.{◌≡◌, ℕ, zero, suc, pred, ◌+◌, ◌<◌,
 use Rattle.std.specs.Prelude.{◌==◌, if◌then◌else◌, nat_le, option_map, slice_get, slice_set}
 use Rattle.std.specs.List.{AllByRecursion}
 use Rattle.std.proofs.lemmas.Bool.Decides.{nat_tests}
+use Rattle.kds_base.specs.declared.lease_key.ShardRef.{ShardRef}
 use Rattle.kds_defs.specs.declared.command.Command.{Command}
 use Rattle.kds_defs.specs.declared.command.Origin.{Origin}
 use Rattle.kds_defs.specs.declared.command.Turn.{Turn}
@@ -11,6 +12,7 @@ use Rattle.kds_defs.specs.declared.reply.Refusal.{Refusal}
 use Rattle.kds_defs.specs.declared.reply.Reply.{Reply}
 use Rattle.kds_defs.specs.declared.reply.Reply.TheVariants as reply
 use Rattle.kds_defs.specs.Histories.{answer}
+use Rattle.kds_defs.specs.Lawful.{IsHistory}
 use Rattle.kds_defs.specs.Requests.{request_turn}
 use Rattle.kds_member.specs.declared.problem.Fault.{Fault}
 use Rattle.kds_json.specs.Asked.{asked}
@@ -18,20 +20,23 @@ use Rattle.kcl_defs.specs.declared.consumer.WorkerMade.{WorkerMade}
 use Rattle.kcl_defs.specs.declared.plans.Held.{Held}
 use Rattle.kcl_defs.specs.declared.plans.TakeStep.{TakeStep}
 use Rattle.kcl_defs.specs.Lives.{Deal, deals_of}
-use Rattle.kcl_defs.specs.WorkerLives.{AreServed, IsOrderly, IsToldIn}
-use Rattle.kcl_defs.specs.Workers.{Chore, Consuming, Finishing, Freeing, Gave_command, Known, Made_call, Pending, Renewing, Surveying, Syncing, Taking, WorkerPast, WorkerState, absorbed, after_chore, after_renewal, after_survey, after_take, deals_after, is_due_known, is_idle, next_pending, phase_of_known, with_deal, worker_after}
+use Rattle.kcl_hand.specs.Joints.{AreAllServed as AreServed, AreOrderly, AreToldIn, JointPast, Of_worker, hand_of, hands_after, joint_deals, worker_in, worker_past}
+use Rattle.kcl_hand.specs.Runs.{hand_run, turn_of, with_hand}
+use Rattle.kcl_hand.specs.Twice.{IsHandedOffIfFreed, IsNeverReadAgain}
+use Rattle.kcl_defs.specs.Workers.{Chore, Consuming, Finishing, Freeing, Gave_command, Known, Made_call, Pending, Renewing, Release, Surveying, Syncing, Taking, WorkerState, absorbed, after_chore, after_renewal, after_survey, after_take, is_due_known, is_idle, next_pending, phase_of_known, released, with_deal, worker_after}
 use Rattle.kcl_proc.specs.declared.stock.Kind.{Kind}
 use Rattle.kcl_script.specs.declared.line.Line.{Line}
-use Rattle.kcl_script.specs.declared.line.Line.TheVariants.{Api, Raw, Step, Stop, Worker}
+use Rattle.kcl_script.specs.declared.line.Line.TheVariants.{Api, Hand, Raw, Step, Stop, Worker}
 use Rattle.kcl_script.specs.Line.{IsLine}
-use Rattle.kcl_sim.specs.Output.{Ran, fresh, raw_turn, requested, with_command, with_line, with_schedule, with_step, with_stop}
-use Rattle.kcl_sim.specs.Serving.{AreAllServed}
-use Rattle.kcl_sim.specs.Workers.{Employed, actor_at, all_called, answered, ask_in, command_at, employed_by, hired, place_of, state_of, stopped, with_calls}
+use Rattle.kcl_sim.specs.Output.{Ran, fresh, raw_turn, requested, with_command, with_handed, with_line, with_release, with_schedule, with_step, with_stop}
+use Rattle.kcl_sim.specs.Serving.{AreAllServed, AreHandedOff, AreNeverReadAgain}
+use Rattle.kcl_sim.specs.Workers.{Employed, actor_at, all_called, answered, ask_in, command_at, employed_by, hired, place_of, release_by, state_of, stopped, with_calls}
+use Rattle.kcl_sim.proofs.HandTelling.{of_another_run, released_free, run_tells, worker_past_hand}
 
 -- the actor's turns are those of the worker's record, and no command of it waits
 record IsTold (h : List Turn) (by : ℕ) (e : Employed) : Type 0 where
-  orderly : IsOrderly e.made e.past
-  told : IsToldIn by h e.made e.past
+  orderly : AreOrderly e.made e.past
+  told : AreToldIn by h e.made e.past
   free : (state_of e).waiting ≡ None
 
 -- so of each worker, and those to come made no turn
@@ -42,19 +47,20 @@ record AreTold (ran : Ran) : Type 0 where
 -- ---- what happens to one
 
 -- calls of processors are no turns
-record Follows (made : WorkerMade) (past later : WorkerPast) : Type 0 where
-  orderly : IsOrderly made later
-  deals : deals_after made later ≡ deals_after made past
-  free : (worker_after made later).waiting ≡ None
+record Follows (made : WorkerMade) (past later : JointPast) : Type 0 where
+  orderly : AreOrderly made later
+  deals : joint_deals made later ≡ joint_deals made past
+  free : (worker_in made later).waiting ≡ None
 
-either_follows : (b : Bool) (made : WorkerMade) (past p q : WorkerPast) → Follows made past p → Follows made past q → Follows made past (if b then p else q)
+either_follows : (b : Bool) (made : WorkerMade) (past p q : JointPast) → Follows made past p → Follows made past q → Follows made past (if b then p else q)
 either_follows true made past p q h g = h
 either_follows false made past p q h g = g
 
-calls_follow : (made : WorkerMade) (kind : Kind) (ks : List Known) (past : WorkerPast) → IsOrderly made past → (worker_after made past).waiting ≡ None → Follows made past (with_calls kind ks past)
+calls_follow : (made : WorkerMade) (kind : Kind) (ks : List Known) (past : JointPast) → AreOrderly made past → (worker_in made past).waiting ≡ None
+    → Follows made past (with_calls kind ks past)
 calls_follow made kind [] past orderly free = record { orderly = orderly; deals = refl; free = free }
 calls_follow made kind (k ∷ ks) past orderly free =
-    let due = calls_follow made kind ks (Made_call (ask_in kind (phase_of_known k)) ∷ past) (free, orderly) free in
+    let due = calls_follow made kind ks (Of_worker (Made_call (ask_in kind (phase_of_known k))) ∷ past) (free, orderly) free in
     either_follows (is_due_known k) made past _ _
     (record { orderly = due.orderly; deals = due.deals; free = due.free })
     (calls_follow made kind ks past orderly free)
@@ -114,12 +120,26 @@ told_answered h at by e what next t =
     let p = pending_by (is_idle (state_of e)) (next_pending e.made at (state_of e)) what next in
     let own : deals_of by (turn ∷ h) ≡ record { what = what; answer = a } ∷ deals_of by h =
     ap (λ b. if b then record { what = what; answer = a } ∷ deals_of by h else deals_of by h) (same_actor by) in
-    let dealt : deals_after e.made (answered at a e).past ≡ record { what = what; answer = a } ∷ deals_after e.made e.past =
-    ap (λ o. with_deal o a (deals_after e.made e.past)) p.1 ∙ ap (λ c. record { what = c; answer = a } ∷ deals_after e.made e.past) p.2 in
+    let dealt : joint_deals e.made (answered at a e).past ≡ record { what = what; answer = a } ∷ joint_deals e.made e.past =
+    ap (λ o. with_deal o a (joint_deals e.made e.past)) p.1 ∙ ap (λ c. record { what = c; answer = a } ∷ joint_deals e.made e.past) p.2 in
     record {
       orderly = (tt, (t.free, t.orderly));
       told = own ∙ ap (λ deals. record { what = what; answer = a } ∷ deals) t.told ∙ sym dealt;
-      free = absorbed_free e.made at a (worker_after e.made (Gave_command at ∷ e.past)) p.0 p.1;
+      free = absorbed_free e.made at a (worker_after e.made (Gave_command at ∷ worker_past e.past)) p.0 p.1;
+    }
+
+-- ---- a hand-off of what it releases
+
+told_handed : (h : List Turn) (at by : ℕ) (key : ShardRef) (e : Employed) (r : Release) → released key (state_of e) ≡ Some r → IsTold h by e
+    → IsTold (hand_run at by h (hand_of r [])).history by (record e { past = with_hand key (hand_run at by h (hand_of r [])).hand.since e.made e.past })
+told_handed h at by key e r which t =
+    let since = (hand_run at by h (hand_of r [])).hand.since in
+    let k = run_tells at by key e.made e.past r which h (record { orderly = (t.free, t.orderly); told = t.told }) in
+    record {
+      orderly = k.orderly;
+      told = k.told;
+      free = ap (λ p. (worker_after e.made p).waiting) (worker_past_hand key since e.made e.past) ∙ released_free (released key (state_of e)) (state_of e)
+          t.free;
     }
 
 -- ---- a turn of another
@@ -204,6 +224,19 @@ turned ran turn p x by lt t own = record {
     differs : (q : ℕ) → (p ≡ q → ⊥) → (turn.by == actor_at q) ≡ false
     differs q other = ap (λ n. n == actor_at q) by ∙ apart p q other
 
+-- and its hand-off ran
+handed : (ran : Ran) (h : List Turn) (p : ℕ) (x : Employed) → p < length ran.workers → AreTold ran → IsTold h (actor_at p) x
+    → ((q : ℕ) → (p ≡ q → ⊥) → deals_of (actor_at q) h ≡ deals_of (actor_at q) ran.history)
+    → AreTold (record { history = h; workers = slice_set ran.workers p x })
+handed ran h p x lt t own others = record {
+  each = changed h ran.workers p x own (λ q e other is.
+      let k = t.each q e is in
+      record { orderly = k.orderly; told = others q other ∙ k.told; free = k.free });
+  later = λ place past.
+      let beyond : length ran.workers ≤ place = omega (arith, past, length_with ran.workers p x) in
+      others place (λ same. absurd (omega (arith, same, lt, beyond))) ∙ t.later place beyond;
+}
+
 -- ---- lines
 
 -- the worker of an actor stands at his place
@@ -238,6 +271,25 @@ stop_told ran by None is t = t
 stop_told ran by (Some e) is t =
     let p = placed by ran.workers e is in
     kept ran (place_of by) (stopped e) t (told_stopped ran.history (actor_at (place_of by)) e (t.each (place_of by) e p.1))
+
+release_told : (ran : Ran) (at by : ℕ) (key : ShardRef) (e : Employed) (o : Option Release) → release_by key (Some e) ≡ o → by ≡ actor_at (place_of by)
+    → place_of by < length ran.workers → AreTold ran
+    → IsTold ran.history by e → AreTold (with_release ran at by key e o)
+release_told ran at by key e None which own lt t told = t
+release_told ran at by key e (Some r) which own lt t told =
+    let run = hand_run at by ran.history (hand_of r []) in
+    let x : Employed = record e { past = with_hand key run.hand.since e.made e.past } in
+    handed ran run.history (place_of by) x lt t (subst (λ n. IsTold run.history n x) own (told_handed ran.history at by key e r which told))
+    (λ q other. of_another_run 3 at by (actor_at q) (λ h what. of_another (actor_at q) (turn_of at by what) h
+    (ap (λ n. n == actor_at q) own ∙ apart (place_of by) q other)) ran.history (hand_of r []))
+
+hand_told : (ran : Ran) (at by : ℕ) (key : ShardRef) (o : Option Employed) → employed_by by ran.workers ≡ o → AreTold ran
+    → AreTold (with_handed ran at by key o)
+hand_told ran at by key None is t = t
+hand_told ran at by key (Some e) is t =
+    let p = placed by ran.workers e is in
+    let told = subst (λ n. IsTold ran.history n e) (sym p.0) (t.each (place_of by) e p.1) in
+    release_told ran at by key e (release_by key (Some e)) refl p.0 (within ran.workers (place_of by) e p.1) t told
 
 -- what stands at a place with one more
 got_more : (es : List Employed) (x : Employed) (q : ℕ) (e : Employed) → slice_get (es ++ x ∷ []) q ≡ Some e → ((q ≡ length es) × (x ≡ e)) ⊎ (slice_get es q ≡ Some e)
@@ -278,21 +330,45 @@ line_told ran (Raw at by what long) is t = outer ran (raw_turn at by what) is.1.
 line_told ran (Worker at name kind from) is t = hired_told ran name kind from t
 line_told ran (Step at by) is t = step_told ran at by (employed_by by ran.workers) refl t
 line_told ran (Stop at by) is t = stop_told ran by (employed_by by ran.workers) refl t
+line_told ran (Hand at by key) is t = hand_told ran at by key (employed_by by ran.workers) refl t
 
 schedule_told : (ran : Ran) (ls : List Line) → AllByRecursion IsLine ls → AreTold ran → AreTold (with_schedule ran ls)
 schedule_told ran [] are t = t
 schedule_told ran (l ∷ ls) are t = schedule_told (with_line ran l) ls are.1 (line_told ran l are.0 t)
 
--- what is known of one worker
-abbrev pub Serves : Type 0
-Serves = (by : ℕ) (h : List Turn) (made : WorkerMade) (past : WorkerPast) → IsOrderly made past → IsToldIn by h made past → AreServed by h made past
-
--- holds of all of a schedule
-pub all_served : Serves → (ls : List Line) → AllByRecursion IsLine ls → AreAllServed (with_schedule fresh ls)
-all_served serves ls are =
+-- each worker of a schedule is told
+all_told : (ls : List Line) → AllByRecursion IsLine ls → AreTold (with_schedule fresh ls)
+all_told ls are =
     let none : AreTold fresh = record { each = λ place e is. absurd (nothing place e is); later = λ place past. refl } in
-    let t = schedule_told fresh ls are none in
-    λ place e is. serves (actor_at place) (with_schedule fresh ls).history e.made e.past (t.each place e is).orderly (t.each place e is).told
+    schedule_told fresh ls are none
   where
     nothing : (place : ℕ) (e : Employed) → slice_get fresh.workers place ≡ Some e → ⊥
     nothing place e is = absurd cc
+
+-- what is known of one worker holds of all of a schedule
+abbrev pub Serves : Type 0
+Serves = (by : ℕ) (h : List Turn) (made : WorkerMade) (past : JointPast) → AreOrderly made past → AreToldIn by h made past → AreServed by h made past
+
+pub all_served : Serves → (ls : List Line) → AllByRecursion IsLine ls → AreAllServed (with_schedule fresh ls)
+all_served serves ls are =
+    let t = all_told ls are in
+    λ place e is. serves (actor_at place) (with_schedule fresh ls).history e.made e.past (t.each place e is).orderly (t.each place e is).told
+
+abbrev pub Hands : Type 0
+Hands = (by : ℕ) (h : List Turn) (made : WorkerMade) (past : JointPast) → IsHistory h → AreOrderly made past → AreToldIn by h made past
+    → AllByRecursion (IsHandedOffIfFreed by h) (hands_after made past)
+
+pub all_handed : Hands → (ls : List Line) → AllByRecursion IsLine ls → IsHistory (with_schedule fresh ls).history → AreHandedOff (with_schedule fresh ls)
+all_handed hands ls are lawful =
+    let t = all_told ls are in
+    λ place e is. hands (actor_at place) (with_schedule fresh ls).history e.made e.past lawful (t.each place e is).orderly (t.each place e is).told
+
+abbrev pub ReadsOnce : Type 0
+ReadsOnce = (by : ℕ) (h before : List Turn) (made : WorkerMade) (past : JointPast) → IsHistory h → IsHistory before → AreOrderly made past
+    → AreToldIn by before made past → AllByRecursion (IsNeverReadAgain by h before) (hands_after made past)
+
+pub all_read_once : ReadsOnce → (h : List Turn) (ls : List Line) → AllByRecursion IsLine ls → IsHistory h → IsHistory (with_schedule fresh ls).history
+    → AreNeverReadAgain h (with_schedule fresh ls)
+all_read_once once h ls are whole first =
+    let t = all_told ls are in
+    λ place e is. once (actor_at place) h (with_schedule fresh ls).history e.made e.past whole first (t.each place e is).orderly (t.each place e is).told

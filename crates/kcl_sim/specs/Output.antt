@@ -1,5 +1,6 @@
 -- What a line of a schedule makes of a run, and what it adds to the output.
-use Rattle.std.specs.Prelude.{ℕ, List, [], ◌∷◌, ◌++◌, codes, decimal, length, Bool, false, Option, Some, None, Result, Ok, Err}
+use Rattle.std.specs.Prelude.{ℕ, List, [], ◌∷◌, ◌++◌, codes, decimal, length, Bool, false, Option, Some, None, option_map, Result, Ok, Err}
+use Rattle.kds_base.specs.declared.lease_key.ShardRef.{ShardRef}
 use Rattle.kds_defs.specs.declared.command.Turn.{Turn}
 use Rattle.kds_defs.specs.declared.command.Command.{Command}
 use Rattle.kds_defs.specs.Histories.{answer}
@@ -7,11 +8,18 @@ use Rattle.kds_defs.specs.Requests.{request_turn}
 use Rattle.kds_member.specs.declared.problem.Fault.{Fault}
 use Rattle.kds_json.specs.Asked.{asked}
 use Rattle.kds_reply.specs.Replies.{reply_of, fault_reply}
+use Rattle.kcl_defs.specs.Lives.{Deal}
+use Rattle.kcl_defs.specs.Workers.{Release}
+use Rattle.kcl_hand.specs.declared.stand.Left.{Left}
+use Rattle.kcl_hand.specs.declared.stand.Left.TheVariants as left
+use Rattle.kcl_hand.specs.Handing.{hand_left}
+use Rattle.kcl_hand.specs.Joints.{hand_of, state_of}
+use Rattle.kcl_hand.specs.Runs.{HandRun, hand_run, run_hand, with_hand}
 use Rattle.kcl_text.specs.Answers.{answer_text}
 use Rattle.kcl_text.specs.Commands.{command_text}
 use Rattle.kcl_script.specs.declared.line.Line.{Line}
-use Rattle.kcl_script.specs.declared.line.Line.TheVariants.{Api, Raw, Step, Stop, Worker}
-use Rattle.kcl_sim.specs.Workers.{Employed, actor_at, all_called, answered, command_at, employed_by, hired, stopped, with_employed}
+use Rattle.kcl_script.specs.declared.line.Line.TheVariants.{Api, Hand, Raw, Step, Stop, Worker}
+use Rattle.kcl_sim.specs.Workers.{Employed, actor_at, all_called, answered, command_at, employed_by, hired, release_by, stopped, with_employed}
 
 -- a space and the body, unless it is empty
 abbrev pub body_part : List ℕ → List ℕ
@@ -91,6 +99,50 @@ abbrev pub stop_output : Option Employed → List ℕ
 stop_output None = codes "none" ++ 10 ∷ []
 stop_output (Some e) = codes "stopping" ++ 10 ∷ []
 
+-- ---- hand-offs
+
+-- the worker released a lease of the key, and its hand-off ran: the history, and what happened to the worker and to the hand-off
+abbrev pub with_hand_run : Ran → ℕ → ShardRef → Employed → HandRun → Ran
+with_hand_run ran by key e run =
+    with_worker (record ran { history = run.history }) by (record e { past = with_hand key run.hand.since e.made e.past })
+
+-- it runs to its end at this moment, where one is released
+abbrev pub with_release : Ran → ℕ → ℕ → ShardRef → Employed → Option Release → Ran
+with_release ran at by key e None = ran
+with_release ran at by key e (Some r) = with_hand_run ran by key e (hand_run at by ran.history (hand_of r []))
+
+abbrev pub with_handed : Ran → ℕ → ℕ → ShardRef → Option Employed → Ran
+with_handed ran at by key None = ran
+with_handed ran at by key (Some e) = with_release ran at by key e (release_by key (Some e))
+
+-- its output: each command with its answer, and how it ended; or that nothing is released
+abbrev pub deal_text : Deal → List ℕ
+deal_text deal = command_text deal.what ++ (codes " = " ++ (answer_text false deal.answer ++ codes "; "))
+
+abbrev pub deals_text : List Deal → List ℕ
+deals_text [] = []
+deals_text (deal ∷ deals) = deal_text deal ++ deals_text deals
+
+abbrev pub left_text : Option Left → List ℕ
+left_text (Some (left.Refused r)) = codes "refused"
+left_text _ = codes "handed"
+
+abbrev pub run_text : HandRun → List ℕ
+run_text run = deals_text run.deals ++ (left_text (hand_left (state_of run.hand)) ++ 10 ∷ [])
+
+abbrev pub hand_output : List Turn → ℕ → ℕ → Option Release → List ℕ
+hand_output h at by None = codes "none" ++ 10 ∷ []
+hand_output h at by (Some r) = run_text (hand_run at by h (hand_of r []))
+
+-- the history in which at most so many of its commands ran
+abbrev pub history_at : ℕ → List Turn → ℕ → ℕ → Release → List Turn
+history_at n h at by r = (run_hand n at by h (hand_of r [])).history
+
+-- so of a line, where it is a hand-off that releases something
+abbrev pub part_of : ℕ → Ran → Line → Option (List Turn)
+part_of n ran (Hand at by key) = option_map (history_at n ran.history at by) (release_by key (employed_by by ran.workers))
+part_of n ran _ = None
+
 -- ---- lines
 
 -- the run with a line. A raw line is always a turn, also where it is refused
@@ -100,6 +152,7 @@ with_line ran (Raw at by what long) = with_turn ran (raw_turn at by what)
 with_line ran (Worker at name kind from) = record ran { workers = ran.workers ++ hired name kind from ∷ [] }
 with_line ran (Step at by) = with_step ran at by (employed_by by ran.workers)
 with_line ran (Stop at by) = with_stop ran by (employed_by by ran.workers)
+with_line ran (Hand at by key) = with_handed ran at by key (employed_by by ran.workers)
 
 -- what a line adds to the output of a run
 abbrev pub output_of : Ran → Line → List ℕ
@@ -108,6 +161,7 @@ output_of ran (Raw at by what long) = raw_output ran.history (raw_turn at by wha
 output_of ran (Worker at name kind from) = codes "worker " ++ (decimal (actor_at (length ran.workers)) ++ 10 ∷ [])
 output_of ran (Step at by) = step_output ran at by (employed_by by ran.workers)
 output_of ran (Stop at by) = stop_output (employed_by by ran.workers)
+output_of ran (Hand at by key) = hand_output ran.history at by (release_by key (employed_by by ran.workers))
 
 -- the run with lines, one after another
 abbrev pub with_schedule : Ran → List Line → Ran

@@ -1,5 +1,5 @@
 -- A run as callers see it, and what it stands for.
-use Rattle.std.specs.Prelude.{◌≡◌, ◌⊎◌, ℕ, nat_le, nat_lt, if◌then◌else◌, List, [], ◌∷◌, ◌++◌, slice_get, slice_set, Bool, false, Option, Some, None}
+use Rattle.std.specs.Prelude.{◌≡◌, ◌≤◌, ◌⊎◌, ℕ, nat_le, nat_lt, if◌then◌else◌, List, [], ◌∷◌, ◌++◌, length, slice_get, slice_set, Bool, true, false, Option, Some, None}
 use Rattle.kds_defs.specs.declared.command.Turn.{Turn}
 use Rattle.kds_defs.specs.declared.reply.Stored.{Stored}
 use Rattle.kcl_proc.specs.declared.stock.Kind.{Kind}
@@ -8,17 +8,18 @@ use Rattle.kcl_proc.specs.Stocks.{StandsFor as Calls, asked_of}
 use Rattle.kcl_worker.specs.Standing.{StandsFor, WorkerStanding}
 use Rattle.kds_defs.specs.declared.limits.TheConstants.{MOST_ACTOR}
 use Rattle.kcl_defs.specs.Workers.{Gave_command}
+use Rattle.kcl_hand.specs.Joints.{worker_past}
 use Rattle.kcl_script.specs.declared.line.Line.{Line}
 use Rattle.kds_defs.specs.declared.command.Command.{Command}
 use Rattle.kds_defs.specs.Histories.{answer}
-use Rattle.kcl_sim.specs.Output.{Ran, command_output, output_of, raw_turn, with_line}
+use Rattle.kcl_sim.specs.Output.{Ran, command_output, output_of, part_of, raw_turn, with_line}
 use Rattle.kcl_sim.specs.Workers.{Employed, all_called, answered, command_at, place_of}
 
 -- a worker whose processors are of the kinds in stock
 abbrev pub Stepped : Type 0
 Stepped = WorkerStanding Stock Kind
 
--- the turns that ran, the newest first, the workers, and whether memory ran out in a step of one
+-- the turns that ran, the newest first, the workers, and whether memory ran out in a step or a hand-off of one
 pub record SimValue : Type 0 where
   pub history : List Turn
   pub workers : List Stepped
@@ -35,7 +36,7 @@ IsFree w = w.waiting ≡ None
 pub record Employs (w : Stepped) (e : Employed) : Type 0 where
   pub made : w.made ≡ e.made
   pub kind : (batch : List Stored) → asked_of w.maker batch ≡ asked_of e.kind batch
-  pub stands : StandsFor Calls w e.past
+  pub stands : StandsFor Calls w (worker_past e.past)
 
 -- each of them is that of its own
 abbrev pub EmployAll : List Stepped → List Employed → Type 0
@@ -44,7 +45,7 @@ EmployAll (w ∷ ws) (e ∷ es) = Employs w e × EmployAll ws es
 EmployAll [] (e ∷ es) = ⊥
 EmployAll (w ∷ ws) [] = ⊥
 
--- the turns are those of the run, and so are the workers, unless memory ran out in a step
+-- the turns are those of the run, and so are the workers, unless memory ran out in a step or a hand-off
 pub record RunsSo (s : SimValue) (ran : Ran) : Type 0 where
   pub history : s.history ≡ ran.history
   pub workers : s.over ≡ false → EmployAll s.workers ran.workers
@@ -61,6 +62,23 @@ pub record GoesOn (s : SimValue) (ran : Ran) (line : Line) (before after : List 
 abbrev pub MayHaveRun : SimValue → Ran → Line → Type 0
 MayHaveRun s ran line = RunsSo s ran ⊎ RunsSo s (with_line ran line)
 
+-- memory ran out in the middle of the line, which is a hand-off: the first so many of its turns ran, and the run is over
+pub record HasRunPart (s : SimValue) (ran : Ran) (line : Line) : Type 0 where
+  pub ran_of_it : ℕ
+  pub few : ran_of_it ≤ 3
+  pub history : part_of ran_of_it ran line ≡ Some s.history
+  pub over : s.over ≡ true
+
+-- memory ran out: the line was run, or not, or in part
+abbrev pub MayHaveBroken : SimValue → Ran → Line → Type 0
+MayHaveBroken s ran line = MayHaveRun s ran line ⊎ HasRunPart s ran line
+
+-- at most three turns more
+pub record GrowsFew (old new : List Turn) : Type 0 where
+  pub more : List Turn
+  pub few : length more ≤ 3
+  pub grows : new ≡ more ++ old
+
 -- ---- steps
 
 -- the place of an actor's worker, among so many
@@ -71,7 +89,7 @@ place_among by count = if nat_le by MOST_ACTOR then None else (if nat_lt (place_
 pub record HasAsked (at : ℕ) (w : Stepped) (e : Employed) : Type 0 where
   pub made : w.made ≡ e.made
   pub kind : (batch : List Stored) → asked_of w.maker batch ≡ asked_of e.kind batch
-  pub stands : StandsFor Calls w (Gave_command at ∷ e.past)
+  pub stands : StandsFor Calls w (Gave_command at ∷ worker_past e.past)
 
 -- the worker that was asked for this command at this moment, after this history, took its answer
 abbrev pub TookAnswer : ℕ → ℕ → Command → List Turn → Stepped → Stepped → Type 0

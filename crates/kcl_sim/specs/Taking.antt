@@ -1,9 +1,10 @@
 -- A run as what takes the lines of an input.
-use Rattle.std.specs.Prelude.{◌≡◌, ℕ, List, None}
+use Rattle.std.specs.Prelude.{◌≡◌, ℕ, List, Some, None}
 use Rattle.kds_lines.specs.Lines as input
+use Rattle.kcl_script.specs.declared.line.Line.{Line}
 use Rattle.kcl_script.specs.Line.{line_of}
 use Rattle.kcl_sim.specs.Output.{fresh, with_schedule, outputs}
-use Rattle.kcl_sim.specs.Standing.{RunsSo, SimValue}
+use Rattle.kcl_sim.specs.Standing.{HasRunPart, RunsSo, SimValue}
 use Rattle.kcl_sim.specs.Schedule.{Judged, judge, whole}
 
 -- these texts as a schedule
@@ -14,6 +15,13 @@ judged_texts texts = judge 0 texts input.whole
 pub record Took (s : SimValue) (texts : List (List ℕ)) : Type 0 where
   pub are_lines : (judged_texts texts).ending ≡ whole
   pub made : RunsSo s (with_schedule fresh (judged_texts texts).lines)
+
+-- each text is a line, the run was that of these lines, and memory ran out in the middle of this one
+pub record Broke (s : SimValue) (texts : List (List ℕ)) (text : List ℕ) : Type 0 where
+  pub are_lines : (judged_texts texts).ending ≡ whole
+  pub line : Line
+  pub is : line_of text ≡ Some line
+  pub part : HasRunPart s (with_schedule fresh (judged_texts texts).lines) line
 
 -- a text that is no line stops the run, whatever came before
 abbrev pub IsNoLine : List (List ℕ) → List ℕ → Type 0

@@ -1,5 +1,6 @@
 -- The workers of a run (Kinesis Client Library, scheduler), each read along what happened to it.
-use Rattle.std.specs.Prelude.{ℕ, ◌+◌, ◌-◌, nat_le, if◌then◌else◌, List, [], ◌∷◌, slice_get, slice_set, Option, None, option_map, Result}
+use Rattle.std.specs.Prelude.{ℕ, ◌+◌, ◌-◌, nat_le, if◌then◌else◌, List, [], ◌∷◌, slice_get, slice_set, Option, Some, None, option_map, Result}
+use Rattle.kds_base.specs.declared.lease_key.ShardRef.{ShardRef}
 use Rattle.kds_defs.specs.declared.command.Command.{Command}
 use Rattle.kds_defs.specs.declared.command.Origin.{Origin}
 use Rattle.kds_defs.specs.declared.limits.TheConstants.{MOST_ACTOR}
@@ -9,19 +10,21 @@ use Rattle.kcl_defs.specs.declared.consumer.Ask.{Ask}
 use Rattle.kcl_defs.specs.declared.consumer.Ask.TheVariants as ask
 use Rattle.kcl_defs.specs.declared.consumer.WorkerMade.{WorkerMade}
 use Rattle.kcl_defs.specs.Consumers.{Phase, Holding, first_batch}
-use Rattle.kcl_defs.specs.Workers.{Known, WorkerPast, WorkerState, Made_call, Gave_command, Got_answer, Stopped, is_due_known, is_idle, next_pending, phase_of_known, usual_settings, worker_after}
+use Rattle.kcl_defs.specs.Workers.{Known, Release, WorkerState, Made_call, Gave_command, Got_answer, Stopped, is_due_known, is_idle, next_pending, phase_of_known, released, usual_settings}
+use Rattle.kcl_hand.specs.Joints.{JointPast, Of_worker, worker_in}
 use Rattle.kcl_proc.specs.declared.stock.Kind.{Kind}
 use Rattle.kcl_proc.specs.Stocks.{asked_of}
 
--- a worker of a run: the kind of its processors, what it was made with, and what happened to it, the newest first
+-- a worker of a run: the kind of its processors, what it was made with, and what happened to it and to the hand-offs of what
+-- it released, the newest first
 pub record Employed : Type 0 where
   pub kind : Kind
   pub made : WorkerMade
-  pub past : WorkerPast
+  pub past : JointPast
 
 -- where it stands
 abbrev pub state_of : Employed → WorkerState
-state_of e = worker_after e.made e.past
+state_of e = worker_in e.made e.past
 
 -- a new one has the usual settings, but for where its rows begin
 abbrev pub hired : ℕ → Kind → Origin → Employed
@@ -55,11 +58,11 @@ ask_in kind (Holding reach waiting) = asked_of kind (first_batch waiting)
 ask_in kind _ = ask.None
 
 -- the record with a call for each of these consumers that is due, in their order
-abbrev pub with_calls : Kind → List Known → WorkerPast → WorkerPast
+abbrev pub with_calls : Kind → List Known → JointPast → JointPast
 with_calls kind [] past = past
 with_calls kind (k ∷ known) past =
     if is_due_known k
-    then with_calls kind known (Made_call (ask_in kind (phase_of_known k)) ∷ past)
+    then with_calls kind known (Of_worker (Made_call (ask_in kind (phase_of_known k))) ∷ past)
     else with_calls kind known past
 
 -- every call that is due is made
@@ -72,7 +75,12 @@ command_at at e = if is_idle (state_of e) then None else option_map (λ p. p.wha
 
 -- the command was given and answered, both at this moment
 abbrev pub answered : ℕ → Result Reply Refusal → Employed → Employed
-answered at answer e = record e { past = Got_answer at answer ∷ Gave_command at ∷ e.past }
+answered at answer e = record e { past = Of_worker (Got_answer at answer) ∷ Of_worker (Gave_command at) ∷ e.past }
 
 abbrev pub stopped : Employed → Employed
-stopped e = record e { past = Stopped ∷ e.past }
+stopped e = record e { past = Of_worker Stopped ∷ e.past }
+
+-- what a release of this key takes out of a worker, where there is one
+abbrev pub release_by : ShardRef → Option Employed → Option Release
+release_by key None = None
+release_by key (Some e) = released key (state_of e)

@@ -3,8 +3,9 @@ ghost use Rattle.std.specs.Prelude.{◌≡◌, [], ◌∷◌, ◌++◌, codes, d
 ghost use Rattle.kds_defs.specs.Kinds.{is_lease_answer};
 ghost use Rattle.kds_reply.specs.Replies.{fault_reply};
 ghost use Rattle.kcl_text.specs.Answers.{answer_text};
-ghost use Rattle.kcl_sim.specs.Output.{printed};
+ghost use Rattle.kcl_sim.specs.Output.{left_text, printed};
 
+use kcl_hand::Left;
 use kcl_text::print_answer;
 use kds_base::{Memory, Octets, write_u64};
 use kds_defs::Answer;
@@ -109,4 +110,24 @@ pub fn print_answered(alloc: Global, answer: &Answer, line: &mut Octets) -> Resu
     line.extend(b" = ".as_slice())?;
     print_answer(alloc, answer, false, line)?;
     line.extend(b"\n".as_slice())
+}
+
+/// Adds the answer to a command of a hand-off, behind the command. More of the line follows.
+pub fn print_part(alloc: Global, answer: &Answer, line: &mut Octets) -> Result<(), Memory>
+    requires { is_lease_answer answer.now ≡ true }
+    ensures { OnOk result (line.new ≡ line.old ++ (codes " = " ++ (answer_text false answer.now ++ codes "; "))) }
+{
+    line.extend(b" = ".as_slice())?;
+    print_answer(alloc, answer, false, line)?;
+    line.extend(b"; ".as_slice())
+}
+
+/// Adds how a hand-off ended, and ends the line.
+pub fn print_left(left: Option<Left>, line: &mut Octets) -> Result<(), Memory>
+    ensures { OnOk result (line.new ≡ line.old ++ (left_text left ++ 10 ∷ [])) }
+{
+    match left {
+        Some(Left::Refused(_)) => line.extend(b"refused\n".as_slice()),
+        _ => line.extend(b"handed\n".as_slice()),
+    }
 }

@@ -59,7 +59,7 @@ impl<M: Machine> Sim<M> {
     }
 
     /// The place of an actor's worker, where it is one's.
-    fn place_of(&self, by: u32) -> Option<usize>
+    pub(crate) fn place_of(&self, by: u32) -> Option<usize>
         ensures { result ≡ place_among by (length self.now.workers) }
     {
         if by <= MOST_ACTOR {

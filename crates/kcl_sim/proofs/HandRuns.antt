@@ -1,0 +1,276 @@
+-- A hand-off that is under way, beside its record.
+use Rattle.std.proofs.Common.{◌≡◌, ℕ, zero, suc, ◌+◌, ◌-◌, ◌<◌, ◌≤◌, List, [], ◌∷◌, ◌++◌, Some, None, Result, refl, sym, ap, subst, ◌∙◌, arith, ◌⊎◌, inl, inr}
+use Rattle.std.specs.Prelude.{IsSome}
+use Rattle.std.proofs.lemmas.List.{append_assoc, append-nil}
+use Rattle.kds_defs.specs.declared.command.Command.{Command}
+use Rattle.kds_defs.specs.declared.command.Turn.{Turn}
+use Rattle.kds_defs.specs.declared.reply.Refusal.{Refusal}
+use Rattle.kds_defs.specs.declared.reply.Reply.{Reply}
+use Rattle.kds_defs.specs.Histories.{answer}
+use Rattle.kcl_defs.specs.declared.consumer.Tenancy.{Tenancy}
+use Rattle.kcl_defs.specs.declared.plans.Held.{Held}
+use Rattle.kcl_defs.specs.Consumers.{Giving, Phase, due_call, phase_after}
+use Rattle.kcl_defs.specs.Lives.{Deal}
+use Rattle.kcl_hand.specs.declared.stand.Stand.{Stand}
+use Rattle.kcl_hand.specs.declared.stand.Stand.TheVariants as stand
+use Rattle.kcl_hand.specs.Handing.{HandState, Hand_answered, answered_at, command_at, hand_after, hand_command, hand_due, hand_left, left_at}
+use Rattle.kcl_hand.specs.Joints.{HandOff, state_of}
+use Rattle.kcl_hand.specs.Runs.{HandRun, answered_by, called_if, called_up, hand_run, run_hand, with_first}
+use Rattle.kcl_hand.specs.Standing.{AddsHandAnswer, IsLeaving, StandsFor, turns_left, turns_left_in}
+use Rattle.kcl_hand.proofs.Handings.{answered_leaves}
+use Rattle.kcl_proc.specs.Stocks.{StandsFor as Calls}
+use Rattle.kcl_sim.specs.Hands.{ComesNext, Handing, IsHandOf, MadeRound, RanCommand, RanFirst, RanToEnd, deal_at}
+use Rattle.kcl_sim.specs.Output.{deal_text, deals_text, left_text, raw_turn, run_text}
+use Rattle.kcl_sim.specs.Standing.{SimValue}
+use Rattle.kcl_sim.proofs.HandTelling.{round, rounds}
+
+-- ---- a call and a command of one
+
+-- where it stands is where its record leaves it
+pub phase_is : (v : Handing) (x : HandOff) → IsHandOf v x → v.consumer.phase ≡ phase_after x.made (state_of x).past
+phase_is v x s = s.stands.consumer.phase ∙ (λ i. phase_after (s.made i) (hand_after (s.held i) (s.made i) x.before x.since).past)
+
+pub stand_is : (v : Handing) (x : HandOff) → IsHandOf v x → v.stand ≡ (state_of x).stand
+stand_is v x s = s.stands.stand ∙ (λ i. (hand_after (s.held i) (s.made i) x.before x.since).stand)
+
+pub due_is : (v : Handing) (x : HandOff) → IsHandOf v x → due_call v.consumer.phase ≡ hand_due x.made (state_of x)
+due_is v x s = ap due_call (phase_is v x s)
+
+-- the command is that of the record
+pub next_is : (v : Handing) (x : HandOff) → IsHandOf v x → command_at v.held v.consumer.made v.consumer.phase v.stand ≡ hand_command x.held x.made (state_of x)
+next_is v x s = λ i. command_at (s.held i) (s.made i) (phase_is v x s i) (stand_is v x s i)
+
+-- an answer leaves it leaving
+answered_leaves_at : (h : Held) (made : Tenancy) (a : Result Reply Refusal) (s : HandState) (st : Stand) → IsLeaving (phase_after made s.past)
+    → IsLeaving (phase_after made (answered_at h made a s st).past)
+answered_leaves_at h made a s stand.Consumer l = answered_leaves made a (phase_after made s.past) l
+answered_leaves_at h made a s (stand.Mark q) l = l
+answered_leaves_at h made a s (stand.Free counter) l = l
+answered_leaves_at h made a s (stand.Ended left) l = l
+
+leaves_so : (w : Handing) (x : HandOff) → w.held ≡ x.held → w.consumer.made ≡ x.made → StandsFor Calls w x.before x.since
+    → IsLeaving (phase_after x.made (state_of x).past) → IsLeaving w.consumer.phase
+leaves_so w x held made s l =
+    subst IsLeaving (sym (s.consumer.phase ∙ (λ i. phase_after (made i) (hand_after (held i) (made i) x.before x.since).past))) l
+
+hand_on : (w : Handing) (x : HandOff) → w.held ≡ x.held → w.consumer.made ≡ x.made → StandsFor Calls w x.before x.since
+    → IsLeaving (phase_after x.made (state_of x).past) → IsHandOf w x
+hand_on w x held made s l = record { held = held; made = made; stands = s; leaving = leaves_so w x held made s l }
+
+-- where none is due nothing is made
+pub called_none : (x : HandOff) → hand_due x.made (state_of x) ≡ None → called_up x ≡ x
+called_none x is = ap (λ o. called_if o x) is
+
+-- an answer was taken
+pub answered_on : (at by : ℕ) (h : List Turn) (what : Command) (a : Result Reply Refusal) (v w : Handing) → w.held ≡ v.held
+    → w.consumer.made ≡ v.consumer.made → AddsHandAnswer Calls a v w → a ≡ answer h (raw_turn at by what)
+    → (x : HandOff) → IsHandOf v x → IsHandOf w (answered_by at by h x what)
+answered_on at by h what a v w held made adds is x s =
+    let old : IsLeaving (phase_after x.made (state_of x).past) = subst IsLeaving (phase_is v x s) s.leaving in
+    subst (λ z. IsHandOf w (record x { since = Hand_answered z ∷ x.since })) is
+    (hand_on w (record x { since = Hand_answered a ∷ x.since }) (held ∙ s.held) (made ∙ s.made) (adds x.before x.since s.stands)
+    (answered_leaves_at x.held x.made a (state_of x) (state_of x).stand old))
+
+-- ---- so many commands of one
+
+-- with the deals of the commands before
+pub with_deals : List Deal → HandRun → HandRun
+with_deals deals r = record r { deals = deals ++ r.deals }
+
+-- after so many commands, with these deals, it goes on from this history as this
+abbrev pub IsRest : ℕ → ℕ → List Turn → HandOff → ℕ → List Deal → List Turn → HandOff → Type 0
+IsRest at by h x n deals k y = (j : ℕ) → run_hand (n + j) at by h x ≡ with_deals deals (run_hand j at by k y)
+
+run_called : (j at by : ℕ) (h : List Turn) (x : HandOff) → hand_due (called_up x).made (state_of (called_up x)) ≡ None
+    → run_hand j at by h x ≡ run_hand j at by h (called_up x)
+run_called zero at by h x none = ap (λ y. record { history = h; hand = y; deals = [] }) (sym (called_none (called_up x) none))
+run_called (suc j) at by h x none = ap (round j at by h) (sym (called_none (called_up x) none))
+
+rest_begins : (at by : ℕ) (h : List Turn) (x : HandOff) → hand_due (called_up x).made (state_of (called_up x)) ≡ None → IsRest at by h x 0 [] h (called_up x)
+unfolding with_deals
+rest_begins at by h x none j =
+    let same : 0 + j ≡ j = omega arith in
+    ap (λ m. run_hand m at by h x) same ∙ run_called j at by h x none
+
+-- one command more
+rest_more : (at by : ℕ) (h : List Turn) (x : HandOff) (n : ℕ) (deals : List Deal) (k : List Turn) (y : HandOff) (what : Command)
+    → IsRest at by h x n deals k y → hand_command y.held y.made (state_of y) ≡ Some what
+    → hand_due y.made (state_of y) ≡ None → hand_due (called_up (answered_by at by k y what)).made (state_of (called_up (answered_by at by k y what))) ≡ None
+    → IsRest at by h x (n + 1) (deals ++ deal_at at by k what ∷ []) (raw_turn at by what ∷ k) (called_up (answered_by at by k y what))
+unfolding with_deals
+rest_more at by h x n deals k y what rest next none then_none j =
+    let more : n + 1 + j ≡ n + suc j = omega arith in
+    let r = run_hand j at by (raw_turn at by what ∷ k) (called_up (answered_by at by k y what)) in
+    ap (λ m. run_hand m at by h x) more ∙ rest (suc j)
+    ∙ ap (λ z. with_deals deals (round j at by k z)) (called_none y none)
+    ∙ ap (λ o. with_deals deals (rounds j at by k y o)) next
+    ∙ ap (λ z. with_deals deals (with_first k what at by z)) (run_called j at by (raw_turn at by what ∷ k) (answered_by at by k y what) then_none)
+    ∙ ap (λ ds. record { history = r.history; hand = r.hand; deals = ds }) (sym (append_assoc deals (deal_at at by k what ∷ []) r.deals))
+
+-- at its end nothing more comes
+ends_so : (j at by : ℕ) (k : List Turn) (y : HandOff) → hand_command y.held y.made (state_of y) ≡ None → hand_due y.made (state_of y) ≡ None
+    → run_hand j at by k y ≡ record { history = k; hand = y; deals = [] }
+ends_so zero at by k y ended none = ap (λ z. record { history = k; hand = z; deals = [] }) (called_none y none)
+ends_so (suc j) at by k y ended none = ap (round j at by k) (called_none y none) ∙ ap (rounds j at by k y) ended
+
+deals_more : (deals : List Deal) (deal : Deal) → deals_text (deals ++ deal ∷ []) ≡ deals_text deals ++ deal_text deal
+deals_more [] deal = append-nil (deal_text deal)
+deals_more (d ∷ deals) deal = ap (λ z. deal_text d ++ z) (deals_more deals deal) ∙ sym (append_assoc (deal_text d) (deals_text deals) (deal_text deal))
+
+-- ---- a run in which it is under way
+
+-- so many of its commands ran, and the call that was due is made
+pub record UnderWay (at by : ℕ) (old now : SimValue) (v w : Handing) (text : List ℕ) : Type 0 where
+  pub ran_of_it : ℕ
+  pub deals : List Deal
+  pub few : ran_of_it + turns_left_in w ≤ 3
+  pub wrote : text ≡ deals_text deals
+  pub over : now.over ≡ old.over
+  pub workers : now.workers ≡ old.workers
+  pub none_due : due_call w.consumer.phase ≡ None
+  pub rest : (x : HandOff) → IsHandOf v x → (y : HandOff) × IsHandOf w y × IsRest at by old.history x ran_of_it deals now.history y
+
+none_of : (w : Handing) (y : HandOff) → IsHandOf w y → due_call w.consumer.phase ≡ None → hand_due y.made (state_of y) ≡ None
+none_of w y s none = sym (due_is w y s) ∙ none
+
+pub way_begins : (at by : ℕ) (old now : SimValue) (v w : Handing) (text : List ℕ) → now ≡ old → text ≡ [] → turns_left_in v ≤ 3
+    → turns_left_in w ≤ turns_left_in v → due_call w.consumer.phase ≡ None
+    → ((x : HandOff) → IsHandOf v x → IsHandOf w (called_up x)) → UnderWay at by old now v w text
+way_begins at by old now v w text same empty few fewer none called = record {
+  ran_of_it = 0;
+  deals = [];
+  few = omega (arith, few, fewer);
+  wrote = empty;
+  over = ap (λ (z : SimValue). z.over) same;
+  workers = ap (λ (z : SimValue). z.workers) same;
+  none_due = none;
+  rest = λ x s.
+      let here = called x s in (
+        called_up x,
+        here,
+        subst (λ (z : SimValue). IsRest at by old.history x 0 [] z.history (called_up x)) (sym same)
+            (rest_begins at by old.history x (none_of w (called_up x) here none)),
+      );
+}
+
+pub way_goes : (at by : ℕ) (old now new : SimValue) (v w u : Handing) (text more : List ℕ) → UnderWay at by old now v w text
+    → MadeRound at by now new w u text more → new.over ≡ now.over → new.workers ≡ now.workers
+    → turns_left_in u < turns_left_in w → due_call u.consumer.phase ≡ None → UnderWay at by old new v u more
+way_goes at by old now new v w u text more way r over workers fewer none = record {
+  ran_of_it = way.ran_of_it + 1;
+  deals = way.deals ++ deal_at at by now.history r.what ∷ [];
+  few = omega (arith, way.few, fewer);
+  wrote = r.wrote ∙ ap (λ z. z ++ deal_text (deal_at at by now.history r.what)) way.wrote ∙ sym (deals_more way.deals (deal_at at by now.history r.what));
+  over = over ∙ way.over;
+  workers = workers ∙ way.workers;
+  none_due = none;
+  rest = λ x s.
+      let y = way.rest x s in
+      let z = called_up (answered_by at by now.history y.0 r.what) in
+      let here : IsHandOf u z = r.hand y.0 y.1 in
+      let on =
+      rest_more at by old.history x way.ran_of_it way.deals now.history y.0 r.what y.2 (r.next y.0 y.1) (none_of w y.0 y.1 way.none_due)
+      (none_of u z here none) in
+      (z, here, subst (λ k. IsRest at by old.history x (way.ran_of_it + 1) (way.deals ++ deal_at at by now.history r.what ∷ []) k z) (sym r.history) on);
+}
+
+-- ---- it ended
+
+-- where it is over no command comes next
+ended_quiet : (h : Held) (made : Tenancy) (phase : Phase) (s : Stand) → IsSome (left_at s) → command_at h made phase s ≡ None
+ended_quiet h made phase stand.Consumer over = absurd cc
+ended_quiet h made phase (stand.Mark q) over = absurd cc
+ended_quiet h made phase (stand.Free counter) over = absurd cc
+ended_quiet h made phase (stand.Ended left) over = refl
+
+-- the whole run of it
+whole_run : (at by : ℕ) (old now : SimValue) (v w : Handing) (text : List ℕ) (way : UnderWay at by old now v w text) → IsSome (left_at w.stand)
+    → (x : HandOff) (s : IsHandOf v x)
+    → hand_run at by old.history x ≡ record { history = now.history; hand = (way.rest x s).0; deals = way.deals ++ [] }
+unfolding with_deals
+whole_run at by old now v w text way over x s =
+    let y = way.rest x s in
+    let left : ℕ = 3 - way.ran_of_it in
+    let three : 3 ≡ way.ran_of_it + left = omega (arith, way.few) in
+    let quiet : hand_command y.0.held y.0.made (state_of y.0) ≡ None =
+    sym (next_is w y.0 y.1) ∙ ended_quiet w.held w.consumer.made w.consumer.phase w.stand over in
+    ap (λ m. run_hand m at by old.history x) three ∙ y.2 left ∙ ap (with_deals way.deals)
+    (ends_so left at by now.history y.0 quiet (none_of w y.0 y.1 way.none_due))
+
+pub way_ends : (at by : ℕ) (old now new : SimValue) (v w : Handing) (text line before after : List ℕ) → UnderWay at by old now v w text
+    → IsSome (left_at w.stand) → line ≡ text ++ (left_text (left_at w.stand) ++ 10 ∷ [])
+    → after ≡ before ++ line → new ≡ now → RanToEnd at by old new v before after
+way_ends at by old now new v w text line before after way over line_is wrote same = record {
+  history = λ x s. ap (λ (z : SimValue). z.history) same ∙ ap (λ r. r.history) (sym (whole_run at by old now v w text way over x s));
+  wrote = λ x s.
+      let y = way.rest x s in
+      let left : left_at w.stand ≡ hand_left (state_of y.0) = ap left_at (stand_is w y.0 y.1) in
+      wrote ∙ ap (λ z. before ++ z) (line_is ∙ ap (λ z. z ++ (left_text (left_at w.stand) ++ 10 ∷ [])) (way.wrote ∙ ap deals_text (sym (append-nil way.deals)))
+      ∙ ap (λ o. deals_text (way.deals ++ []) ++ (left_text o ++ 10 ∷ [])) left ∙ ap run_text (sym (whole_run at by old now v w text way over x s)));
+}
+
+-- ---- want of memory
+
+-- before it began
+pub broke_first : (at by : ℕ) (old new : SimValue) (v : Handing) → new.history ≡ old.history → RanFirst at by old new v
+broke_first at by old new v same = record { ran_of_it = 0; few = omega arith; history = λ x s. same }
+
+-- between its commands
+pub broke_between : (at by : ℕ) (old now new : SimValue) (v w : Handing) (text : List ℕ) → UnderWay at by old now v w text → new.history ≡ now.history
+    → RanFirst at by old new v
+unfolding with_deals
+broke_between at by old now new v w text way same = record {
+  ran_of_it = way.ran_of_it;
+  few = omega (arith, way.few);
+  history = λ x s.
+      let y = way.rest x s in
+      let none : way.ran_of_it ≡ way.ran_of_it + 0 = omega arith in
+      same ∙ ap (λ r. r.history) (sym (y.2 0)) ∙ ap (λ m. (run_hand m at by old.history x).history) (sym none);
+}
+
+one_left : (s : Stand) (phase : Phase) → left_at s ≡ None → 1 ≤ turns_left s phase
+one_left stand.Consumer (Giving reach waiting asked lost) going = omega arith
+one_left stand.Consumer _ going = omega arith
+one_left (stand.Mark q) phase going = omega arith
+one_left (stand.Free counter) phase going = omega arith
+one_left (stand.Ended left) phase going = absurd cc
+
+-- after the turn of one
+pub broke_after : (at by : ℕ) (old now new : SimValue) (v w : Handing) (text : List ℕ) → UnderWay at by old now v w text → left_at w.stand ≡ None
+    → RanCommand at by now new w → RanFirst at by old new v
+unfolding with_deals
+broke_after at by old now new v w text way going r = record {
+  ran_of_it = way.ran_of_it + 1;
+  few = omega (arith, way.few, one_left w.stand w.consumer.phase going);
+  history = λ x s.
+      let y = way.rest x s in
+      r.history ∙ ap (λ o. (rounds 0 at by now.history y.0 o).history) (sym (r.next y.0 y.1))
+      ∙ ap (λ z. (round 0 at by now.history z).history) (sym (called_none y.0 (none_of w y.0 y.1 way.none_due)))
+      ∙ ap (λ z. z.history) (sym (y.2 1));
+}
+
+pub broke_round : (at by : ℕ) (old now new : SimValue) (v w : Handing) (text : List ℕ) → UnderWay at by old now v w text → left_at w.stand ≡ None
+    → (new.history ≡ now.history) ⊎ RanCommand at by now new w
+    → RanFirst at by old new v
+broke_round at by old now new v w text way going (inl same) = broke_between at by old now new v w text way same
+broke_round at by old now new v w text way going (inr r) = broke_after at by old now new v w text way going r
+
+-- ---- one round
+
+-- the command that comes next is that of the record
+comes_next : (v : Handing) (what : Command) → Some what ≡ command_at v.held v.consumer.made v.consumer.phase v.stand → ComesNext v what
+comes_next v what is x s = sym (next_is v x s) ∙ sym is
+
+pub round_made : (at by : ℕ) (old new : SimValue) (v mid w : Handing) (what : Command) (a : Result Reply Refusal) (before after : List ℕ)
+    → Some what ≡ command_at v.held v.consumer.made v.consumer.phase v.stand
+    → new ≡ record old { history = raw_turn at by what ∷ old.history } → a ≡ answer old.history (raw_turn at by what) → mid.held ≡ v.held
+    → mid.consumer.made ≡ v.consumer.made → AddsHandAnswer Calls a v mid
+    → after ≡ before ++ deal_text (deal_at at by old.history what) → ((x : HandOff) → IsHandOf mid x → IsHandOf w (called_up x))
+    → MadeRound at by old new v w before after
+round_made at by old new v mid w what a before after next ran is held made adds wrote called = record {
+  what = what;
+  next = comes_next v what next;
+  history = ap (λ (z : SimValue). z.history) ran;
+  hand = λ x s. called (answered_by at by old.history x what) (answered_on at by old.history what a v mid held made adds is x s);
+  wrote = wrote;
+}

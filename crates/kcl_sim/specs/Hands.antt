@@ -1,0 +1,58 @@
+-- A hand-off that is under way in a run, beside its record.
+use Rattle.std.specs.Prelude.{◌≡◌, ◌≤◌, ℕ, List, ◌∷◌, ◌++◌, Some}
+use Rattle.kds_defs.specs.declared.command.Command.{Command}
+use Rattle.kds_defs.specs.declared.command.Turn.{Turn}
+use Rattle.kds_defs.specs.Histories.{answer}
+use Rattle.kcl_defs.specs.Lives.{Deal}
+use Rattle.kcl_hand.specs.Handing.{hand_command}
+use Rattle.kcl_hand.specs.Joints.{HandOff, state_of}
+use Rattle.kcl_hand.specs.Runs.{answered_by, called_up, hand_run, run_hand}
+use Rattle.kcl_hand.specs.Standing.{HandStanding, IsLeaving, StandsFor}
+use Rattle.kcl_proc.specs.declared.stock.Stock.{Stock}
+use Rattle.kcl_proc.specs.Stocks.{StandsFor as Calls}
+use Rattle.kcl_sim.specs.Output.{deal_text, raw_turn, run_text}
+use Rattle.kcl_sim.specs.Standing.{SimValue}
+
+-- the hand-off of a lease whose processor is of the kinds in stock
+abbrev pub Handing : Type 0
+Handing = HandStanding Stock
+
+-- it is that of this record, and its consumer was told of the loss
+pub record IsHandOf (v : Handing) (x : HandOff) : Type 0 where
+  pub held : v.held ≡ x.held
+  pub made : v.consumer.made ≡ x.made
+  pub stands : StandsFor Calls v x.before x.since
+  pub leaving : IsLeaving v.consumer.phase
+
+-- the command of an actor at this moment after this history, with its answer
+abbrev pub deal_at : ℕ → ℕ → List Turn → Command → Deal
+deal_at at by h what = record { what = what; answer = answer h (raw_turn at by what) }
+
+-- this command comes next
+abbrev pub ComesNext : Handing → Command → Type 0
+ComesNext v what = (x : HandOff) → IsHandOf v x → hand_command x.held x.made (state_of x) ≡ Some what
+
+-- the command that comes next ran and was answered, and the call that was due then was made
+pub record MadeRound (at by : ℕ) (old new : SimValue) (v w : Handing) (before after : List ℕ) : Type 0 where
+  pub what : Command
+  pub next : ComesNext v what
+  pub history : new.history ≡ raw_turn at by what ∷ old.history
+  pub hand : (x : HandOff) → IsHandOf v x → IsHandOf w (called_up (answered_by at by old.history x what))
+  pub wrote : after ≡ before ++ deal_text (deal_at at by old.history what)
+
+-- memory ran out after its turn ran
+pub record RanCommand (at by : ℕ) (old new : SimValue) (v : Handing) : Type 0 where
+  pub what : Command
+  pub next : ComesNext v what
+  pub history : new.history ≡ raw_turn at by what ∷ old.history
+
+-- it ran to its end, and its line of output was added
+pub record RanToEnd (at by : ℕ) (old new : SimValue) (v : Handing) (before after : List ℕ) : Type 0 where
+  pub history : (x : HandOff) → IsHandOf v x → new.history ≡ (hand_run at by old.history x).history
+  pub wrote : (x : HandOff) → IsHandOf v x → after ≡ before ++ run_text (hand_run at by old.history x)
+
+-- memory ran out: the first so many of its turns ran
+pub record RanFirst (at by : ℕ) (old new : SimValue) (v : Handing) : Type 0 where
+  pub ran_of_it : ℕ
+  pub few : ran_of_it ≤ 3
+  pub history : (x : HandOff) → IsHandOf v x → new.history ≡ (run_hand ran_of_it at by old.history x).history
