@@ -1,12 +1,13 @@
 //! A machine whose turns are told as lines of the journal.
-ghost use Rattle.std.specs.Prelude.{◌≡◌, [], ◌∷◌, List, IfOk, IfSome};
+ghost use Rattle.std.specs.Prelude.{◌≡◌, ◌≤◌, [], ◌∷◌, ◌++◌, List, IfOk, OnOk, OnErr};
 ghost use Rattle.kds_defs.specs.declared.command.Turn.{Turn};
 ghost use Rattle.kds_defs.specs.Histories.{answer as answer_after};
 ghost use Rattle.kds_defs.specs.Lawful.{IsLawful};
 ghost use Rattle.kcl_scribe.specs.Added.{entries_text};
 ghost use Rattle.kcl_scribe.specs.Known.{StandsFor};
-ghost use Rattle.kcl_recorder.specs.Journaling.{IsTold, Journals, newest_text};
+ghost use Rattle.kcl_recorder.specs.Journaling.{AreNewest, IsTold, Journals, newest_texts};
 
+use crate::recent::Recent;
 use kcl_journal::{EntryLine, print_entry};
 use kcl_scribe::Scribe;
 use kds_base::{Memory, Octets};
@@ -21,8 +22,8 @@ pub struct Journaled<M: Machine> {
     alloc: Global,
     machine: M,
     scribe: Scribe,
-    /// The text of the lines that the newest turn added.
-    newest: Option<Octets>,
+    /// The texts of the lines that the newest turns added.
+    recent: Option<Recent>,
 }
 
 impl<M: Machine> Model for Journaled<M> {
@@ -32,9 +33,9 @@ impl<M: Machine> Model for Journaled<M> {
 
     ghost Value = { JournaledValue M };
 
-    ghost view = { λ j. record { machine = j.machine; scribe = j.scribe; newest = j.newest } };
+    ghost view = { λ j. record { machine = j.machine; scribe = j.scribe; recent = j.recent } };
 
-    ghost invariant = { λ j. (h : List Turn) × (M.stands_for j.machine h × IsTold j.scribe j.newest h) };
+    ghost invariant = { λ j. (h : List Turn) × (M.stands_for j.machine h × IsTold j.scribe j.recent h) };
 }
 
 /// The text of lines, each with its line feed.
@@ -49,15 +50,25 @@ fn print_entries(alloc: Global, lines: &[EntryLine]) -> Result<Octets, Memory>
     Ok(text)
 }
 
-/// The text of the lines that a turn adds, by its answer, unless memory for it runs out. Condition: the turn is lawful,
-/// and the answer is that of the definitions after the turns that the scribe noted.
-fn tell_turn(alloc: Global, scribe: &mut Scribe, turn: &Turn, answer: &Answer) -> Option<Octets>
+/// The texts of the newest turns' lines after one more turn, by its answer, unless memory for them runs out. Condition: the
+/// turn is lawful, and the answer is that of the definitions after the turns that the scribe noted.
+fn tell_turn(
+    alloc: Global,
+    scribe: &mut Scribe,
+    before: Recent,
+    turn: &Turn,
+    answer: &Answer,
+) -> Option<Recent>
     requires lawful { IsLawful turn.now }
     requires answered { (h : List Turn) × (StandsFor scribe.old h × (answer.now ≡ answer_after h turn.now)) }
-    ensures { (h : List Turn) → StandsFor scribe.old h → answer.now ≡ answer_after h turn.now → IsTold scribe.new result (turn.now ∷ h) }
+    ensures { (h : List Turn) → StandsFor scribe.old h → AreNewest before h → answer.now ≡ answer_after h turn.now
+        → IsTold scribe.new result (turn.now ∷ h) }
 {
     match scribe.note(alloc, turn, answer) {
-        Ok(lines) => print_entries(alloc, lines.as_slice()).ok(),
+        Ok(lines) => match print_entries(alloc, lines.as_slice()) {
+            Ok(text) => Some(before.with(text)),
+            Err(_) => None,
+        },
         Err(_) => None,
     }
 }
@@ -66,17 +77,17 @@ fn tell_turn(alloc: Global, scribe: &mut Scribe, turn: &Turn, answer: &Answer) -
 fn tell(
     alloc: Global,
     scribe: &mut Scribe,
-    before: &Option<Octets>,
+    before: Option<Recent>,
     copy: &Result<Turn, Memory>,
     answer: &Answer,
-) -> Option<Octets>
+) -> Option<Recent>
     requires lawful { IfOk copy.now IsLawful }
-    requires answered { (h : List Turn) × (IsTold scribe.old before.now h × IfOk copy.now (λ t. answer.now ≡ answer_after h t)) }
-    ensures { (h : List Turn) (turn : Turn) → IsTold scribe.old before.now h → IfOk copy.now (λ t. t ≡ turn) → answer.now ≡ answer_after h turn
+    requires answered { (h : List Turn) × (IsTold scribe.old before h × IfOk copy.now (λ t. answer.now ≡ answer_after h t)) }
+    ensures { (h : List Turn) (turn : Turn) → IsTold scribe.old before h → IfOk copy.now (λ t. t ≡ turn) → answer.now ≡ answer_after h turn
         → IsTold scribe.new result (turn ∷ h) }
 {
     match (before, copy) {
-        (Some(_), Ok(turn)) => tell_turn(alloc, scribe, turn, answer),
+        (Some(recent), Ok(turn)) => tell_turn(alloc, scribe, recent, turn, answer),
         _ => None,
     }
 }
@@ -91,17 +102,20 @@ impl<M: Machine> Journaled<M> {
             alloc,
             machine,
             scribe: Scribe::new(alloc),
-            newest: Some(Octets::new(alloc)),
+            recent: Some(Recent::new(alloc)),
         }
     }
 
-    /// The text of the lines that the newest turn added, unless memory for the journal ran out.
-    pub fn newest(&self) -> Option<&[u8]>
-        ensures { (h : List Turn) → Journals M.stands_for self.now h → IfSome result (λ text. text.now ≡ newest_text h) }
+    /// Adds the lines that so many of the newest turns added, the oldest first. Condition: at most three. After `Memory`
+    /// nothing was added; it comes also where memory for the journal ran out before.
+    pub fn tell(&self, count: usize, to: &mut Octets) -> Result<(), Memory>
+        requires { count ≤ 3 }
+        ensures ok { (h : List Turn) → Journals M.stands_for self.now h → OnOk result (to.new ≡ to.old ++ newest_texts count h) }
+        ensures err { OnErr result (to.new ≡ to.old) }
     {
-        match &self.newest {
-            Some(text) => Some(text.as_slice()),
-            None => None,
+        match &self.recent {
+            Some(recent) => recent.tell(self.alloc, count, to),
+            None => Err(Memory),
         }
     }
 }
@@ -115,7 +129,8 @@ impl<M: Machine> Machine for Journaled<M> {
     fn apply(&mut self, turn: Turn) -> Result<Answer, Memory> {
         let copy = turn.copy(self.alloc);
         let answer = self.machine.apply(turn)?;
-        self.newest = tell(self.alloc, &mut self.scribe, &self.newest, &copy, &answer);
+        let before = self.recent.take();
+        self.recent = tell(self.alloc, &mut self.scribe, before, &copy, &answer);
         drop(copy);
         Ok(answer)
     }

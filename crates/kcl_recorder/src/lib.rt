@@ -7,9 +7,10 @@ ghost use Rattle.kcl_script.specs.declared.line.Line.{Line};
 ghost use Rattle.kcl_recorder.specs.Recording.{lines_journal};
 
 use kcl_scribe::turn_by_turn;
-use kcl_sim::one_after_another;
+use kcl_sim::{few_turns, one_after_another};
 
 mod journaled;
+mod recent;
 mod recorder;
 
 pub use journaled::Journaled;
@@ -21,4 +22,5 @@ pub fn line_by_line()
 {
     one_after_another();
     turn_by_turn();
+    few_turns();
 }

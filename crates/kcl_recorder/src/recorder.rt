@@ -1,19 +1,33 @@
 //! A run of a schedule whose journal takes the place of the answers.
-ghost use Rattle.std.specs.Prelude.{◌≡◌, [], reverse};
+ghost use Rattle.std.specs.Prelude.{◌≡◌, ℕ, ◌+◌, ◌≤◌, [], reverse};
 ghost use Rattle.kds_defs.specs.Histories.{clock as clock_of};
 ghost use Rattle.kcl_sim.specs.Output.{fresh};
 ghost use Rattle.kcl_sim.specs.Standing.{RunsSo};
 
 use crate::journaled::Journaled;
 use kcl_scribe::turn_by_turn;
-use kcl_sim::{Sim, one_after_another};
+use kcl_sim::{Sim, few_turns, one_after_another};
 use kds_base::{Memory, Moment, Octets};
 use kds_defs::{Machine, Turn};
 use kds_lines::Taker;
 use std::alloc::Global;
 use std::marker::Model;
 
-/// A run of a schedule that tells, in place of each line's answer, the lines that its turn adds to the journal.
+/// How many turns a line made, of which there are at most three, by how many ran before it and how many by now.
+fn made(before: usize, now: usize) -> usize
+    ensures few { result ≤ 3 }
+    ensures is { (more : ℕ) → more ≤ 3 → now ≡ more + before → result ≡ more }
+{
+    if now <= before {
+        0
+    } else if now - before < 3 {
+        now - before
+    } else {
+        3
+    }
+}
+
+/// A run of a schedule that tells, in place of each line's answer, the lines that its turns add to the journal.
 #[derive(Drop)]
 pub struct Recorder<M: Machine> {
     sim: Sim<Journaled<M>>,
@@ -59,10 +73,12 @@ impl<M: Machine> Recorder<M> {
 /// It takes the lines of a schedule, and stops at a text that is none.
 impl<M: Machine> Taker for Recorder<M> {
     ghost use Rattle.std.specs.Prelude.{refl};
-    ghost use Rattle.kcl_sim.specs.Taking.{Took, IsNoLine};
+    ghost use Rattle.kcl_sim.specs.Taking.{Broke, IsNoLine, Took};
     ghost use Rattle.kcl_recorder.specs.Recording.{texts_journal};
 
     ghost took = { λ r texts. Took r texts };
+
+    ghost broke = { λ r texts text. Broke r texts text };
 
     ghost refuses = { IsNoLine };
 
@@ -73,18 +89,14 @@ impl<M: Machine> Taker for Recorder<M> {
     fn take(&mut self, alloc: Global, text: &[u8], to: &mut Octets) -> Result<bool, Memory> {
         one_after_another();
         turn_by_turn();
+        few_turns();
         self.answers.clear();
         let before = self.sim.turns().len();
         if !self.sim.take(alloc, text, &mut self.answers)? {
             return Ok(false);
         }
-        if self.sim.turns().len() <= before {
-            return Ok(true);
-        }
-        let Some(lines) = self.sim.machine().newest() else {
-            return Err(Memory);
-        };
-        to.extend(lines)?;
+        let count = made(before, self.sim.turns().len());
+        self.sim.machine().tell(count, to)?;
         Ok(true)
     }
 }
