@@ -1,5 +1,5 @@
 -- Over ends whose faults don't rise the bytes decide how a task ends.
-use Rattle.std.proofs.Common.{◌≡◌, ℕ, Bool, true, false, List, Option, Some, None, refl, sym, ap, subst, inl, inr}
+use Rattle.std.proofs.Common.{◌≡◌, ℕ, Bool, true, false, List, Option, Some, None, refl, sym, ap, inl, inr}
 use Rattle.std.specs.Option.{IfSome}
 use Rattle.kds_drill.specs.Told.{DrillTells}
 use Rattle.kds_ends.specs.declared.status.Status.{Status}

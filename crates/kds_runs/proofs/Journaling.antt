@@ -1,5 +1,5 @@
 -- What the writing of a journal tells, by its parts.
-use Rattle.std.proofs.Common.{◌≡◌, ◌≢◌, ◌<◌, ℕ, true, false, List, [], ◌∷◌, ◌++◌, length, reverse, Option, Some, None, refl, sym, ap, ◌∙◌, subst, arith}
+use Rattle.std.proofs.Common.{◌≡◌, ◌≢◌, ◌<◌, ℕ, true, false, List, [], ◌∷◌, ◌++◌, length, reverse, Option, Some, None, refl, sym, ap, ◌∙◌, subst, inl, arith}
 use Rattle.std.proofs.lemmas.List.{append_assoc, append-nil, length-append, reverse-reverse}
 use mathlib.Core.List.{reverse_aux}
 use Rattle.std.specs.Io.KnownBytes.{Appends}
@@ -20,7 +20,7 @@ use Rattle.kcl_sim.specs.Output.{fresh, with_schedule}
 use Rattle.kcl_sim.specs.Schedule.{history, judged}
 use Rattle.kcl_sim.specs.Standing.{RunsSo, SimValue}
 use Rattle.kcl_sound.specs.Bits.{HaveBits}
-use Rattle.kds_runs.specs.Answered.{RanBy, Remains}
+use Rattle.kds_runs.specs.Answered.{HasMade, RanBy, Remains}
 use Rattle.kds_runs.specs.Journal.{EndTells, IsAuditedSound, JournalTells, entries, first_line, is_done, last_line, recorded}
 use Rattle.kds_runs.specs.Told.{TellsBy}
 
@@ -209,12 +209,13 @@ ran_whole bytes a b c s h r =
     (subst (λ (z : List ℕ). Appends b c z) (sym (r.output_is ∙ ap (λ z. r.front ++ z) r.remains.1 ∙ append-nil r.front)) r.written)
 
 ran_front : (st : Status) (bytes : List ℕ) (a b c d : Option (List ℕ)) (s : SimValue) (r : RanBy lines_journal Done bytes b c s)
-    → (front back : List ℕ) → recorded st r.lines ≡ front ++ back → Remains st r.later back → Appends a d front → RanBy (recorded st) st bytes a d s
-ran_front st bytes a b c d s r front back is remains w = record {
+    → (front back : List ℕ) → HasMade st r.lines r.later s → recorded st r.lines ≡ front ++ back → Remains st r.later back → Appends a d front
+    → RanBy (recorded st) st bytes a d s
+ran_front st bytes a b c d s r front back made is remains w = record {
   lines = r.lines;
   later = r.later;
   parts = r.parts;
-  made = r.made;
+  made = made;
   front = front;
   back = back;
   output_is = is;
@@ -226,16 +227,16 @@ ran_ended : (st : Status) (bytes : List ℕ) (a b c d : Option (List ℕ)) (s : 
     → EndTells st (clock (with_schedule fresh r.lines).history) c d → RanBy (recorded st) st bytes a d s
 ran_ended Done bytes a b c d s h r e =
     let line = last_line (clock (with_schedule fresh r.lines).history) in
-    ran_front Done bytes a b c d s r (recorded Done r.lines) [] (sym (append-nil _)) (r.remains.0, refl)
+    ran_front Done bytes a b c d s r (recorded Done r.lines) [] r.made (sym (append-nil _)) (r.remains.0, refl)
     (appends_more a c d (first_line ++ lines_journal r.lines) line (ran_whole bytes a b c s h r) e)
 ran_ended Write bytes a b c d s h r e =
     let last = last_line (clock (with_schedule fresh r.lines).history) in
     let f = front_later a c d (first_line ++ lines_journal r.lines) last (ran_whole bytes a b c s h r) (part_front c d last e) in
-    ran_front Write bytes a b c d s r f.0 f.1 f.2 tt f.3
+    ran_front Write bytes a b c d s r f.0 f.1 r.made f.2 tt f.3
 ran_ended Memory bytes a b c d s h r e =
     let last = last_line (clock (with_schedule fresh r.lines).history) in
     let f = front_later a c d (first_line ++ lines_journal r.lines) last (ran_whole bytes a b c s h r) ([], last, refl, e) in
-    ran_front Memory bytes a b c d s r f.0 f.1 f.2 tt f.3
+    ran_front Memory bytes a b c d s r f.0 f.1 (inl r.made) f.2 tt f.3
 ran_ended _ bytes a b c d s h r e = absurd e
 
 ran_ended_all : (st : Status) (all a b c d : Option (List ℕ)) (s : SimValue) (last : ℕ) → last ≡ clock s.history → Appends a b first_line

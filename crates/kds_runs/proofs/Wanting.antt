@@ -20,7 +20,7 @@ use Rattle.kcl_sim.specs.Serving.{AreAllServed}
 use Rattle.kcl_sim.specs.Standing.{SimValue}
 use Rattle.kds_runs.specs.Answered.{RanBy}
 use Rattle.kds_runs.specs.Ends.{Answers, Audited, Performed, Replayed, ReplayTells, shown}
-use Rattle.kds_runs.proofs.Answering.{run_safely}
+use Rattle.kds_runs.proofs.Answering.{LawfulPart, run_safely}
 use Rattle.kds_runs.proofs.Journaling.{nothing_recorded, nothing_written}
 
 -- no turn ran
@@ -33,7 +33,7 @@ none_ran output bytes held = record {
   lines = [];
   later = (judged bytes).lines;
   parts = refl;
-  made = record { history = refl; workers = λ e. tt };
+  made = inl (record { history = refl; workers = λ e. tt });
   front = [];
   back = output [];
   output_is = refl;
@@ -85,6 +85,7 @@ unaudited : (all held : Option (List ℕ)) → Audited Memory all held held
 unaudited all held = record { kind = tt; told = audit_none all held; safe = λ e. absurd (not_done e); legal = λ e. absurd (not_unsound e) }
 
 module _ (lawful : (bytes : List ℕ) (lines later : List Line) → (judged bytes).lines ≡ lines ++ later → IsHistory (with_schedule fresh lines).history)
+    (part : LawfulPart)
     (safe : (h : List Turn) → IsHistory h → IsSafe (journal h) (clock h))
     (served : (bytes : List ℕ) (lines later : List Line) → (judged bytes).lines ≡ lines ++ later → AreAllServed (with_schedule fresh lines)) where
   unreplayed : (journal : Bool) (all left held : Option (List ℕ)) → Replayed journal Memory all left held held
@@ -92,7 +93,7 @@ module _ (lawful : (bytes : List ℕ) (lines later : List Line) → (judged byte
   unreplayed journal (Some bytes) left held = record {
     kind = tt;
     told = told_none journal bytes left held;
-    ran = run_safely (shown journal Memory) Memory bytes held held still lawful safe served (none_ran (shown journal Memory) bytes held);
+    ran = run_safely (shown journal Memory) Memory bytes held held still lawful part safe served (none_ran (shown journal Memory) bytes held);
     sound = λ j e. absurd (not_done e);
   }
 

@@ -1,5 +1,5 @@
 -- Which lines of a schedule were answered where a run of it ended so.
-use Rattle.std.specs.Prelude.{◌≡◌, ℕ, List, [], ◌++◌}
+use Rattle.std.specs.Prelude.{◌≡◌, ◌⊎◌, ℕ, List, [], ◌∷◌, ◌++◌}
 use Rattle.std.specs.declared.option.Option.{Option}
 use Rattle.std.specs.Io.KnownBytes.{Appends}
 use Rattle.kds_defs.specs.Histories.{journal, clock}
@@ -12,7 +12,7 @@ use Rattle.kcl_script.specs.declared.line.Line.{Line}
 use Rattle.kcl_sim.specs.Output.{fresh, with_schedule, outputs}
 use Rattle.kcl_sim.specs.Schedule.{judged}
 use Rattle.kcl_sim.specs.Serving.{AreAllServed}
-use Rattle.kcl_sim.specs.Standing.{RunsSo, SimValue}
+use Rattle.kcl_sim.specs.Standing.{HasRunPart, RunsSo, SimValue}
 
 -- the end of a run by that of the reading of its input
 abbrev pub status_of : Outcome → Status
@@ -32,13 +32,20 @@ Remains Memory later back = Unit {0}
 Remains Read later back = back ≡ []
 Remains s later back = (later ≡ []) × (back ≡ [])
 
--- The first lines of the schedule were run, before the first that decides: their turns ran, the workers are theirs, and a
--- front of what is written for them was written.
+-- These lines were run, before those that are left: their turns ran, and the workers are theirs. Where memory ran out, the
+-- first turns of the next line may have run too.
+abbrev pub HasMade : Status → List Line → List Line → SimValue → Type 0
+HasMade Memory lines later s =
+    RunsSo s (with_schedule fresh lines) ⊎ ((line : Line) × (rest : List Line) × (later ≡ line ∷ rest) × HasRunPart s (with_schedule fresh lines) line)
+HasMade _ lines later s = RunsSo s (with_schedule fresh lines)
+
+-- The first lines of the schedule were run, before the first that decides, and a front of what is written for them was
+-- written.
 pub record RanBy (output : List Line → List ℕ) (status : Status) (bytes : List ℕ) (before after : Option (List ℕ)) (s : SimValue) : Type 0 where
   pub lines : List Line
   pub later : List Line
   pub parts : (judged bytes).lines ≡ lines ++ later
-  pub made : RunsSo s (with_schedule fresh lines)
+  pub made : HasMade status lines later s
   pub front : List ℕ
   pub back : List ℕ
   pub output_is : output lines ≡ front ++ back

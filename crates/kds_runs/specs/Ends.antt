@@ -30,8 +30,8 @@ abbrev pub ReplayTells : Bool → Status → List ℕ → Option (List ℕ) → 
 ReplayTells false status bytes left held now = Tells status bytes left held now
 ReplayTells true status bytes left held now = JournalTells status bytes left held now
 
--- A replay ended so: its output is told by the bytes, the turns that ran are those of the lines that were answered, and an
--- audit finds a journal sound that was written to its end.
+-- A replay ended so: its output is told by the bytes, the turns that ran are those of the lines that were answered, and with
+-- Memory perhaps the first turns of one more, and an audit finds a journal sound that was written to its end.
 pub record Replayed (journal : Bool) (status : Status) (bytes left held now : Option (List ℕ)) : Type 0 where
   pub kind : IsReplayStatus status
   pub told : IfSome bytes (λ bs. ReplayTells journal status bs left held now)

@@ -120,7 +120,7 @@ pub fn record_schedule<M: Machine + Drop, S: Source, K: Sink>(
         JournalTells result.status bytes (S.left input.new) (K.held out.old) (K.held out.new)) }
 
     // The recorder's turns are those of the schedule's lines that were answered: all of them, unless an end failed or memory
-    // ran out.
+    // ran out, and with Memory perhaps the first turns of one more.
     ensures ran { IfSome (S.left input.old) (λ bytes.
         RanBy (recorded result.status) result.status bytes (K.held out.old) (K.held out.new) result.recorder) }
 

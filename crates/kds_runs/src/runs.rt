@@ -40,8 +40,8 @@ pub fn run_replay<S: Source, K: Sink>(
     ensures told { IfSome (S.left input.old) (λ bytes.
         ReplayTells journal result bytes (S.left input.new) (K.held out.old) (K.held out.new)) }
 
-    // The turns that ran are those of the schedule's lines that were answered, their state is safe, at their clock, and
-    // their workers' processors were called for what is given.
+    // The turns that ran are those of the schedule's lines that were answered, and with Memory perhaps the first turns of
+    // one more. Their state is safe, at their clock, and the lines' workers' processors were called for what is given.
     ensures ran { IfSome (S.left input.old) (λ bytes.
         RanSafely (shown journal result) result bytes (K.held out.old) (K.held out.new)) }
 

@@ -43,7 +43,7 @@ pub fn run_schedule<M: Machine + Drop, S: Source, K: Sink>(
         Tells result.status bytes (S.left input.new) (K.held out.old) (K.held out.new)) }
 
     // The turns that ran are those of the schedule's lines that were answered: all of them, unless an end failed or memory
-    // ran out. The machine stands for these turns.
+    // ran out, and with Memory perhaps the first turns of one more. The machine stands for these turns.
     ensures ran { IfSome (S.left input.old) (λ bytes. RanSo result.status bytes (K.held out.old) (K.held out.new) result.sim) }
     ensures read { result.status ≡ Status.Read → Rose (S.faults input.old) (S.faults input.new) }
     ensures write { result.status ≡ Status.Write → Rose (K.faults out.old) (K.faults out.new) }

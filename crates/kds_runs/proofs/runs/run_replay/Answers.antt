@@ -1,7 +1,9 @@
 use Rattle.std.proofs.Common.{true, false, sym, ◌∙◌}
 use Rattle.kcl_sim.specs.Output.{fresh, outputs}
+use Rattle.kcl_sim.specs.Schedule.{ran}
+use Rattle.kcl_sim.specs.Serving.{AreAllServed}
 use Rattle.kds_runs.specs.Journal.{recorded}
-use Rattle.kds_runs.proofs.Answering.{ran_safely}
+use Rattle.kds_runs.proofs.Answering.{of_each, ran_safely}
 use Rattle.kds_runs.proofs.Completing.{replays}
 use Rattle.kds_runs.proofs.Journaling.{false_true}
 use Rattle.kds_runs.proofs.runs.run_replay.Goals as goal
@@ -13,7 +15,7 @@ pub returns-then-journal-clause-ran : goal.returns-then-journal-clause-ran
 returns-then-journal-clause-ran g c =
     rw c.if-journal.true
     (ran_safely (recorded c.record_schedule.result.status) c.record_schedule.result.status (g.S.Source.left c.args.input.now) _ _ c.record_schedule.result.recorder
-    c.lawful.ensures.first c.safety.ensures c.served.ensures.first c.record_schedule.ensures.ran)
+    c.lawful.ensures.first c.lawful.ensures.part c.safety.ensures c.served.ensures.first c.record_schedule.ensures.ran)
 
 pub returns-clause-told : goal.returns-clause-told
 returns-clause-told g c = rw c.if-journal.false c.run_schedule.ensures.told
@@ -22,7 +24,7 @@ pub returns-clause-ran : goal.returns-clause-ran
 returns-clause-ran g c =
     rw c.if-journal.false
     (ran_safely (outputs fresh) c.run_schedule.result.status (g.S.Source.left c.args.input.now) _ _ c.run_schedule.result.sim
-    c.lawful.ensures.first c.safety.ensures c.served.ensures.first c.run_schedule.ensures.ran)
+    c.lawful.ensures.first c.lawful.ensures.part c.safety.ensures c.served.ensures.first c.run_schedule.ensures.ran)
 
 pub returns-then-journal-clause-sound : goal.returns-then-journal-clause-sound
 returns-then-journal-clause-sound g c = λ asked done. c.record_schedule.ensures.sound done
@@ -39,3 +41,9 @@ pub returns-clause-complete : goal.returns-clause-complete
 returns-clause-complete g c = λ read write.
     replays false c.run_schedule.result.status (g.S.Source.left c.args.input.now) _ _ _ (λ is. read (c.run_schedule.ensures.read is)) (λ is. write (c.run_schedule.ensures.write is))
     c.run_schedule.ensures.told
+
+pub returns-then-journal-clause-served : goal.returns-then-journal-clause-served
+returns-then-journal-clause-served g c = of_each {P = λ bytes. AreAllServed (ran bytes)} (g.S.Source.left c.args.input.now) c.served.ensures.whole
+
+pub returns-clause-served : goal.returns-clause-served
+returns-clause-served g c = of_each {P = λ bytes. AreAllServed (ran bytes)} (g.S.Source.left c.args.input.now) c.served.ensures.whole
