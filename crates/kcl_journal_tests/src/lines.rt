@@ -7,7 +7,7 @@ use kds_defs::Command;
 use std::alloc::Global;
 use std::test::Fail;
 
-const LINES: [&str; 19] = [
+const LINES: [&str; 20] = [
     "1000 api CreateStream ",
     "1000 raw 999 rows",
     "0 raw 1 survey",
@@ -27,6 +27,7 @@ const LINES: [&str; 19] = [
     "3000 worker w2 users time 5",
     "3000 step 4294967295",
     "3000 stop 0",
+    "3000 hand 1000 1/0",
 ];
 
 /// The text of the line that a text is.

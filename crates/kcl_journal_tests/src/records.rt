@@ -36,6 +36,36 @@ const ENTRIES: &str = "1000 0 made 1 s 1
 3000 1 given 1
 ";
 
+/// A worker whose lease is handed off by one line, once its processor has the batch: three turns.
+const HANDED: [&str; 13] = [
+    r#"1000 api CreateStream {"StreamName":"s","ShardCount":1}"#,
+    r#"1000 api PutRecord {"StreamName":"s","Data":"aGk=","PartitionKey":"a"}"#,
+    r#"1001 api PutRecord {"StreamName":"s","Data":"","PartitionKey":"abc"}"#,
+    "3000 worker w1 tally",
+    "3000 step 1000",
+    "3000 step 1000",
+    "3000 step 1000",
+    "3000 step 1000",
+    "3000 step 1000",
+    "3000 step 1000",
+    "3000 step 1000",
+    "3000 step 1000",
+    "3000 hand 1000 1/0",
+];
+
+/// Its ten entries, of which the last three are the hand-off's.
+const HANDED_ENTRIES: &str = "1000 0 made 1 s 1
+1000 0 put 1 0 1 16955237001963240173058271559858726497 2 1
+1001 0 put 1 0 2 191415658344158766168031473277922803570 0 3
+3000 1000 lease 1/0
+3000 1000 taken 1/0 1 1 w1
+3000 1000 opened 1
+3000 1000 read 1 1000 more 1 2
+3000 1000 given 1
+3000 1000 marked 1 2 2
+3000 1000 freed 1 3
+";
+
 /// What a recorder over a new machine writes for these lines, and its clock behind it.
 fn record<M: Machine + Drop>(
     alloc: Global,
@@ -59,6 +89,9 @@ fn records(rt: HostRuntime) -> Result<(), Fail> {
     let alloc = rt.alloc();
     let (out, clock) = record(alloc, World::new(alloc), &ROBBED)?;
     assert!(rt; out.as_slice() == ENTRIES.as_bytes());
+    assert!(rt; clock == 3000);
+    let (out, clock) = record(alloc, World::new(alloc), &HANDED)?;
+    assert!(rt; out.as_slice() == HANDED_ENTRIES.as_bytes());
     assert!(rt; clock == 3000);
     let bad = ["1000 raw 1 make", "1000 raw 1 survey"];
     let (out, clock) = record(alloc, World::new(alloc), &bad)?;
