@@ -7,6 +7,7 @@ ghost use Rattle.kds_tasks.specs.Words.{task_of, texts_of};
 ghost use Rattle.kds_tasks.specs.declared.task.Task.TheVariants.{Replay};
 ghost use Rattle.kcl_sim.specs.Schedule.{history, ran};
 ghost use Rattle.kcl_sim.specs.Serving.{AreAllServed};
+ghost use Rattle.kds_runs.specs.Answered.{AreHandedOn};
 ghost use Rattle.kds_runs.specs.Completed.{Completed};
 ghost use Rattle.kds_runs.specs.Ends.{Performed};
 ghost use Rattle.kds_runs.specs.Journal.{IsAuditedSound};
@@ -95,11 +96,13 @@ where
     ensures complete { (Rose (S.faults input.old) (S.faults input.new) → ⊥) → (Rose (K.faults out.old) (K.faults out.new) → ⊥)
         → (Rose (D.faults door.old) (D.faults door.new) → ⊥) → CompletesSo result words.now.items (S.left input.old) }
     // Of a schedule that is replayed, with its answers or its journal: the state of its turns is safe, at their clock, and
-    // its workers' processors are called for the given reads of their tenures. A journal that is whole is found sound.
+    // its workers' processors are called for the given reads of their tenures. What was given before a hand-off isn't
+    // delivered after it. A journal that is whole is found sound.
     ensures safe { (journal : Bool) → task_of (texts_of words.now.items) ≡ Some (Replay journal)
         → IfSome (S.left input.old) (λ bytes. IsSafe (journal_of (history bytes)) (clock_of (history bytes))) }
     ensures served { (journal : Bool) → task_of (texts_of words.now.items) ≡ Some (Replay journal)
         → IfSome (S.left input.old) (λ bytes. AreAllServed (ran bytes)) }
+    ensures handed { (journal : Bool) → task_of (texts_of words.now.items) ≡ Some (Replay journal) → IfSome (S.left input.old) AreHandedOn }
     ensures sound { result ≡ 0 → task_of (texts_of words.now.items) ≡ Some (Replay true) → IfSome (S.left input.old) IsAuditedSound }
     ensures read { result ≡ 4 → Rose (S.faults input.old) (S.faults input.new) }
     ensures write { result ≡ 5 → Rose (K.faults out.old) (K.faults out.new) }

@@ -10,8 +10,8 @@ use Rattle.kds_lines.specs.declared.outcome.Outcome.{Outcome}
 use Rattle.kds_lines.specs.declared.outcome.Outcome.TheVariants as outcome
 use Rattle.kcl_script.specs.declared.line.Line.{Line}
 use Rattle.kcl_sim.specs.Output.{fresh, with_schedule, outputs}
-use Rattle.kcl_sim.specs.Schedule.{judged}
-use Rattle.kcl_sim.specs.Serving.{AreAllServed}
+use Rattle.kcl_sim.specs.Schedule.{history, judged}
+use Rattle.kcl_sim.specs.Serving.{AreAllServed, AreHandedOff, AreNeverReadAgain}
 use Rattle.kcl_sim.specs.Standing.{HasRunPart, RunsSo, SimValue}
 
 -- the end of a run by that of the reading of its input
@@ -62,3 +62,9 @@ pub record RanSafely (output : List Line → List ℕ) (status : Status) (bytes 
   pub so : RanBy output status bytes before after sim
   pub safe : IsSafe (journal sim.history) (clock sim.history)
   pub served : AreAllServed (with_schedule fresh so.lines)
+
+-- After each line of the schedule: what was given before a hand-off freed its row is marked, as long as the row is there, and
+-- none of it is read in a tenure of the key that begins then.
+abbrev pub AreHandedOn : List ℕ → Type 0
+AreHandedOn bytes = (lines later : List Line) → (judged bytes).lines ≡ lines ++ later
+    → AreHandedOff (with_schedule fresh lines) × AreNeverReadAgain (history bytes) (with_schedule fresh lines)

@@ -8,10 +8,11 @@ ghost use Rattle.kds_defs.specs.Safe.{IsSafe};
 ghost use Rattle.kds_tasks.specs.declared.task.Task.{Task};
 ghost use Rattle.kcl_sim.specs.Schedule.{history, ran};
 ghost use Rattle.kcl_sim.specs.Serving.{AreAllServed};
+ghost use Rattle.kds_runs.specs.Answered.{AreHandedOn};
 ghost use Rattle.kds_runs.specs.Ends.{Performed};
 
 use kcl_laws::step;
-use kcl_sim::{lawful, served};
+use kcl_sim::{handed_off, lawful, served};
 use kds_ends::Status;
 
 /// The state of every lawful history is safe, at its clock.
@@ -21,14 +22,17 @@ pub fn safety()
     step();
 }
 
-/// The state of every schedule's turns is safe, at their clock, and its workers' processors are called for what is given.
+/// The state of every schedule's turns is safe, at their clock, its workers' processors are called for what is given, and
+/// what was given before a hand-off isn't delivered after it.
 pub fn schedules()
     ensures safe { (bytes : List ℕ) → IsSafe (journal_of (history bytes)) (clock_of (history bytes)) }
     ensures served { (bytes : List ℕ) → AreAllServed (ran bytes) }
+    ensures handed { (bytes : List ℕ) → AreHandedOn bytes }
 {
     lawful();
     safety();
     served();
+    handed_off();
 }
 
 /// Want of memory before anything is read is an end of each task, whose door doesn't listen.

@@ -7,14 +7,14 @@ ghost use Rattle.kcl_sim.specs.Schedule.{history, ran};
 ghost use Rattle.kcl_sim.specs.Serving.{AreAllServed};
 ghost use Rattle.kds_server.specs.Texts.{EndsAs, IsAnswerStatus, IsCrewStatus};
 ghost use Rattle.kds_server.specs.Serving.{Served};
-ghost use Rattle.kds_runs.specs.Answered.{RanSafely};
+ghost use Rattle.kds_runs.specs.Answered.{AreHandedOn, RanSafely};
 ghost use Rattle.kds_runs.specs.Completed.{ReplaysAs};
 ghost use Rattle.kds_runs.specs.Ends.{ReplayTells, ServeTells, shown};
 ghost use Rattle.kds_runs.specs.Journal.{IsAuditedSound};
 ghost use Rattle.kds_runs.specs.Told.{IsReplayStatus};
 
 use crate::journal::record_schedule;
-use crate::laws::safety;
+use crate::laws::{safety, schedules};
 use crate::schedule::run_schedule;
 use kcl_sim::{lawful, served};
 use kcl_world::World;
@@ -49,6 +49,9 @@ pub fn run_replay<S: Source, K: Sink>(
     ensures safe { IfSome (S.left input.old) (λ bytes. IsSafe (journal_of (history bytes)) (clock_of (history bytes))) }
     ensures served { IfSome (S.left input.old) (λ bytes. AreAllServed (ran bytes)) }
 
+    // What was given before a hand-off freed its row isn't delivered after it.
+    ensures handed { IfSome (S.left input.old) AreHandedOn }
+
     // A journal that is written to its end is found sound by an audit.
     ensures sound { journal ≡ true → result ≡ Status.Done → IfSome (S.left input.old) IsAuditedSound }
 
@@ -63,6 +66,7 @@ pub fn run_replay<S: Source, K: Sink>(
     lawful();
     safety();
     served();
+    schedules();
     if journal {
         return record_schedule(alloc, World::new(alloc), input, out).status;
     }

@@ -3,6 +3,7 @@ use Rattle.kds_defs.specs.Histories.{clock, journal as journal_of}
 use Rattle.kds_defs.specs.Safe.{IsSafe}
 use Rattle.kcl_sim.specs.Schedule.{history, ran}
 use Rattle.kcl_sim.specs.Serving.{AreAllServed}
+use Rattle.kds_runs.specs.Answered.{AreHandedOn}
 use Rattle.kds_program.proofs.Asked.{sound_by}
 use Rattle.kds_program.proofs.Codes.{done_by, door_by, each, read_by, refused_code, usage_by, write_by}
 use Rattle.kds_program.proofs.program.run.Goals as goal
@@ -42,6 +43,9 @@ returns-clause-safe g c = λ journal is. each (λ bytes. IsSafe (journal_of (his
 
 pub returns-clause-served : goal.returns-clause-served
 returns-clause-served g c = λ journal is. each (λ bytes. AreAllServed (ran bytes)) c.schedules.ensures.served (g.S.Source.left c.args.input.now)
+
+pub returns-clause-handed : goal.returns-clause-handed
+returns-clause-handed g c = λ journal is. each AreHandedOn c.schedules.ensures.handed (g.S.Source.left c.args.input.now)
 
 pub returns-clause-read : goal.returns-clause-read
 returns-clause-read g c = λ four. c.perform_words-status.ensures.read (read_by c.perform_words-status.result (sym c.code.ensures ∙ four))

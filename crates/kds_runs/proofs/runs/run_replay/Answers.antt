@@ -2,6 +2,7 @@ use Rattle.std.proofs.Common.{true, false, sym, ◌∙◌}
 use Rattle.kcl_sim.specs.Output.{fresh, outputs}
 use Rattle.kcl_sim.specs.Schedule.{ran}
 use Rattle.kcl_sim.specs.Serving.{AreAllServed}
+use Rattle.kds_runs.specs.Answered.{AreHandedOn}
 use Rattle.kds_runs.specs.Journal.{recorded}
 use Rattle.kds_runs.proofs.Answering.{of_each, ran_safely}
 use Rattle.kds_runs.proofs.Completing.{replays}
@@ -47,3 +48,9 @@ returns-then-journal-clause-served g c = of_each {P = λ bytes. AreAllServed (ra
 
 pub returns-clause-served : goal.returns-clause-served
 returns-clause-served g c = of_each {P = λ bytes. AreAllServed (ran bytes)} (g.S.Source.left c.args.input.now) c.served.ensures.whole
+
+pub returns-then-journal-clause-handed : goal.returns-then-journal-clause-handed
+returns-then-journal-clause-handed g c = of_each {P = AreHandedOn} (g.S.Source.left c.args.input.now) c.schedules.ensures.handed
+
+pub returns-clause-handed : goal.returns-clause-handed
+returns-clause-handed g c = of_each {P = AreHandedOn} (g.S.Source.left c.args.input.now) c.schedules.ensures.handed
