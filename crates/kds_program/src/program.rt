@@ -81,7 +81,7 @@ where
     D: Door,
     D::Input: Send,
     D::Output: Send,
-    // 2 only where the words are no task's; and where they are none's 2, or 6.
+    // 2 only if the words ask for no task; if they ask for none, 2 or 6.
     ensures usage { result ≡ 2 → task_of (texts_of words.now.items) ≡ None }
     ensures refused { task_of (texts_of words.now.items) ≡ None → (result ≡ 2) ⊎ (result ≡ 6) }
     // Then the input and the output are as they were.
@@ -96,8 +96,8 @@ where
     ensures complete { (Rose (S.faults input.old) (S.faults input.new) → ⊥) → (Rose (K.faults out.old) (K.faults out.new) → ⊥)
         → (Rose (D.faults door.old) (D.faults door.new) → ⊥) → CompletesSo result words.now.items (S.left input.old) }
     // Of a schedule that is replayed, with its answers or its journal: the state of its turns is safe, at their clock, and
-    // its workers' processors are called for the given reads of their tenures. What was given before a hand-off isn't
-    // delivered after it. A journal that is whole is found sound.
+    // its workers' processors are called for the given reads of their tenures. What was given in a tenure that was handed
+    // off isn't read in a tenure of the key that begins after it. A journal that is whole is found sound.
     ensures safe { (journal : Bool) → task_of (texts_of words.now.items) ≡ Some (Replay journal)
         → IfSome (S.left input.old) (λ bytes. IsSafe (journal_of (history bytes)) (clock_of (history bytes))) }
     ensures served { (journal : Bool) → task_of (texts_of words.now.items) ≡ Some (Replay journal)

@@ -23,7 +23,7 @@ use Rattle.kcl_sim.specs.Schedule.{Ending, whole, too_long, bad_line, judge_end,
 use Rattle.kcl_sim.specs.Serving.{AreAllServed}
 use Rattle.kcl_sim.specs.Standing.{HasRunPart, SimValue}
 use Rattle.kcl_sim.specs.Taking.{judged_texts, Broke, Took, IsNoLine}
-use Rattle.kds_runs.specs.Answered.{status_of, HasMade, Remains, RanBy, RanSafely}
+use Rattle.kds_runs.specs.Answered.{status_of, AreHandedOn, HasMade, Remains, RanBy, RanSafely}
 use Rattle.kds_runs.specs.Told.{TellsBy, IsReplayStatus}
 
 -- what one line after another means
@@ -203,12 +203,14 @@ pub run_safely : (output : List Line → List ℕ) (status : Status) (bytes : Li
     → LawfulPart
     → ((h : List Turn) → IsHistory h → IsSafe (journal h) (clock h))
     → ((bytes : List ℕ) (lines later : List Line) → (judged bytes).lines ≡ lines ++ later → AreAllServed (with_schedule fresh lines))
+    → ((bytes : List ℕ) → AreHandedOn bytes)
     → RanBy output status bytes held now s → RanSafely output status bytes held now
-run_safely output status bytes held now s lawful part safe served so = record {
+run_safely output status bytes held now s lawful part safe served handed so = record {
   sim = s;
   so = so;
   safe = safe s.history (history_made status bytes so.lines so.later s lawful part so.parts so.made);
   served = served bytes so.lines so.later so.parts;
+  handed = handed bytes so.lines so.later so.parts;
 }
 
 pub ran_safely : (output : List Line → List ℕ) (status : Status) (all held now : Option (List ℕ)) (s : SimValue)
@@ -216,9 +218,11 @@ pub ran_safely : (output : List Line → List ℕ) (status : Status) (all held n
     → LawfulPart
     → ((h : List Turn) → IsHistory h → IsSafe (journal h) (clock h))
     → ((bytes : List ℕ) (lines later : List Line) → (judged bytes).lines ≡ lines ++ later → AreAllServed (with_schedule fresh lines))
+    → ((bytes : List ℕ) → AreHandedOn bytes)
     → IfSome all (λ bytes. RanBy output status bytes held now s) → IfSome all (λ bytes. RanSafely output status bytes held now)
-ran_safely output status None held now s lawful part safe served so = tt
-ran_safely output status (Some bytes) held now s lawful part safe served so = run_safely output status bytes held now s lawful part safe served so
+ran_safely output status None held now s lawful part safe served handed so = tt
+ran_safely output status (Some bytes) held now s lawful part safe served handed so =
+    run_safely output status bytes held now s lawful part safe served handed so
 
 pub of_each : {P : List ℕ → Type 0} (all : Option (List ℕ)) → ((bytes : List ℕ) → P bytes) → IfSome all P
 of_each None each = tt

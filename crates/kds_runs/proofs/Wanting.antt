@@ -18,7 +18,7 @@ use Rattle.kcl_sim.specs.Output.{fresh, with_schedule}
 use Rattle.kcl_sim.specs.Schedule.{history, judged}
 use Rattle.kcl_sim.specs.Serving.{AreAllServed}
 use Rattle.kcl_sim.specs.Standing.{SimValue}
-use Rattle.kds_runs.specs.Answered.{RanBy}
+use Rattle.kds_runs.specs.Answered.{AreHandedOn, RanBy}
 use Rattle.kds_runs.specs.Ends.{Answers, Audited, Performed, Replayed, ReplayTells, shown}
 use Rattle.kds_runs.proofs.Answering.{LawfulPart, run_safely}
 use Rattle.kds_runs.proofs.Journaling.{nothing_recorded, nothing_written}
@@ -87,13 +87,14 @@ unaudited all held = record { kind = tt; told = audit_none all held; safe = λ e
 module _ (lawful : (bytes : List ℕ) (lines later : List Line) → (judged bytes).lines ≡ lines ++ later → IsHistory (with_schedule fresh lines).history)
     (part : LawfulPart)
     (safe : (h : List Turn) → IsHistory h → IsSafe (journal h) (clock h))
-    (served : (bytes : List ℕ) (lines later : List Line) → (judged bytes).lines ≡ lines ++ later → AreAllServed (with_schedule fresh lines)) where
+    (served : (bytes : List ℕ) (lines later : List Line) → (judged bytes).lines ≡ lines ++ later → AreAllServed (with_schedule fresh lines))
+    (handed : (bytes : List ℕ) → AreHandedOn bytes) where
   unreplayed : (journal : Bool) (all left held : Option (List ℕ)) → Replayed journal Memory all left held held
   unreplayed journal None left held = record { kind = tt; told = tt; ran = tt; sound = λ j e. tt }
   unreplayed journal (Some bytes) left held = record {
     kind = tt;
     told = told_none journal bytes left held;
-    ran = run_safely (shown journal Memory) Memory bytes held held still lawful part safe served (none_ran (shown journal Memory) bytes held);
+    ran = run_safely (shown journal Memory) Memory bytes held held still lawful part safe served handed (none_ran (shown journal Memory) bytes held);
     sound = λ j e. absurd (not_done e);
   }
 

@@ -56,15 +56,20 @@ pub record RanBy (output : List Line → List ℕ) (status : Status) (bytes : Li
 abbrev pub RanSo : Status → List ℕ → Option (List ℕ) → Option (List ℕ) → SimValue → Type 0
 RanSo status bytes before after s = RanBy (outputs fresh) status bytes before after s
 
--- and the state of these turns is safe, at their clock, and the processors of these workers were called for what is given
+-- What was given in a tenure whose hand-off freed its row is marked after these first lines of the schedule, as long as the
+-- row is there, and isn't read in a tenure of the key that begins then.
+abbrev pub IsHandedOn : List ℕ → List Line → Type 0
+IsHandedOn bytes lines = AreHandedOff (with_schedule fresh lines) × AreNeverReadAgain (history bytes) (with_schedule fresh lines)
+
+-- so it is after each of its lines
+abbrev pub AreHandedOn : List ℕ → Type 0
+AreHandedOn bytes = (lines later : List Line) → (judged bytes).lines ≡ lines ++ later → IsHandedOn bytes lines
+
+-- and the state of these turns is safe, at their clock, the processors of these workers were called for what is given, and
+-- what they handed off isn't read again
 pub record RanSafely (output : List Line → List ℕ) (status : Status) (bytes : List ℕ) (before after : Option (List ℕ)) : Type 0 where
   pub sim : SimValue
   pub so : RanBy output status bytes before after sim
   pub safe : IsSafe (journal sim.history) (clock sim.history)
   pub served : AreAllServed (with_schedule fresh so.lines)
-
--- After each line of the schedule: what was given before a hand-off freed its row is marked, as long as the row is there, and
--- none of it is read in a tenure of the key that begins then.
-abbrev pub AreHandedOn : List ℕ → Type 0
-AreHandedOn bytes = (lines later : List Line) → (judged bytes).lines ≡ lines ++ later
-    → AreHandedOff (with_schedule fresh lines) × AreNeverReadAgain (history bytes) (with_schedule fresh lines)
+  pub handed : IsHandedOn bytes so.lines

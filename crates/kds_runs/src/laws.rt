@@ -22,8 +22,8 @@ pub fn safety()
     step();
 }
 
-/// The state of every schedule's turns is safe, at their clock, its workers' processors are called for what is given, and
-/// what was given before a hand-off isn't delivered after it.
+/// The state of every schedule's turns is safe, at their clock; its workers' processors are called for what is given; and
+/// what was given in a tenure that was handed off isn't read in a tenure of the key that begins after it.
 pub fn schedules()
     ensures safe { (bytes : List ℕ) → IsSafe (journal_of (history bytes)) (clock_of (history bytes)) }
     ensures served { (bytes : List ℕ) → AreAllServed (ran bytes) }
@@ -42,4 +42,5 @@ pub fn no_room()
     lawful();
     safety();
     served();
+    schedules();
 }

@@ -41,7 +41,8 @@ pub fn run_replay<S: Source, K: Sink>(
         ReplayTells journal result bytes (S.left input.new) (K.held out.old) (K.held out.new)) }
 
     // The turns that ran are those of the schedule's lines that were answered, and with Memory perhaps the first turns of
-    // one more. Their state is safe, at their clock, and the lines' workers' processors were called for what is given.
+    // one more. Their state is safe, at their clock, the lines' workers' processors were called for what is given, and what
+    // these workers handed off isn't read again.
     ensures ran { IfSome (S.left input.old) (λ bytes.
         RanSafely (shown journal result) result bytes (K.held out.old) (K.held out.new)) }
 
@@ -49,7 +50,7 @@ pub fn run_replay<S: Source, K: Sink>(
     ensures safe { IfSome (S.left input.old) (λ bytes. IsSafe (journal_of (history bytes)) (clock_of (history bytes))) }
     ensures served { IfSome (S.left input.old) (λ bytes. AreAllServed (ran bytes)) }
 
-    // What was given before a hand-off freed its row isn't delivered after it.
+    // What was given in a tenure that was handed off isn't read in a tenure of the key that begins after it.
     ensures handed { IfSome (S.left input.old) AreHandedOn }
 
     // A journal that is written to its end is found sound by an audit.

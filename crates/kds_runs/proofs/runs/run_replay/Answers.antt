@@ -16,7 +16,7 @@ pub returns-then-journal-clause-ran : goal.returns-then-journal-clause-ran
 returns-then-journal-clause-ran g c =
     rw c.if-journal.true
     (ran_safely (recorded c.record_schedule.result.status) c.record_schedule.result.status (g.S.Source.left c.args.input.now) _ _ c.record_schedule.result.recorder
-    c.lawful.ensures.first c.lawful.ensures.part c.safety.ensures c.served.ensures.first c.record_schedule.ensures.ran)
+    c.lawful.ensures.first c.lawful.ensures.part c.safety.ensures c.served.ensures.first c.schedules.ensures.handed c.record_schedule.ensures.ran)
 
 pub returns-clause-told : goal.returns-clause-told
 returns-clause-told g c = rw c.if-journal.false c.run_schedule.ensures.told
@@ -25,7 +25,7 @@ pub returns-clause-ran : goal.returns-clause-ran
 returns-clause-ran g c =
     rw c.if-journal.false
     (ran_safely (outputs fresh) c.run_schedule.result.status (g.S.Source.left c.args.input.now) _ _ c.run_schedule.result.sim
-    c.lawful.ensures.first c.lawful.ensures.part c.safety.ensures c.served.ensures.first c.run_schedule.ensures.ran)
+    c.lawful.ensures.first c.lawful.ensures.part c.safety.ensures c.served.ensures.first c.schedules.ensures.handed c.run_schedule.ensures.ran)
 
 pub returns-then-journal-clause-sound : goal.returns-then-journal-clause-sound
 returns-then-journal-clause-sound g c = λ asked done. c.record_schedule.ensures.sound done
