@@ -1,7 +1,11 @@
 -- A plain text of digits is ASCII, and `parse` reads it.
-use Rattle.std.proofs.Common.{decimal, sym, ap, ◌∙◌, subst, get_or, Some, zero, suc, inl, inr, ◌⊎◌, ◌≡◌, ℕ, ◌+◌, ◌*◌, ◌/◌, ◌%◌, ◌^◌, ◌<◌, ◌≤◌, List, [], ◌∷◌, ◌++◌, length, true, Result, Ok, Err, arith, rules}
+use Rattle.std.proofs.Common.{decimal, sym, ap, ◌∙◌, subst, get_or, take, Some, None, zero, suc, inl, inr, ◌⊎◌, ◌≡◌, ℕ, ◌+◌, ◌-◌, ◌*◌, ◌/◌, ◌%◌, ◌^◌, ◌<◌, ◌≤◌, List, [], ◌∷◌, ◌++◌, length, Bool, true, false, refl, Result, Ok, Err, arith, rules}
 use Rattle.std.proofs.lemmas.Grind.{common_steps}
-use Rattle.std.proofs.lemmas.Str.Parse.{IsNumeralModel, numerals_by_value, parse_digits}
+use Rattle.std.proofs.lemmas.Bool.Decides.{nat_tests}
+use Rattle.std.proofs.lemmas.Int.Digits.{digits_value_more}
+use Rattle.std.proofs.lemmas.List.Folds.{list_all_more}
+use Rattle.std.specs.Prelude.{◌&&◌, ◌==◌, nat_lt, slice_index, if◌then◌else◌}
+use Rattle.std.proofs.lemmas.Str.Parse.{IsNumeralModel, numerals_by_value, parse_digits, digits_value-take-le}
 use Rattle.std.proofs.lemmas.Fmt.{IsAscii-from_digits, decimal_digit, decimal_step_wide, decimal_by_steps_wide, decimal_is_IsNumeral_wide}
 use Rattle.std.proofs.lemmas.List.{append_assoc, append-nil, length-append}
 use Rattle.std.proofs.lemmas.Str.{digit_value_digit}
@@ -122,12 +126,55 @@ number_of_decimal n small = reads 64 n (omega arith) small
 pub some_digits : (text : List ℕ) → are_digits text ≡ true → IsDigits text × (0 < length text)
 some_digits text p = (grind (arith, common_steps), grind (arith, common_steps))
 
-digits_parsed : {E : Type 0} (bits : ℕ) (bs : List ℕ) (r : Result ℕ E) → are_digits bs ≡ true → OkIff r ((0 < length bs) × (digits_value 10 bs < 2 ^ bits)) (digits_value 10 bs) → result_ok r ≡ digits_of bits bs
-digits_parsed bits bs (Ok x) p h = grind (arith, common_steps, h.0.1, h.1)
-digits_parsed bits bs (Err e) p h = let n = some_digits bs p in grind (arith, common_steps, n.1)
+-- digits are read one after another
+pub next_digit : (ds : List ℕ) (i n : ℕ) → i < length ds → is_ascii_digit (get_or ds i 0) ≡ true → n ≡ digits_value 10 (take i ds)
+    → digits_value 10 (take (i + 1) ds) ≡ n * 10 + (get_or ds i 0 - 48)
+next_digit ds i n inside digit value =
+    let worth : digit_value (get_or ds i 0) ≡ get_or ds i 0 - 48 = grind (arith, nat_tests) in
+    rw (digits_value_more 10 ds i inside, worth, value)
 
-pub digits_from_parse : {E : Type 0} (bits : ℕ) (bs : List ℕ) (r : Result ℕ E) → are_digits bs ≡ true → ParsesUnsigned bits 10 bs r → result_ok r ≡ digits_of bits bs
-digits_from_parse bits bs r p h = digits_parsed bits bs r p (parse_digits own bits bs r h (some_digits bs p).0)
+pub more_digits : (ds : List ℕ) (i : ℕ) → i < length ds → list_all is_ascii_digit (take i ds) ≡ true → is_ascii_digit (get_or ds i 0) ≡ true
+    → list_all is_ascii_digit (take (i + 1) ds) ≡ true
+more_digits ds i inside front digit = list_all_more is_ascii_digit ds i 0 inside ∙ rw (front, digit) refl
 
-pub digits_ascii : (text : List ℕ) → are_digits text ≡ true → IsAscii text
-digits_ascii text p = IsAscii-from_digits text (own.to text (some_digits text p).0)
+some_other : (test : ℕ → Bool) (xs : List ℕ) (i : ℕ) → i < length xs → test (get_or xs i 0) ≡ false → list_all test xs ≡ false
+some_other test [] i inside fails = absurd (omega arith)
+some_other test (x ∷ xs) zero inside fails = rw fails refl
+some_other test (x ∷ xs) (suc i) inside fails = none (test x) _ (some_other test xs i (omega arith) fails)
+  where
+    none : (a b : Bool) → b ≡ false → (a && b) ≡ false
+    none true b e = e
+    none false b e = refl
+
+-- what is read of an empty text, of one with another byte, of one above the bound, and of the others
+pub none_of_nothing : (bits : ℕ) (text : List ℕ) → length text ≡ 0 → None ≡ digits_of bits text
+none_of_nothing bits text e = let no : nat_lt 0 (length text) ≡ false = grind (arith, common_steps) in rw no refl
+
+pub none_of_others : (bits i : ℕ) (text : List ℕ) → i < length text → is_ascii_digit (get_or text i 0) ≡ false → None ≡ digits_of bits text
+none_of_others bits i text inside fails =
+    let all : list_all is_ascii_digit text ≡ false = some_other is_ascii_digit text i inside fails in
+    let no : are_digits text ≡ false = grind (arith, common_steps) in
+    rw no refl
+
+pub none_of_large : (bits i : ℕ) (text : List ℕ) → 2 ^ bits ≤ digits_value 10 (take i text) → None ≡ digits_of bits text
+none_of_large bits i text large =
+    let most : digits_value 10 (take i text) ≤ digits_value 10 text = digits_value-take-le 10 text i (omega arith) in
+    past (are_digits text) (digits_value 10 text) (omega (arith, most, large))
+  where
+    past : (b : Bool) (n : ℕ) → 2 ^ bits ≤ n → None ≡ (if b && nat_lt n (2 ^ bits) then Some n else None)
+    past true n h = let no : nat_lt n (2 ^ bits) ≡ false = grind (arith, nat_tests) in rw no refl
+    past false n h = refl
+
+pub all_read : (bits n : ℕ) (text : List ℕ) → 0 < length text → list_all is_ascii_digit text ≡ true → n ≡ digits_value 10 text → n < 2 ^ bits → Some n ≡ digits_of bits text
+all_read bits n text some all value small =
+    let digits : are_digits text ≡ true = grind (arith, common_steps) in
+    let less : digits_value 10 text < 2 ^ bits = subst (λ (z : ℕ). z < 2 ^ bits) value small in
+    let fits_bits : nat_lt (digits_value 10 text) (2 ^ bits) ≡ true = grind (arith, nat_tests) in
+    rw (digits, fits_bits) (ap (λ z. Some z) value)
+
+-- a text of digits is plain where it has no needless zero
+pub none_of_needless : (bits : ℕ) (text : List ℕ) → (nat_lt 1 (length text) && slice_index text 0 == 48) ≡ true → None ≡ number_of bits text
+none_of_needless bits text e = let no : is_plain text ≡ false = grind (arith, common_steps) in rw no refl
+
+pub plain_as_digits : (bits : ℕ) (text : List ℕ) → (nat_lt 1 (length text) && slice_index text 0 == 48) ≡ false → digits_of bits text ≡ number_of bits text
+plain_as_digits bits text e = let same : are_digits text ≡ is_plain text = grind (arith, common_steps) in rw same refl
