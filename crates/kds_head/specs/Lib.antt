@@ -1,4 +1,5 @@
 pub mod Headers
+pub mod Findings
 pub mod Values
 pub mod Table
 pub mod Find

@@ -5,9 +5,10 @@ ghost use Rattle.httparse.specs.Spans.{header_bytes};
 ghost use Rattle.kds_head.specs.Table.{judged_in};
 
 use crate::fields::covered;
+use crate::findings::read_headers;
 use crate::found::{Found, Head};
 use crate::numbers::{BODY_BYTES, HEADERS};
-use crate::values::{body_length, closes, encodings, lengths, operation, says_json};
+use crate::values::{body_length, closes, operation, says_json};
 use httparse::spans::{HeaderSpan, RequestSpans, Span};
 use kds_base::{Memory, Octets};
 use std::alloc::Global;
@@ -42,13 +43,14 @@ pub fn judge(
     if too_many(front, headers) {
         return Ok(Found::Refused(400));
     }
-    if encodings(front, headers) > 0 {
+    let found = read_headers(front, headers);
+    if found.encoding.is_somewhere() {
         return Ok(Found::Refused(501));
     }
-    if lengths(front, headers) == 0 {
+    if !found.length.is_somewhere() {
         return Ok(Found::Refused(411));
     }
-    let body = match body_length(front, headers) {
+    let body = match body_length(front, found.length) {
         Some(body) => body,
         None => return Ok(Found::Refused(400)),
     };
@@ -61,12 +63,12 @@ pub fn judge(
     if !is_root(front, spans.path) {
         return Ok(Found::Refused(404));
     }
-    let operation = Octets::of(alloc, operation(front, headers))?;
+    let operation = Octets::of(alloc, operation(front, found.target))?;
     Ok(Found::Whole(Head {
         length: spans.len,
         body,
         operation,
-        json: says_json(front, headers),
-        close: closes(front, headers, spans.version),
+        json: says_json(front, found.media_type),
+        close: closes(spans.version, found.close),
     }))
 }

@@ -4,6 +4,7 @@
 
 mod fields;
 mod find;
+mod findings;
 mod found;
 mod judge;
 mod laws;

@@ -1,12 +1,11 @@
 //! What the values of the headers say: how long the body is, the operation, and its form.
-ghost use Rattle.std.specs.Prelude.{◌≡◌, map, codes};
-ghost use Rattle.httparse.specs.Spans.{header_bytes};
-ghost use Rattle.kds_head.specs.Headers as spec;
+ghost use Rattle.std.specs.Prelude.{◌≡◌, ◌==◌, ◌||◌, [], false, option_and_then};
+ghost use Rattle.std.specs.Option.{option_map_or};
+ghost use Rattle.kds_head.specs.Findings.{value_in};
 ghost use Rattle.kds_head.specs.Values as value;
 
-use crate::fields::{any_has, count_named, only_value};
+use crate::findings::{Seen, only_value};
 use crate::numbers::LENGTH_DIGITS;
-use httparse::spans::HeaderSpan;
 use kds_base::read_digits;
 
 /// The number that 1 to `LENGTH_DIGITS` digits write.
@@ -21,28 +20,13 @@ fn byte_count(text: &[u8]) -> Option<u64>
 }
 
 /// The bytes of the body. `None` where there isn't exactly one Content-Length, or it is no number.
-#[tactic(auto, unfolding(crate::specs::Values::body_length))]
-pub fn body_length(front: &[u8], headers: &[HeaderSpan]) -> Option<u64>
-    ensures { result ≡ value.body_length (map (header_bytes front.now) headers.now) }
+pub fn body_length(front: &[u8], lengths: Seen) -> Option<u64>
+    ensures { result ≡ option_and_then value.byte_count (value_in front.now lengths) }
 {
-    match only_value(front, headers, b"Content-Length".as_slice()) {
+    match only_value(front, lengths) {
         Some(text) => byte_count(text),
         None => None,
     }
-}
-
-/// How many headers say how long the body is.
-pub fn lengths(front: &[u8], headers: &[HeaderSpan]) -> usize
-    ensures { result ≡ spec.count_named (codes "Content-Length") (map (header_bytes front.now) headers.now) }
-{
-    count_named(front, headers, b"Content-Length".as_slice())
-}
-
-/// How many headers say how the body is coded for its transfer.
-pub fn encodings(front: &[u8], headers: &[HeaderSpan]) -> usize
-    ensures { result ≡ spec.count_named (codes "Transfer-Encoding") (map (header_bytes front.now) headers.now) }
-{
-    count_named(front, headers, b"Transfer-Encoding".as_slice())
 }
 
 /// What follows the version of the service's interface in a target, nothing where it isn't there.
@@ -57,12 +41,11 @@ fn named_operation(target: &[u8]) -> &[u8]
     }
 }
 
-/// The operation that the headers name, empty where they name none.
-#[tactic(auto, unfolding(crate::specs::Values::operation))]
-pub fn operation<'a>(front: &'a [u8], headers: &[HeaderSpan]) -> &'a [u8]
-    ensures { result.now ≡ value.operation (map (header_bytes front.now) headers.now) }
+/// The operation that the one X-Amz-Target names, empty where it names none.
+pub fn operation(front: &[u8], targets: Seen) -> &[u8]
+    ensures { result.now ≡ option_map_or value.named_operation (value_in front.now targets) [] }
 {
-    match only_value(front, headers, b"X-Amz-Target".as_slice()) {
+    match only_value(front, targets) {
         Some(target) => named_operation(target),
         None => b"".as_slice(),
     }
@@ -75,32 +58,19 @@ fn is_json(media_type: &[u8]) -> bool
         || media_type.starts_with(b"application/x-amz-json-1.1;".as_slice())
 }
 
-/// Whether the body is said to be the service's JSON.
-#[tactic(auto, unfolding(crate::specs::Values::says_json))]
-pub fn says_json(front: &[u8], headers: &[HeaderSpan]) -> bool
-    ensures { result ≡ value.says_json (map (header_bytes front.now) headers.now) }
+/// Whether the one Content-Type says that the body is the service's JSON.
+pub fn says_json(front: &[u8], media_types: Seen) -> bool
+    ensures { result ≡ option_map_or value.is_json (value_in front.now media_types) false }
 {
-    match only_value(front, headers, b"Content-Type".as_slice()) {
+    match only_value(front, media_types) {
         Some(media_type) => is_json(media_type),
         None => false,
     }
 }
 
-/// Whether the client asks that the connection closes.
-fn says_close(front: &[u8], headers: &[HeaderSpan]) -> bool
-    ensures { result ≡ spec.any_has (codes "Connection") (codes "close") (map (header_bytes front.now) headers.now) }
+/// Whether the connection closes after the answer: where a header says so, and HTTP/1.0 keeps none open.
+pub fn closes(minor: u8, said: bool) -> bool
+    ensures { result ≡ (minor == 0 || said) }
 {
-    any_has(
-        front,
-        headers,
-        b"Connection".as_slice(),
-        b"close".as_slice(),
-    )
-}
-
-/// Whether the connection closes after the answer: HTTP/1.0 keeps none open.
-pub fn closes(front: &[u8], headers: &[HeaderSpan], minor: u8) -> bool
-    ensures { result ≡ value.closes minor (map (header_bytes front.now) headers.now) }
-{
-    minor == 0 || says_close(front, headers)
+    minor == 0 || said
 }

@@ -10,4 +10,4 @@ returns-in-Some-clause-limits c =
     limits_in c.args.bytes.now c.in-Some.found (subst (λ (z : List ℕ). IsFoundIn z c.in-Some.found) c.front_of-front.ensures found)
 
 pub returns-in-None-clause-limits : goal.returns-in-None-clause-limits
-returns-in-None-clause-limits c = limits c.args.bytes.now c.find_long.result (subst (λ (z : List ℕ). IfOk c.find_long.result (IsFoundIn z)) c.front_of-front.ensures c.find_long.ensures)
+returns-in-None-clause-limits c = limits c.args.bytes.now c.find_many.result (subst (λ (z : List ℕ). IfOk c.find_many.result (IsFoundIn z)) c.front_of-front.ensures c.find_many.ensures)

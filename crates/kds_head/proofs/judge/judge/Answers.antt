@@ -1,54 +1,71 @@
-use Rattle.std.proofs.Common.{◌∙◌, sym, ap, not}
-use Rattle.std.specs.Prelude.{is_none, unwrap_or}
-use Rattle.kds_head.proofs.Tables.{stops, passes, above, not_above, is_number, other_number, whole_same}
+use Rattle.std.proofs.Common.{◌∙◌, sym, ap, map, Some, None}
+use Rattle.std.specs.Prelude.{is_none, unwrap_or, not}
+use Rattle.httparse.specs.Spans.{header_bytes}
+use Rattle.kds_head.specs.Findings.{value_in}
+use Rattle.kds_head.proofs.Passes.{none_is, some_is, body_is, operation_is, json_is, close_is}
+use Rattle.kds_head.proofs.Tables.{stops, passes, above, not_above, whole_same}
 use Rattle.kds_head.proofs.judge.judge.Goals as goal
 
 pub returns-then-too_many : goal.returns-then-too_many
 returns-then-too_many c = stops _ _ _ (sym c.too_many.ensures ∙ c.if-too_many.true)
 
-pub returns-then-encodings-gt0 : goal.returns-then-encodings-gt0
-returns-then-encodings-gt0 c =
+pub returns-then-is_somewhere : goal.returns-then-is_somewhere
+returns-then-is_somewhere c =
+    let f = c.read_headers-found.ensures in
     passes _ _ _ _ (sym c.too_many.ensures ∙ c.if-too_many.false)
-    (stops _ _ _ (above _ _ 0 c.encodings.ensures c.if-encodings-gt0.true))
+    (stops _ _ _ (sym f.encoding.some ∙ sym c.is_somewhere.ensures ∙ c.if-is_somewhere.true))
 
-pub returns-then-lengths-eq0 : goal.returns-then-lengths-eq0
-returns-then-lengths-eq0 c =
+pub returns-then-not-is_somewhere : goal.returns-then-not-is_somewhere
+returns-then-not-is_somewhere c =
+    let f = c.read_headers-found.ensures in
     passes _ _ _ _ (sym c.too_many.ensures ∙ c.if-too_many.false)
-    (passes _ _ _ _ (not_above _ _ 0 c.encodings.ensures c.if-encodings-gt0.false)
-    (stops _ _ _ (is_number _ _ 0 c.lengths.ensures c.if-lengths-eq0.true)))
+    (passes _ _ _ _ (sym f.encoding.some ∙ sym c.is_somewhere.ensures ∙ c.if-is_somewhere.false)
+    (stops _ _ _ (none_is _ (sym f.length.some ∙ sym c.is_somewhere-2.ensures ∙ c.if-not-is_somewhere.true))))
 
 pub returns-in-None : goal.returns-in-None
 returns-in-None c =
+    let f = c.read_headers-found.ensures in
+    let hs = map (header_bytes c.args.front.now) c.args.headers.now in
+    let v = value_in c.args.front.now c.read_headers-found.result.length in
     passes _ _ _ _ (sym c.too_many.ensures ∙ c.if-too_many.false)
-    (passes _ _ _ _ (not_above _ _ 0 c.encodings.ensures c.if-encodings-gt0.false)
-    (passes _ _ _ _ (other_number _ _ 0 c.lengths.ensures c.if-lengths-eq0.false)
-    (stops _ _ _ (ap is_none (sym c.in-None.ensures)))))
+    (passes _ _ _ _ (sym f.encoding.some ∙ sym c.is_somewhere.ensures ∙ c.if-is_somewhere.false)
+    (passes _ _ _ _ (some_is _ (sym f.length.some ∙ sym c.is_somewhere-2.ensures ∙ c.if-not-is_somewhere.false))
+    (stops _ _ _ (ap is_none (sym (body_is v None hs c.in-None.ensures f.length.value))))))
 
 pub returns-then-body-gt-BODY_BYTES : goal.returns-then-body-gt-BODY_BYTES
 returns-then-body-gt-BODY_BYTES c =
-    let some = c.in-Some.ensures in
+    let f = c.read_headers-found.ensures in
+    let hs = map (header_bytes c.args.front.now) c.args.headers.now in
+    let v = value_in c.args.front.now c.read_headers-found.result.length in
+    let some = body_is v (Some c.in-Some.body) hs c.in-Some.ensures f.length.value in
     passes _ _ _ _ (sym c.too_many.ensures ∙ c.if-too_many.false)
-    (passes _ _ _ _ (not_above _ _ 0 c.encodings.ensures c.if-encodings-gt0.false)
-    (passes _ _ _ _ (other_number _ _ 0 c.lengths.ensures c.if-lengths-eq0.false)
+    (passes _ _ _ _ (sym f.encoding.some ∙ sym c.is_somewhere.ensures ∙ c.if-is_somewhere.false)
+    (passes _ _ _ _ (some_is _ (sym f.length.some ∙ sym c.is_somewhere-2.ensures ∙ c.if-not-is_somewhere.false))
     (passes _ _ _ _ (ap is_none (sym some))
     (stops _ _ _ (above _ _ 16777216 (ap (λ o. unwrap_or o 0) some) c.if-body-gt-BODY_BYTES.true)))))
 
 pub returns-then-not-is_post : goal.returns-then-not-is_post
 returns-then-not-is_post c =
-    let some = c.in-Some.ensures in
+    let f = c.read_headers-found.ensures in
+    let hs = map (header_bytes c.args.front.now) c.args.headers.now in
+    let v = value_in c.args.front.now c.read_headers-found.result.length in
+    let some = body_is v (Some c.in-Some.body) hs c.in-Some.ensures f.length.value in
     passes _ _ _ _ (sym c.too_many.ensures ∙ c.if-too_many.false)
-    (passes _ _ _ _ (not_above _ _ 0 c.encodings.ensures c.if-encodings-gt0.false)
-    (passes _ _ _ _ (other_number _ _ 0 c.lengths.ensures c.if-lengths-eq0.false)
+    (passes _ _ _ _ (sym f.encoding.some ∙ sym c.is_somewhere.ensures ∙ c.if-is_somewhere.false)
+    (passes _ _ _ _ (some_is _ (sym f.length.some ∙ sym c.is_somewhere-2.ensures ∙ c.if-not-is_somewhere.false))
     (passes _ _ _ _ (ap is_none (sym some))
     (passes _ _ _ _ (not_above _ _ 16777216 (ap (λ o. unwrap_or o 0) some) c.if-body-gt-BODY_BYTES.false)
     (stops _ _ _ (ap not (sym c.is_post.ensures ∙ c.if-not-is_post.true)))))))
 
 pub returns-then-not-is_root : goal.returns-then-not-is_root
 returns-then-not-is_root c =
-    let some = c.in-Some.ensures in
+    let f = c.read_headers-found.ensures in
+    let hs = map (header_bytes c.args.front.now) c.args.headers.now in
+    let v = value_in c.args.front.now c.read_headers-found.result.length in
+    let some = body_is v (Some c.in-Some.body) hs c.in-Some.ensures f.length.value in
     passes _ _ _ _ (sym c.too_many.ensures ∙ c.if-too_many.false)
-    (passes _ _ _ _ (not_above _ _ 0 c.encodings.ensures c.if-encodings-gt0.false)
-    (passes _ _ _ _ (other_number _ _ 0 c.lengths.ensures c.if-lengths-eq0.false)
+    (passes _ _ _ _ (sym f.encoding.some ∙ sym c.is_somewhere.ensures ∙ c.if-is_somewhere.false)
+    (passes _ _ _ _ (some_is _ (sym f.length.some ∙ sym c.is_somewhere-2.ensures ∙ c.if-not-is_somewhere.false))
     (passes _ _ _ _ (ap is_none (sym some))
     (passes _ _ _ _ (not_above _ _ 16777216 (ap (λ o. unwrap_or o 0) some) c.if-body-gt-BODY_BYTES.false)
     (passes _ _ _ _ (ap not (sym c.is_post.ensures ∙ c.if-not-is_post.false))
@@ -56,12 +73,19 @@ returns-then-not-is_root c =
 
 pub returns : goal.returns
 returns c =
-    let some = c.in-Some.ensures in
+    let f = c.read_headers-found.ensures in
+    let hs = map (header_bytes c.args.front.now) c.args.headers.now in
+    let v = value_in c.args.front.now c.read_headers-found.result.length in
+    let some = body_is v (Some c.in-Some.body) hs c.in-Some.ensures f.length.value in
+    let target = value_in c.args.front.now c.read_headers-found.result.target in
+    let named = operation_is target _ hs (c.in_ok-operation.ensures ∙ c.operation.ensures) f.target.value in
+    let json = json_is (value_in c.args.front.now c.read_headers-found.result.media_type) _ hs c.says_json.ensures f.media_type.value in
+    let close = close_is c.args.spans.now.version c.read_headers-found.result.close _ hs c.closes.ensures f.close in
     passes _ _ _ _ (sym c.too_many.ensures ∙ c.if-too_many.false)
-    (passes _ _ _ _ (not_above _ _ 0 c.encodings.ensures c.if-encodings-gt0.false)
-    (passes _ _ _ _ (other_number _ _ 0 c.lengths.ensures c.if-lengths-eq0.false)
+    (passes _ _ _ _ (sym f.encoding.some ∙ sym c.is_somewhere.ensures ∙ c.if-is_somewhere.false)
+    (passes _ _ _ _ (some_is _ (sym f.length.some ∙ sym c.is_somewhere-2.ensures ∙ c.if-not-is_somewhere.false))
     (passes _ _ _ _ (ap is_none (sym some))
     (passes _ _ _ _ (not_above _ _ 16777216 (ap (λ o. unwrap_or o 0) some) c.if-body-gt-BODY_BYTES.false)
     (passes _ _ _ _ (ap not (sym c.is_post.ensures ∙ c.if-not-is_post.false))
     (passes _ _ _ _ (ap not (sym c.is_root.ensures ∙ c.if-not-is_root.false))
-    (whole_same _ _ _ _ _ _ _ _ _ (ap (λ o. unwrap_or o 0) some) (c.in_ok-operation.ensures ∙ c.operation.ensures) c.says_json.ensures c.closes.ensures)))))))
+    (whole_same _ _ _ _ _ _ _ _ _ (ap (λ o. unwrap_or o 0) some) named json close)))))))

@@ -1,0 +1,57 @@
+-- What one pass over the headers of a head finds of the names that the service reads.
+use Rattle.std.specs.Prelude.{◌≡◌, ℕ, List, Bool, true, false, ◌||◌, nat_lt, codes, if◌then◌else◌, Option, Some, None}
+use Rattle.httparse.specs.Spans.{header_bytes, span_bytes}
+use Rattle.httparse.specs.declared.spans.Span.{Span}
+use Rattle.httparse.specs.declared.spans.HeaderSpan.{HeaderSpan}
+use Rattle.kds_head.specs.declared.findings.Seen.{Seen}
+use Rattle.kds_head.specs.declared.findings.Seen.TheVariants.{Nowhere, Once, Often}
+use Rattle.kds_head.specs.declared.findings.Findings.{Findings}
+use Rattle.kds_head.specs.Headers.{Headers, has_name, has_name_and_value, count_named, only_value, any_has}
+
+-- some header has the name
+abbrev pub is_somewhere : Seen → Bool
+is_somewhere Nowhere = false
+is_somewhere (Once value) = true
+is_somewhere Often = true
+
+-- the value of the one header of the name, where there is exactly one
+abbrev pub value_in : List ℕ → Seen → Option (List ℕ)
+value_in front Nowhere = None
+value_in front (Once value) = Some (span_bytes front value)
+value_in front Often = None
+
+-- what was seen of a name says whether some header has it, and the value of the one that has it
+pub record IsSeen (name front : List ℕ) (headers : Headers) (seen : Seen) : Type 0 where
+  pub some : is_somewhere seen ≡ nat_lt 0 (count_named name headers)
+  pub value : value_in front seen ≡ only_value name headers
+
+-- what was seen of each name, and whether some header Connection is `close`
+pub record AreFindings (front : List ℕ) (headers : Headers) (found : Findings) : Type 0 where
+  pub encoding : IsSeen (codes "Transfer-Encoding") front headers found.encoding
+  pub length : IsSeen (codes "Content-Length") front headers found.length
+  pub target : IsSeen (codes "X-Amz-Target") front headers found.target
+  pub media_type : IsSeen (codes "Content-Type") front headers found.media_type
+  pub close : found.close ≡ any_has (codes "Connection") (codes "close") headers
+
+-- ---- one header more
+
+-- what was seen after a header that has the name, with its value
+abbrev pub one_more : Seen → Span → Seen
+one_more Nowhere value = Once value
+one_more (Once first) value = Often
+one_more Often value = Often
+
+abbrev pub seen_after : Seen → Bool → Span → Seen
+seen_after seen named value = if named then one_more seen value else seen
+
+abbrev pub findings_after : List ℕ → Findings → HeaderSpan → Findings
+findings_after front found header = record {
+  encoding = seen_after found.encoding (has_name (codes "Transfer-Encoding") (header_bytes front header)) header.value;
+  length = seen_after found.length (has_name (codes "Content-Length") (header_bytes front header)) header.value;
+  target = seen_after found.target (has_name (codes "X-Amz-Target") (header_bytes front header)) header.value;
+  media_type = seen_after found.media_type (has_name (codes "Content-Type") (header_bytes front header)) header.value;
+  close = found.close || has_name_and_value (codes "Connection") (codes "close") (header_bytes front header);
+}
+
+abbrev pub no_findings : Findings
+no_findings = record { encoding = Nowhere; length = Nowhere; target = Nowhere; media_type = Nowhere; close = false }
