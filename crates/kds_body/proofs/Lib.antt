@@ -1,2 +1,4 @@
 pub mod Joined
 pub mod TokenTexts
+pub mod PlainTexts
+pub mod RecordTexts

@@ -1,7 +1,8 @@
 //! Records as they are read, written straight as text.
-ghost use Rattle.std.specs.Prelude.{◌≡◌, ◌++◌, ◌∷◌, [], codes, Some, None, List, IfOk, OnOk};
-ghost use Rattle.std.specs.Str.Lossy.{utf8_lossy};
-ghost use Rattle.json.specs.Token.{key, string};
+ghost use Rattle.std.specs.Prelude.{◌≡◌, ◌++◌, ◌∷◌, [], false, Some, None, List, IfOk, OnOk};
+ghost use Rattle.json.specs.Print.{ends_value};
+ghost use Rattle.json.specs.Token.{end_object};
+ghost use Rattle.serde_json.specs.Data.{Data};
 ghost use Rattle.serde_json.specs.Written.{compact_text};
 ghost use Rattle.kds_defs.specs.declared.reply.Shard.{Shard};
 ghost use Rattle.kds_body.specs.Bodies.{list_data};
@@ -10,12 +11,9 @@ ghost use Rattle.kds_body.specs.Writing.{tokens_of};
 
 use crate::children::put_children;
 use crate::moments::seconds;
+use crate::pieces::{put, put_base64, put_comma, put_decimal, put_escaped, put_seq};
 use crate::tokens::{ITERATOR_BYTES, text_of};
-use crate::writing::{
-    begin_object, end_object, new_writer, put_name, put_null, put_number, put_sequence, put_text,
-    written,
-};
-use base64::engine::general_purpose::STANDARD;
+use crate::writing::{begin_object, new_writer, put_name, put_null, put_number, put_text};
 use json::Writer;
 use kds_base::{Memory, Octets};
 use kds_defs::{Iter, Shard, Stored};
@@ -41,57 +39,48 @@ fn room_of(batch: &[Stored]) -> usize {
     room
 }
 
-/// Adds a partition key, which is text.
-fn put_key(out: &mut Writer, alloc: Global, bytes: &[u8]) -> Result<(), Memory>
-    ensures ok { OnOk result (out.new.tokens ≡ out.old.tokens ++ key (codes "PartitionKey") ∷ string (utf8_lossy bytes.now) ∷ []) }
-    ensures before { out.new.before ≡ out.old.before }
+/// Adds a record (Kinesis API Reference, Record).
+fn put_record(out: &mut Vec<u8>, alloc: Global, stored: &Stored) -> Result<(), Memory>
+    ensures { OnOk result (out.new.items ≡ out.old.items ++ compact_text (record_data stored.now)) }
 {
-    match str::from_utf8(bytes) {
-        Ok(text) => {
-            put_text(out, "PartitionKey", text)?;
-            Ok(())
-        }
-        Err(_) => {
-            let text = String::from_utf8_lossy(alloc, bytes)?;
-            put_text(out, "PartitionKey", text.as_str())?;
-            Ok(())
-        }
-    }
-}
-
-/// Adds a record, whose payload is written by way of `base64` (Kinesis API Reference, Record).
-fn put_record(
-    out: &mut Writer,
-    alloc: Global,
-    base64: &mut String,
-    stored: &Stored,
-) -> Result<(), Memory>
-    ensures ok { OnOk result (out.new.tokens ≡ out.old.tokens ++ tokens_of (record_data stored.now)) }
-    ensures before { out.new.before ≡ out.old.before }
-{
-    base64.clear();
-    STANDARD.encode_string(stored.payload.as_slice(), base64)?;
-    begin_object(out)?;
-    put_number(out, "ApproximateArrivalTimestamp", seconds(stored.arrival))?;
-    put_text(out, "Data", base64.as_str())?;
-    put_key(out, alloc, stored.key.as_slice())?;
-    put_sequence(out, "SequenceNumber", stored.seq)?;
-    end_object(out)?;
+    put(out, b"{\"ApproximateArrivalTimestamp\":")?;
+    put_decimal(out, seconds(stored.arrival))?;
+    put(out, b",\"Data\":\"")?;
+    put_base64(out, stored.payload.as_slice())?;
+    put(out, b"\",\"PartitionKey\":\"")?;
+    put_escaped(out, alloc, stored.key.as_slice())?;
+    put(out, b"\",\"SequenceNumber\":\"")?;
+    put_seq(out, stored.seq)?;
+    put(out, b"\"}")?;
     Ok(())
 }
 
 /// Adds records as an array.
-fn put_records(out: &mut Writer, alloc: Global, batch: &[Stored]) -> Result<(), Memory>
-    ensures ok { OnOk result (out.new.tokens ≡ out.old.tokens ++ tokens_of (list_data record_data batch.now)) }
-    ensures before { out.new.before ≡ out.old.before }
+fn put_records(out: &mut Vec<u8>, alloc: Global, batch: &[Stored]) -> Result<(), Memory>
+    ensures { OnOk result (out.new.items ≡ out.old.items ++ compact_text (list_data record_data batch.now)) }
 {
-    let mut base64 = String::new(alloc);
-    out.begin_array()?;
+    let mut later = false;
+    put(out, b"[")?;
     for stored in batch {
-        put_record(out, alloc, &mut base64, stored)?;
+        put_comma(out, later)?;
+        put_record(out, alloc, stored)?;
+        later = true;
     }
-    out.end_array()?;
+    put(out, b"]")?;
     Ok(())
+}
+
+/// The text of an object whose last member's name was written: its value is to be records.
+/// Condition: nothing stood before the object.
+fn with_records(out: Writer, alloc: Global, batch: &[Stored]) -> Result<Octets, Memory>
+    requires nothing { out.before ≡ [] }
+    requires named { ends_value out.tokens ≡ false }
+    ensures { (whole : Data) → (out.tokens ++ tokens_of (list_data record_data batch.now)) ++ end_object ∷ [] ≡ tokens_of whole → IfOk result (λ o. o ≡ compact_text whole) }
+{
+    let mut text = out.into_inner();
+    put_records(&mut text, alloc, batch)?;
+    put(&mut text, b"}")?;
+    Ok(Octets::unshared(text))
 }
 
 /// The text of records of a shard that isn't at its end, of how many milliseconds they are behind, and of where
@@ -105,9 +94,7 @@ fn open_text(alloc: Global, batch: &[Stored], next: &Iter, behind: u64) -> Resul
     put_number(&mut out, "MillisBehindLatest", behind)?;
     put_text(&mut out, "NextShardIterator", text_of(token.as_slice()))?;
     put_name(&mut out, "Records")?;
-    put_records(&mut out, alloc, batch)?;
-    end_object(&mut out)?;
-    Ok(written(out))
+    with_records(out, alloc, batch)
 }
 
 /// The text of the last records of a closed shard, of how many milliseconds they are behind, and of its children.
@@ -127,9 +114,7 @@ fn end_text(
     put_number(&mut out, "MillisBehindLatest", behind)?;
     put_null(&mut out, "NextShardIterator")?;
     put_name(&mut out, "Records")?;
-    put_records(&mut out, alloc, batch)?;
-    end_object(&mut out)?;
-    Ok(written(out))
+    with_records(out, alloc, batch)
 }
 
 /// The text of records, of how many milliseconds they are behind, and of where reading goes on. At the end of a

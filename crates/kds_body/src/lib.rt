@@ -7,6 +7,7 @@ mod batches;
 mod children;
 mod errors;
 mod moments;
+mod pieces;
 mod places;
 mod refusals;
 mod tokens;

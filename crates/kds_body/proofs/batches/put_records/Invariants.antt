@@ -1,14 +1,10 @@
-use Rattle.std.proofs.Common.{◌≡◌, ◌++◌, ◌∷◌, drop, map}
-use Rattle.json.specs.Token.{begin_array}
-use Rattle.json.specs.Tree.{items_tokens}
+use Rattle.std.proofs.Common.{◌≡◌, ◌++◌, drop, map}
 use Rattle.serde_json.specs.View.{items_of}
-use Rattle.serde_json.specs.Written.{items_outline}
+use Rattle.serde_json.specs.Written.{compact_text, items_text}
+use Rattle.kds_body.specs.Bodies.{list_data}
 use Rattle.kds_body.specs.Records.{record_data}
 use Rattle.kds_body.proofs.batches.put_records.Given as goal
 
--- with those of the records that are left, the tokens so far are all of them
+-- with that of the records that are left, the text so far is all of it
 abbrev pub invariant-loop-stored : goal.invariant-loop-stored
-invariant-loop-stored l = record {
-  all : l.out.tokens ++ items_tokens (items_outline (items_of (map record_data (drop l.stored-index l.batch)))) ≡ l.fn.out.tokens ++ begin_array ∷ items_tokens (items_outline (items_of (map record_data l.batch)));
-  before : l.out.before ≡ l.fn.out.before;
-}
+invariant-loop-stored l = l.out.items ++ items_text l.later (items_of (map record_data (drop l.stored-index l.batch))) ≡ l.fn.out.items ++ compact_text (list_data record_data l.batch)
