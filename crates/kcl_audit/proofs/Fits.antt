@@ -4,7 +4,7 @@ use Rattle.kds_defs.specs.declared.entry.Entry.{Entry}
 use Rattle.kds_defs.specs.declared.entry.Entry.TheVariants as entry
 use Rattle.kds_defs.specs.declared.limits.TheConstants.{RECORD_BYTES}
 use Rattle.kcl_journal.specs.Ranges.{AreSizesBy, IsTellable, is_first}
-use Rattle.kcl_streams.specs.Verdict.{IsFit}
+use Rattle.kcl_audit_streams.specs.Verdict.{IsFit}
 
 sizes_fit : (b : Bool) (bytes key_bytes : ℕ) → AreSizesBy b bytes key_bytes → bytes + key_bytes ≤ RECORD_BYTES
 sizes_fit true bytes key_bytes h = omega (arith, h.0, h.1)

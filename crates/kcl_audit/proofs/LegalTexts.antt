@@ -10,13 +10,13 @@ use Rattle.std.proofs.lemmas.Slice.Eq.{bytes_eq-Decides}
 use Rattle.kds_defs.specs.Journal.{Journal, Line, with_lines}
 use Rattle.kds_defs.specs.Legal.{IsGood, IsLegal, last_clock}
 use Rattle.kds_lines.specs.Lines.{End, Lined, ended, is_feed, is_over, lined, lined_from, pieces, preceded, too_long, unfinished, whole}
-use Rattle.kcl_text.specs.Fields.{Lacks}
+use Rattle.kcl_script_fields.specs.Fields.{Lacks}
 use Rattle.kcl_journal.specs.declared.line.EntryLine.{EntryLine}
 use Rattle.kcl_journal.specs.declared.line.TheConstants.{FIRST_VERSION, VERSION}
 use Rattle.kcl_journal.specs.Entries.{IsVersion, end_of, end_spelling, entry_of, entry_spelling, heading}
 use Rattle.kcl_journal.specs.Ranges.{IsEntryLine}
-use Rattle.kcl_streams.specs.declared.rule.Rule.TheVariants as rule
-use Rattle.kcl_streams.specs.Verdict.{verdict}
+use Rattle.kcl_audit_streams.specs.declared.rule.Rule.TheVariants as rule
+use Rattle.kcl_audit_streams.specs.Verdict.{verdict}
 use Rattle.kcl_audit.specs.Progress.{AuditEnd, Progress, after_end, after_entry, after_line, after_other, audit_of, behind_end, closed, finish, found, fresh, going, line_of, line_step, next, over, progress, progress_from, sound, step, without_end}
 use Rattle.kcl_audit.specs.Text.{IsJournal, counted, entries_text, journal_of, with_feed}
 use Rattle.kcl_audit.proofs.SoundTexts.{lines_are}

@@ -16,9 +16,9 @@ use Rattle.kcl_journal.specs.declared.line.EntryLine.{EntryLine}
 use Rattle.kcl_journal.specs.declared.line.TheConstants.{FIRST_VERSION, VERSION}
 use Rattle.kcl_journal.specs.Entries.{IsVersion, end_of, end_spelling, entry_of, entry_spelling, heading}
 use Rattle.kcl_journal.specs.Ranges.{IsEntryLine}
-use Rattle.kcl_streams.specs.declared.rule.Rule.{Rule}
-use Rattle.kcl_streams.specs.declared.rule.Rule.TheVariants as rule
-use Rattle.kcl_streams.specs.Verdict.{IsFit, Verdict, verdict}
+use Rattle.kcl_audit_streams.specs.declared.rule.Rule.{Rule}
+use Rattle.kcl_audit_streams.specs.declared.rule.Rule.TheVariants as rule
+use Rattle.kcl_audit_streams.specs.Verdict.{IsFit, Verdict, verdict}
 use Rattle.kcl_audit.specs.Progress.{Progress, after_end, after_entry, after_line, after_other, audit_of, behind_end, closed, finish, found, fresh, going, line_of, next, progress, progress_from, sound, step, without_end}
 use Rattle.kcl_audit.specs.Text.{IsJournal, counted, heading_text, journal_of, with_feed}
 use Rattle.kcl_audit.proofs.Fits.{tellable_fit}

@@ -6,9 +6,9 @@ use Rattle.kds_defs.specs.Journal.{Journal, Line}
 use Rattle.kcl_journal.specs.declared.line.EntryLine.{EntryLine}
 use Rattle.kcl_journal.specs.declared.line.TheConstants.{FIRST_VERSION, VERSION}
 use Rattle.kcl_journal.specs.Entries.{end_of, entry_of, heading}
-use Rattle.kcl_streams.specs.declared.rule.Rule.{Rule}
-use Rattle.kcl_streams.specs.declared.rule.Rule.TheVariants as rule
-use Rattle.kcl_streams.specs.Verdict.{Verdict, end_verdict, verdict}
+use Rattle.kcl_audit_streams.specs.declared.rule.Rule.{Rule}
+use Rattle.kcl_audit_streams.specs.declared.rule.Rule.TheVariants as rule
+use Rattle.kcl_audit_streams.specs.Verdict.{Verdict, end_verdict, verdict}
 use Rattle.kds_lines.specs.Lines as input
 use Rattle.kds_lines.specs.Lines.{End, lined}
 

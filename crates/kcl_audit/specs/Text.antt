@@ -3,12 +3,12 @@ use Rattle.std.specs.Prelude.{ℕ, ◌≤◌, ◌<◌, ◌^◌, ◌≡◌, List,
 use Rattle.std.specs.List.{AllByRecursion}
 use Rattle.kds_defs.specs.Journal.{Journal}
 use Rattle.kds_defs.specs.Legal.{IsLegal, last_clock}
-use Rattle.kcl_text.specs.Answers.{refusal_name}
+use Rattle.kcl_script_fields.specs.Answers.{refusal_name}
 use Rattle.kcl_journal.specs.declared.line.EntryLine.{EntryLine}
 use Rattle.kcl_journal.specs.Entries.{IsVersion, end_spelling, entry_spelling, heading}
 use Rattle.kcl_journal.specs.Ranges.{IsEntryLine, is_first}
-use Rattle.kcl_streams.specs.declared.rule.Rule.{Rule}
-use Rattle.kcl_streams.specs.declared.rule.Rule.TheVariants as rule
+use Rattle.kcl_audit_streams.specs.declared.rule.Rule.{Rule}
+use Rattle.kcl_audit_streams.specs.declared.rule.Rule.TheVariants as rule
 use Rattle.kcl_audit.specs.Progress.{AuditEnd, sound, unsound, over, Progress, found, line_of, next}
 
 -- the journal that entries tell, of which the first is the oldest

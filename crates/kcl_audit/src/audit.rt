@@ -2,13 +2,13 @@
 ghost use Rattle.std.specs.Prelude.{ℕ, ◌≡◌, ◌∷◌, [], IfOk, OnErr, OnOk};
 ghost use Rattle.kds_defs.specs.Journal.{Journal};
 ghost use Rattle.kcl_journal.specs.Ranges.{IsTellable};
-ghost use Rattle.kcl_judge.specs.Standing.{Stands};
-ghost use Rattle.kcl_streams.specs.Verdict.{end_verdict, verdict};
+ghost use Rattle.kcl_audit_judge.specs.Standing.{Stands};
+ghost use Rattle.kcl_audit_streams.specs.Verdict.{end_verdict, verdict};
 ghost use Rattle.kcl_audit.specs.Progress.{line_of};
 
+use kcl_audit_judge::Judge;
+use kcl_audit_streams::Rule;
 use kcl_journal::EntryLine;
-use kcl_judge::Judge;
-use kcl_streams::Rule;
 use kds_base::{Memory, Moment};
 use std::alloc::Global;
 use std::marker::Model;
@@ -20,7 +20,7 @@ pub struct Audit {
 }
 
 impl Model for Audit {
-    ghost use Rattle.kcl_judge.specs.Standing.{JudgeValue};
+    ghost use Rattle.kcl_audit_judge.specs.Standing.{JudgeValue};
 
     ghost Value = { JudgeValue };
 

@@ -4,13 +4,13 @@ ghost use Rattle.kds_defs.specs.Journal.{Journal, Line};
 ghost use Rattle.kds_defs.specs.Legal.{IsGood};
 ghost use Rattle.kcl_journal.specs.declared.line.EntryLine.{EntryLine};
 ghost use Rattle.kcl_journal.specs.Ranges.{IsTellable};
-ghost use Rattle.kcl_streams.specs.Verdict.{verdict};
+ghost use Rattle.kcl_audit_streams.specs.Verdict.{verdict};
 ghost use Rattle.kds_lines.specs.Lines.{lined, too_long};
 ghost use Rattle.kcl_audit.specs.Progress.{audit_of, line_of, over, sound};
 ghost use Rattle.kcl_audit.specs.Text.{IsJournal};
 
+use kcl_audit_judge::exact as exact_verdicts;
 use kcl_journal::one_entry;
-use kcl_judge::exact as exact_verdicts;
 
 /// A good line meets no rule; and of the entries that a text can tell, one that meets no rule is good.
 pub fn exact()

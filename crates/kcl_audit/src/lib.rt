@@ -7,6 +7,6 @@ mod laws;
 mod names;
 
 pub use audit::Audit;
-pub use kcl_streams::Rule;
+pub use kcl_audit_streams::Rule;
 pub use laws::{complete, exact, legal};
 pub use names::{print_sound, print_unsound, rule_name};

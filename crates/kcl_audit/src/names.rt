@@ -1,10 +1,10 @@
 //! The names of rules, and the lines that tell what an audit found.
 ghost use Rattle.std.specs.Prelude.{◌≡◌, ◌++◌, OnErr, OnOk};
-ghost use Rattle.kcl_text.specs.Answers.{refusal_name as name_of};
+ghost use Rattle.kcl_script_fields.specs.Answers.{refusal_name as name_of};
 ghost use Rattle.kcl_audit.specs.Text.{named_text, rule_name as name_of_rule, sound_text};
 
-use kcl_streams::Rule;
-use kcl_text::with_number;
+use kcl_audit_streams::Rule;
+use kcl_script_fields::with_number;
 use kds_base::{Memory, Octets};
 use kds_defs::Refusal;
 use std::alloc::Global;

@@ -4,13 +4,13 @@ use Rattle.std.specs.Prelude.{Result, Ok, Err, OnErr, codes}
 use Rattle.std.proofs.lemmas.List.{append-nil}
 use Rattle.kds_lines.specs.Lines.{End, unfinished, whole}
 use Rattle.kds_lines.specs.Taking.{Breaks, Goes}
-use Rattle.kcl_judge.specs.Standing.{JudgeValue, Stands}
+use Rattle.kcl_audit_judge.specs.Standing.{JudgeValue, Stands}
 use Rattle.kcl_auditor.specs.declared.stage.Stage.{Stage}
 use Rattle.kcl_auditor.specs.declared.stage.Stage.TheVariants as stage
 use Rattle.kds_defs.specs.Journal.{Journal}
 use Rattle.kcl_journal.specs.declared.line.EntryLine.{EntryLine}
 use Rattle.kcl_journal.specs.Entries.{IsVersion}
-use Rattle.kcl_streams.specs.Verdict.{Verdict}
+use Rattle.kcl_audit_streams.specs.Verdict.{Verdict}
 use Rattle.kcl_audit.specs.Progress.{Progress, after_end, after_entry, closed, fresh, going, line_of, next, progress, progress_from, step}
 use Rattle.kcl_auditor.specs.Standing.{Broke, Finishes, IsAt, IsNamed, IsOver, TakerValue, Took, end_by, is_bad, is_found, name_in, stage_report, texts_report}
 use Rattle.kcl_audit.specs.Text.{named_text, report, rule_name, sound_text}

@@ -2,9 +2,9 @@
 use Rattle.std.specs.Prelude.{◌++◌, ℕ, ◌≡◌, Bool, true, false, List, [], Option, Some, None, Ok, Err}
 use Rattle.kds_defs.specs.Journal.{Journal}
 use Rattle.kcl_journal.specs.Entries.{IsVersion}
-use Rattle.kcl_streams.specs.declared.rule.Rule.{Rule}
-use Rattle.kcl_judge.specs.Standing.{JudgeValue, Stands}
-use Rattle.kcl_streams.specs.Verdict.{Verdict}
+use Rattle.kcl_audit_streams.specs.declared.rule.Rule.{Rule}
+use Rattle.kcl_audit_judge.specs.Standing.{JudgeValue, Stands}
+use Rattle.kcl_audit_streams.specs.Verdict.{Verdict}
 use Rattle.kcl_auditor.specs.declared.stage.Stage.{Stage}
 use Rattle.kcl_auditor.specs.declared.stage.Stage.TheVariants as stage
 use Rattle.kds_lines.specs.Lines.{End, unfinished, whole}

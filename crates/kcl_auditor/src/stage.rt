@@ -3,8 +3,8 @@ ghost use Rattle.std.specs.Prelude.{ℕ, ◌≡◌, ◌∷◌, ◌++◌, None, I
 ghost use Rattle.std.specs.Option.{option_map};
 ghost use Rattle.kds_defs.specs.Journal.{Journal};
 ghost use Rattle.kcl_journal.specs.Ranges.{IsTellable};
-ghost use Rattle.kcl_judge.specs.Standing.{JudgeValue, Stands};
-ghost use Rattle.kcl_streams.specs.Verdict.{end_verdict, verdict};
+ghost use Rattle.kcl_audit_judge.specs.Standing.{JudgeValue, Stands};
+ghost use Rattle.kcl_audit_streams.specs.Verdict.{end_verdict, verdict};
 ghost use Rattle.kcl_audit.specs.Progress.{Progress, line_of, next};
 ghost use Rattle.kcl_auditor.specs.Standing.{Finishes, IsAt, end_by, is_found, name_in, stage_report};
 

@@ -2,7 +2,7 @@
 ghost use Rattle.std.specs.Prelude.{ℕ, ◌≡◌, List, [], IfOk, OnErr, OnOk};
 ghost use Rattle.kds_defs.specs.Journal.{Journal};
 ghost use Rattle.kcl_journal.specs.Entries.{IsVersion};
-ghost use Rattle.kcl_judge.specs.Standing.{Stands};
+ghost use Rattle.kcl_audit_judge.specs.Standing.{Stands};
 ghost use Rattle.kcl_audit.specs.Progress.{line_step, progress, step};
 ghost use Rattle.kcl_auditor.specs.Standing.{Finishes, HasVersion, IsAt, Took, end_by, is_bad};
 

@@ -20,8 +20,8 @@ use Rattle.kcl_drill.specs.declared.plan.Plan.TheVariants.{Split, Merge}
 use Rattle.kcl_drill.specs.Apart.{LEAST_RETENTION}
 use Rattle.kcl_drill.specs.Fed.{IsFed, commands_in}
 use Rattle.kcl_drill.specs.Generated.{Opens, draw, drill_name, first_open, from_record, generated, opens_then, plan, with_plan}
-use Rattle.kcl_crowd.specs.Asking.{HasAsked, HasBegun, turn_of, turns_of}
-use Rattle.kcl_crowd.specs.Feeding.{HasFed, HasFedSoFar}
+use Rattle.kcl_drill_threads.specs.Asking.{HasAsked, HasBegun, turn_of, turns_of}
+use Rattle.kcl_drill_threads.specs.Feeding.{HasFed, HasFedSoFar}
 use Rattle.kcl_closed.specs.Closed.{AreDrillTurns, IsClosed, IsDrillCommand, IsFew, IsMemberAccount, IsStopped, all_accounts}
 use Rattle.kcl_closed.proofs.Accounts.{all_turns, clock_by, count_of, few_turns}
 

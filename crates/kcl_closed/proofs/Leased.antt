@@ -7,7 +7,7 @@ use Rattle.kds_defs.specs.Lawful.{IsHistory}
 use Rattle.kds_defs.specs.Records.{Logged}
 use Rattle.kcl_drill.specs.Apart.{service_turns}
 use Rattle.kcl_drill.specs.Fed.{IsDrill, commands_in}
-use Rattle.kcl_summary.specs.Counting.{AreAbove}
+use Rattle.kcl_drill_summary.specs.Counting.{AreAbove}
 use Rattle.kcl_closed.specs.Closed.{AreLeased}
 
 pub clock_same : (by at : ℕ) (more h : List Turn) → at ≤ clock h → AreLeased by at more → clock (more ++ h) ≡ clock h

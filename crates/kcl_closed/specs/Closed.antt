@@ -15,7 +15,7 @@ use Rattle.kds_turn.specs.declared.view.Account.{Account}
 use Rattle.kds_turn.specs.Known.{Continues, account}
 use Rattle.kds_turn.specs.Passes.{Standing, AreAllBy, IsSplitInto}
 use Rattle.kcl_live.specs.Records.{AreOnLeasesAt}
-use Rattle.kcl_crowd.specs.Feeding.{HasFed, HasFedSoFar}
+use Rattle.kcl_drill_threads.specs.Feeding.{HasFed, HasFedSoFar}
 use Rattle.kcl_drill.specs.declared.limits.TheConstants.{MEMBER_TURNS, MOST_RECORDS, MOST_WORKERS, RECORDS_A_TURN, TICK}
 
 -- the command is one of a generator's or on leases, and a row that it makes lets reading begin at the trim horizon

@@ -11,7 +11,7 @@ ghost use Rattle.kcl_defs.specs.Workers.{WorkerPast};
 ghost use Rattle.kcl_live.specs.Records.{turns_in};
 ghost use Rattle.kds_defs.specs.declared.command.Origin.TheVariants as origin;
 ghost use Rattle.kcl_drill.specs.Fed.{IsDrill, IsFed};
-ghost use Rattle.kcl_summary.specs.Counting.{CanSum};
+ghost use Rattle.kcl_drill_summary.specs.Counting.{CanSum};
 ghost use Rattle.kcl_closed.specs.Closed.{AreDrillTurns, AreFromHorizon, AreLeased, IsClosed, IsStopped};
 
 use kcl_drill::{one_order, one_text, untrimmed};

@@ -12,11 +12,11 @@ use Rattle.kds_defs.specs.Streams.{trim_floor}
 use Rattle.kcl_drill.specs.Apart.{LEAST_RETENTION}
 use Rattle.kcl_drill.specs.Fed.{IsDrill}
 use Rattle.kcl_drill.specs.Summed.{AreDrained, drill_text, summary_text}
-use Rattle.kcl_summary.specs.Counting.{AreAbove, CanSum}
-use Rattle.kcl_summary.specs.Reading.{HasRead}
+use Rattle.kcl_drill_summary.specs.Counting.{AreAbove, CanSum}
+use Rattle.kcl_drill_summary.specs.Reading.{HasRead}
 use Rattle.kcl_closed.specs.Closed.{AreFromHorizon, AreLeased}
-use Rattle.kcl_drain.specs.Draining.{CanDrain}
-use Rattle.kcl_drain.specs.Leased.{HasDrained}
+use Rattle.kcl_drill_drain.specs.Draining.{CanDrain}
+use Rattle.kcl_drill_drain.specs.Leased.{HasDrained}
 
 -- ---- where the floor is 0, nothing is below it
 

@@ -7,9 +7,9 @@ ghost use Rattle.kcl_drill.specs.Summed.{drill_text};
 ghost use Rattle.kcl_closed.specs.Closed.{AreFromHorizon};
 
 use kcl_closed::{drained, summed};
-use kcl_drain::lone_drain;
 use kcl_drill::{one_text, untrimmed};
-use kcl_summary::summary;
+use kcl_drill_drain::lone_drain;
+use kcl_drill_summary::summary;
 use kds_base::{Memory, Moment, Octets};
 use kds_defs::Machine;
 use std::alloc::Global;

@@ -4,10 +4,10 @@ use Rattle.kds_base.specs.Names.{IsName, name_of}
 use Rattle.kds_base.specs.declared.lease_key.ShardRef.{ShardRef}
 use Rattle.kds_defs.specs.declared.command.Target.{Target}
 use Rattle.kds_defs.specs.declared.limits.TheConstants.{MOST, LEAST_SHARDS, MOST_SHARDS, LEAST_HOURS, MOST_HOURS}
-use Rattle.kcl_text.specs.Commands.{IsKey, IsTarget, target_of, target_text}
-use Rattle.kcl_text.specs.Fields.{two, number, worker_of, worker_text, key_of, key_text}
-use Rattle.kcl_text.proofs.Forms.{IsForm, number_form, IsWorker, worker_form, two_form, key_form, key_lacks}
-use Rattle.kcl_text.proofs.RawLemmas.{target_form}
+use Rattle.kcl_script_fields.specs.Commands.{IsKey, IsTarget, target_of, target_text}
+use Rattle.kcl_script_fields.specs.Fields.{two, number, worker_of, worker_text, key_of, key_text}
+use Rattle.kcl_script_fields.proofs.Forms.{IsForm, number_form, IsWorker, worker_form, two_form, key_form, key_lacks}
+use Rattle.kcl_script_fields.proofs.RawLemmas.{target_form}
 use Rattle.kcl_journal.specs.Entries.{batch_of, counter_of, hash_of, sizes_of, sizes_text, switch_of, switch_text, within_of}
 use Rattle.kcl_journal.specs.Ranges.{AreSizes, Is64, IsHash, is_first}
 use Rattle.kcl_journal.proofs.TextForms.{IsCounted, IsSwitch, IsWithin, counter_form, counter_lacks, hash_form, hash_lacks, name_form, name_lacks, number_lacks, sizes_form, switch_form, within_form, within_lacks}

@@ -5,10 +5,10 @@ use Rattle.std.proofs.lemmas.Slice.Eq.{bytes_eq-Decides}
 use Rattle.std.specs.Str.{bytes_eq}
 use Rattle.kds_defs.specs.declared.entry.Entry.{Entry}
 use Rattle.kds_defs.specs.declared.entry.Entry.TheVariants as entry
-use Rattle.kcl_text.specs.Fields.{◌>>=◌, field, moment_of, greatest32}
-use Rattle.kcl_text.proofs.Parts.{parted_at, parted_spells, bind_some, map_some}
-use Rattle.kcl_text.proofs.Forms.{IsForm, IsWorker, number_form, moment_form, decimal_lacks}
-use Rattle.kcl_text.proofs.RawLemmas.{choose, row_form}
+use Rattle.kcl_script_fields.specs.Fields.{◌>>=◌, field, moment_of, greatest32}
+use Rattle.kcl_script_fields.proofs.Parts.{parted_at, parted_spells, bind_some, map_some}
+use Rattle.kcl_script_fields.proofs.Forms.{IsForm, IsWorker, number_form, moment_form, decimal_lacks}
+use Rattle.kcl_script_fields.proofs.RawLemmas.{choose, row_form}
 use Rattle.kcl_journal.specs.declared.line.EntryLine.{EntryLine}
 use Rattle.kcl_journal.specs.Entries.{within_of, lease_by, entry_by, entry_text, entry_of, entry_spelling, end_of, end_spelling, heading}
 use Rattle.kcl_journal.specs.Ranges.{IsCounter, IsEntryLine, IsTellable, IsWorkerNo}

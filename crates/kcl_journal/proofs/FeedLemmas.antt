@@ -9,11 +9,11 @@ use Rattle.kds_defs.specs.declared.command.Target.{Target}
 use Rattle.kds_defs.specs.declared.command.Target.TheVariants as target
 use Rattle.kds_defs.specs.declared.entry.Entry.{Entry}
 use Rattle.kds_defs.specs.declared.entry.Entry.TheVariants as entry
-use Rattle.kcl_text.specs.Commands.{IsKey, IsTarget, target_text}
-use Rattle.kcl_text.specs.Fields.{Lacks, key_text}
-use Rattle.kcl_text.specs.Origins.{IsOrigin, origin_text}
-use Rattle.kcl_text.proofs.Forms.{decimal_lacks}
-use Rattle.kcl_text.proofs.Parts.{kind_lacks, lacks-append}
+use Rattle.kcl_script_fields.specs.Commands.{IsKey, IsTarget, target_text}
+use Rattle.kcl_script_fields.specs.Fields.{Lacks, key_text}
+use Rattle.kcl_script_fields.specs.Origins.{IsOrigin, origin_text}
+use Rattle.kcl_script_fields.proofs.Forms.{decimal_lacks}
+use Rattle.kcl_script_fields.proofs.Parts.{kind_lacks, lacks-append}
 use Rattle.kcl_journal.specs.declared.line.EntryLine.{EntryLine}
 use Rattle.kcl_journal.specs.Entries.{end_spelling, ended_text, entry_spelling, entry_text, numbers_text, sizes_text_by, switch_text}
 use Rattle.kcl_journal.specs.Ranges.{AreSizesBy, Is64, IsEntryLine, IsTellable, is_first}

@@ -10,10 +10,10 @@ use Rattle.kds_base.specs.Names.{IsName, is_name, is_name_byte, name_of}
 use Rattle.kds_base.specs.NumberText.{number_of}
 use Rattle.kds_base.proofs.NumberLemmas.{decimal_of_number, decimal_plain, few_digits, fits, number_of_decimal, plain_digits, reads, spells}
 use Rattle.kds_defs.specs.declared.limits.TheConstants.{RECORD_BYTES}
-use Rattle.kcl_text.specs.Fields.{Lacks, two}
-use Rattle.kcl_text.proofs.Forms.{IsForm, decimal_lacks, two_form}
-use Rattle.kcl_text.proofs.Parts.{both, kind_lacks, map_some}
-use Rattle.kcl_text.proofs.RawLemmas.{choose}
+use Rattle.kcl_script_fields.specs.Fields.{Lacks, two}
+use Rattle.kcl_script_fields.proofs.Forms.{IsForm, decimal_lacks, two_form}
+use Rattle.kcl_script_fields.proofs.Parts.{both, kind_lacks, map_some}
+use Rattle.kcl_script_fields.proofs.RawLemmas.{choose}
 use Rattle.kcl_journal.specs.declared.line.TheConstants.{FIRST_RECORD_BYTES, KEY_BYTES}
 use Rattle.kcl_journal.specs.Entries.{counter_of, fitting, greatest64, hash_of, sizes_by, sizes_text_by, switch_of, switch_text, within, within_of}
 use Rattle.kcl_journal.specs.Ranges.{AreSizesBy, Is64, IsHash}

@@ -6,10 +6,10 @@ use Rattle.std.specs.List.{AllByRecursion, join_with_byte}
 use Rattle.std.specs.Prelude.{◌==◌, if◌then◌else◌, option_map}
 use Rattle.std.specs.Str.{bytes_eq}
 use Rattle.std.proofs.lemmas.Slice.Eq.{bytes_eq-Decides}
-use Rattle.kcl_text.specs.Fields.{parted, Lacks, number}
-use Rattle.kcl_text.proofs.Parts.{parted_spells, bind_some, map_some}
-use Rattle.kcl_text.proofs.Forms.{IsForm, number_form, decimal_lacks}
-use Rattle.kcl_text.proofs.RawLemmas.{choose}
+use Rattle.kcl_script_fields.specs.Fields.{parted, Lacks, number}
+use Rattle.kcl_script_fields.proofs.Parts.{parted_spells, bind_some, map_some}
+use Rattle.kcl_script_fields.proofs.Forms.{IsForm, number_form, decimal_lacks}
+use Rattle.kcl_script_fields.proofs.RawLemmas.{choose}
 use Rattle.kcl_journal.specs.Ranges.{Is64}
 use Rattle.kcl_journal.specs.Entries.{words, numbers_of, ended_of, ended_text, numbers_text, batch_from, batch_of}
 

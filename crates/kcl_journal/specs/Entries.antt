@@ -7,9 +7,9 @@ use Rattle.kds_base.specs.NumberText.{number_of}
 use Rattle.kds_defs.specs.declared.entry.Entry.{Entry}
 use Rattle.kds_defs.specs.declared.entry.Entry.TheVariants as entry
 use Rattle.kds_defs.specs.declared.limits.TheConstants.{MOST, LEAST_SHARDS, MOST_SHARDS, LEAST_HOURS, MOST_HOURS, RECORD_BYTES}
-use Rattle.kcl_text.specs.Commands.{row_of, target_of, target_text}
-use Rattle.kcl_text.specs.Fields.{◌>>=◌, field, two, moment_of, number, greatest32, worker_of, worker_text, key_of, key_text}
-use Rattle.kcl_text.specs.Origins.{origin_text}
+use Rattle.kcl_script_fields.specs.Commands.{row_of, target_of, target_text}
+use Rattle.kcl_script_fields.specs.Fields.{◌>>=◌, field, two, moment_of, number, greatest32, worker_of, worker_text, key_of, key_text}
+use Rattle.kcl_script_fields.specs.Origins.{origin_text}
 use Rattle.kcl_journal.specs.declared.line.EntryLine.{EntryLine}
 use Rattle.kcl_journal.specs.declared.line.TheConstants.{FIRST_RECORD_BYTES, FIRST_VERSION, KEY_BYTES, VERSION}
 use Rattle.kcl_journal.specs.Ranges.{is_first}

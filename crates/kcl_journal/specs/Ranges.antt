@@ -6,8 +6,8 @@ use Rattle.kds_defs.specs.declared.entry.Entry.{Entry}
 use Rattle.kds_defs.specs.declared.entry.Entry.TheVariants as entry
 use Rattle.kds_defs.specs.declared.limits.TheConstants.{RECORD_BYTES}
 use Rattle.kds_defs.specs.Lawful.{IsShardCount, IsRetention, IsLimit}
-use Rattle.kcl_text.specs.Commands.{IsKey, IsTarget}
-use Rattle.kcl_text.specs.Origins.{IsOrigin}
+use Rattle.kcl_script_fields.specs.Commands.{IsKey, IsTarget}
+use Rattle.kcl_script_fields.specs.Origins.{IsOrigin}
 use Rattle.kcl_journal.specs.declared.line.EntryLine.{EntryLine}
 use Rattle.kcl_journal.specs.declared.line.TheConstants.{FIRST_RECORD_BYTES, FIRST_VERSION, KEY_BYTES}
 

@@ -1,6 +1,6 @@
 //! What is true of every text of a journal: functions without parameters, whose contracts are the laws.
 ghost use Rattle.std.specs.Prelude.{◌≡◌, ◌<◌, ◌^◌, List, ℕ, Some, None};
-ghost use Rattle.kcl_text.specs.Fields.{Lacks};
+ghost use Rattle.kcl_script_fields.specs.Fields.{Lacks};
 ghost use Rattle.kcl_journal.specs.declared.line.EntryLine.{EntryLine};
 ghost use Rattle.kcl_journal.specs.declared.line.TheConstants.{FIRST_RECORD_BYTES, FIRST_VERSION, KEY_BYTES, VERSION};
 ghost use Rattle.kcl_journal.specs.Entries.{end_of, end_spelling, entry_of, entry_spelling, heading};

@@ -1,10 +1,10 @@
 //! Entries of leases, each read from what follows its word.
 ghost use Rattle.std.specs.Prelude.{◌≡◌, IfOk};
-ghost use Rattle.kcl_text.specs.Fields.{two, number};
+ghost use Rattle.kcl_script_fields.specs.Fields.{two, number};
 ghost use Rattle.kcl_journal.specs.Entries.{counter_of, cut_of, freed_of, given_of, lease_by, lease_of, marked_of, opened_of, read_of, renewed_of, taken_of};
 
 use crate::numbers::{batch, counter, within32};
-use kcl_text::{field, key, row, target, worker};
+use kcl_script_fields::{field, key, row, target, worker};
 use kds_base::{Memory, TenureNo, read_u64};
 use kds_defs::Entry;
 use kds_defs::limits::MOST;
@@ -17,7 +17,7 @@ fn made(text: &[u8]) -> Option<Entry>
     Some(Entry::LeaseMade { key, from })
 }
 
-#[tactic(auto, unfolding(kcl_text::specs::Fields::two))]
+#[tactic(auto, unfolding(kcl_script_fields::specs::Fields::two))]
 fn taken(text: &[u8]) -> Option<Entry>
     ensures { result ≡ taken_of text.now }
 {
@@ -37,7 +37,7 @@ fn taken(text: &[u8]) -> Option<Entry>
 }
 
 /// A tenure, and a row's counter after it was written.
-#[tactic(auto, unfolding(kcl_text::specs::Fields::two))]
+#[tactic(auto, unfolding(kcl_script_fields::specs::Fields::two))]
 fn written(text: &[u8]) -> Option<(TenureNo, u64)>
     ensures { result ≡ two 32 number counter_of text.now }
 {
@@ -70,7 +70,7 @@ fn opened(text: &[u8]) -> Option<Entry>
     })
 }
 
-#[tactic(auto, unfolding(kcl_text::specs::Fields::two))]
+#[tactic(auto, unfolding(kcl_script_fields::specs::Fields::two))]
 fn read(alloc: Global, text: &[u8]) -> Result<Option<Entry>, Memory>
     ensures { IfOk result (λ o. o ≡ read_of text.now) }
 {
@@ -106,7 +106,7 @@ fn given(text: &[u8]) -> Option<Entry>
     })
 }
 
-#[tactic(auto, unfolding(kcl_text::specs::Fields::two))]
+#[tactic(auto, unfolding(kcl_script_fields::specs::Fields::two))]
 fn marked(text: &[u8]) -> Option<Entry>
     ensures { result ≡ marked_of text.now }
 {
@@ -122,7 +122,7 @@ fn marked(text: &[u8]) -> Option<Entry>
     })
 }
 
-#[tactic(auto, unfolding(kcl_text::specs::Fields::two))]
+#[tactic(auto, unfolding(kcl_script_fields::specs::Fields::two))]
 fn cut(text: &[u8]) -> Option<Entry>
     ensures { result ≡ cut_of text.now }
 {

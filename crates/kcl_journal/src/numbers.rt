@@ -1,10 +1,10 @@
 //! Numbers in their ranges, the sizes of a put, and the batch of a read.
 ghost use Rattle.std.specs.Prelude.{◌≡◌, ◌≤◌, IfOk, option_and_then};
-ghost use Rattle.kcl_text.specs.Fields.{two};
+ghost use Rattle.kcl_script_fields.specs.Fields.{two};
 ghost use Rattle.kcl_journal.specs.Entries.{batch_of, counter_of, ended_of, fitting, numbers_of, sizes_of, switch_of, within, within_of, words};
 
 use crate::line::{FIRST_RECORD_BYTES, FIRST_VERSION, KEY_BYTES};
-use kcl_text::field;
+use kcl_script_fields::field;
 use kds_base::{Items, Memory, Seq, read_u64};
 use kds_defs::limits::RECORD_BYTES;
 use std::alloc::Global;
@@ -63,7 +63,7 @@ fn if_fitting(bytes: u64, key_bytes: u64) -> Option<(u64, u64)>
 }
 
 /// The bytes of a payload and of its key.
-#[tactic(auto, unfolding(kcl_text::specs::Fields::two))]
+#[tactic(auto, unfolding(kcl_script_fields::specs::Fields::two))]
 fn both_sizes(text: &[u8]) -> Option<(u64, u64)>
     ensures { result ≡ option_and_then fitting (two 32 (within_of 0 RECORD_BYTES) (within_of 1 KEY_BYTES) text.now) }
 {

@@ -4,7 +4,7 @@ ghost use Rattle.kcl_journal.specs.Entries.{end_spelling, ended_text, entry_spel
 ghost use Rattle.kcl_journal.specs.Ranges.{is_lease_entry, is_resharding, is_tenure_entry};
 
 use crate::line::EntryLine;
-use kcl_text::{
+use kcl_script_fields::{
     number_field, origin_field, owner_field, target_field, with_key, with_number, with_numbers,
 };
 use kds_base::{Memory, Moment, Octets, Seq, write_u64, write_u128};

@@ -6,7 +6,7 @@ use crate::leases::lease_entry;
 use crate::line::EntryLine;
 use crate::numbers::within32;
 use crate::streams::{enforced, gone, kept, made, merged, put, split};
-use kcl_text::{field, moment};
+use kcl_script_fields::{field, moment};
 use kds_base::{Memory, Moment};
 use kds_defs::Entry;
 use std::alloc::Global;

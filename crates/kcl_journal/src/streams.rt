@@ -3,13 +3,13 @@ ghost use Rattle.std.specs.Prelude.{◌≡◌, IfOk};
 ghost use Rattle.kcl_journal.specs.Entries.{enforced_of, gone_of, kept_of, made_of, merged_of, put_of, split_of};
 
 use crate::numbers::{sizes, switch, within32};
-use kcl_text::field;
+use kcl_script_fields::field;
 use kds_base::{Memory, Name, Seq, ShardNo, StreamNo, read_u64, read_u128};
 use kds_defs::Entry;
 use kds_defs::limits::{LEAST_HOURS, LEAST_SHARDS, MOST_HOURS, MOST_SHARDS};
 use std::alloc::Global;
 
-#[tactic(auto, unfolding(kcl_text::specs::Fields::two))]
+#[tactic(auto, unfolding(kcl_script_fields::specs::Fields::two))]
 pub fn made(alloc: Global, text: &[u8]) -> Result<Option<Entry>, Memory>
     ensures { IfOk result (λ o. o ≡ made_of text.now) }
 {
@@ -44,7 +44,7 @@ pub fn gone(text: &[u8]) -> Option<Entry>
     })
 }
 
-#[tactic(auto, unfolding(kcl_text::specs::Fields::two))]
+#[tactic(auto, unfolding(kcl_script_fields::specs::Fields::two))]
 pub fn put(version: u8, text: &[u8]) -> Option<Entry>
     ensures { result ≡ put_of version text.now }
 {
@@ -67,7 +67,7 @@ pub fn put(version: u8, text: &[u8]) -> Option<Entry>
     })
 }
 
-#[tactic(auto, unfolding(kcl_text::specs::Fields::two))]
+#[tactic(auto, unfolding(kcl_script_fields::specs::Fields::two))]
 pub fn split(text: &[u8]) -> Option<Entry>
     ensures { result ≡ split_of text.now }
 {
@@ -92,7 +92,7 @@ pub fn split(text: &[u8]) -> Option<Entry>
     })
 }
 
-#[tactic(auto, unfolding(kcl_text::specs::Fields::two))]
+#[tactic(auto, unfolding(kcl_script_fields::specs::Fields::two))]
 pub fn merged(text: &[u8]) -> Option<Entry>
     ensures { result ≡ merged_of text.now }
 {
@@ -114,7 +114,7 @@ pub fn merged(text: &[u8]) -> Option<Entry>
     })
 }
 
-#[tactic(auto, unfolding(kcl_text::specs::Fields::two))]
+#[tactic(auto, unfolding(kcl_script_fields::specs::Fields::two))]
 pub fn kept(text: &[u8]) -> Option<Entry>
     ensures { result ≡ kept_of text.now }
 {
@@ -127,7 +127,7 @@ pub fn kept(text: &[u8]) -> Option<Entry>
     })
 }
 
-#[tactic(auto, unfolding(kcl_text::specs::Fields::two))]
+#[tactic(auto, unfolding(kcl_script_fields::specs::Fields::two))]
 pub fn enforced(text: &[u8]) -> Option<Entry>
     ensures { result ≡ enforced_of text.now }
 {

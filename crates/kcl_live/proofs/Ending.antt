@@ -8,7 +8,7 @@ use Rattle.kcl_defs.specs.declared.consumer.Due.{Due}
 use Rattle.kcl_defs.specs.Consumers.{Phase, due_call, phase_after}
 use Rattle.kcl_defs.specs.Workers.{Known, WorkerPast, is_due_known, is_giving, is_giving_phase, is_idle, is_nothing_held, is_stopping, phase_of_known, worker_after}
 use Rattle.kcl_consumer.specs.Standing.{Standing}
-use Rattle.kcl_round.specs.Lists.{due_in, due_or}
+use Rattle.kcl_worker_lists.specs.Lists.{due_in, due_or}
 use Rattle.kcl_worker.specs.Standing.{ConsumersStand, StandsFor, WorkerStanding, is_due_in, is_giving_in, is_idle_in}
 
 phase_known : {P : Type 0} (stands : P → List Call → Type 0) (c : Standing P) (cs : List (Standing P)) (k : Known) (ks : List Known) → ConsumersStand stands (c ∷ cs) (k ∷ ks) → c.phase ≡ phase_of_known k

@@ -4,7 +4,7 @@ use Rattle.std.specs.Prelude.{IsSome}
 use Rattle.kcl_defs.specs.declared.consumer.Ask.{Ask}
 use Rattle.kcl_defs.specs.declared.consumer.Call.{Call}
 use Rattle.kcl_defs.specs.Workers.{Gave_command, Got_answer, Stopped, WorkerPast, is_due_known, is_idle, is_stopping, worker_after}
-use Rattle.kcl_round.specs.Lists.{due_in}
+use Rattle.kcl_worker_lists.specs.Lists.{due_in}
 use Rattle.std.specs.List.{find}
 use Rattle.kcl_worker.specs.Adding.{AddsStop}
 use Rattle.kcl_worker.specs.Standing.{StandsFor, WorkerStanding, is_idle_in}

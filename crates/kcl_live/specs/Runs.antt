@@ -3,7 +3,7 @@ use Rattle.std.specs.Prelude.{◌≡◌, ◌↔◌, ◌⊎◌, ℕ, ◌+◌, ◌
 use Rattle.kds_defs.specs.declared.command.Turn.{Turn}
 use Rattle.kcl_defs.specs.declared.consumer.Call.{Call}
 use Rattle.kcl_defs.specs.Workers.{Gave_command, WorkerPast, worker_after}
-use Rattle.kcl_round.specs.Lists.{due_in}
+use Rattle.kcl_worker_lists.specs.Lists.{due_in}
 use Rattle.kcl_worker.specs.Standing.{WorkerStanding}
 use Rattle.kds_turn.specs.Known.{turns_by}
 use Rattle.kds_turn.specs.declared.pass.TurnErr.{TurnErr}

@@ -1,6 +1,6 @@
 //! A worker that takes its turns by a pass.
 ghost use Rattle.std.specs.Prelude.{◌≡◌, ◌⊎◌, ℕ, ◌*◌, ◌+◌, ◌<◌, ◌≤◌, ◌^◌, [], length, None, IfErr, OnErr, OnOk, true, false};
-ghost use Rattle.kcl_round.specs.Lists.{due_in};
+ghost use Rattle.kcl_worker_lists.specs.Lists.{due_in};
 ghost use Rattle.kcl_worker.specs.Standing.{StandsFor, is_idle_in};
 ghost use Rattle.kds_turn.specs.Known.{Continues};
 ghost use Rattle.kcl_live.specs.Records.{AreOnLeasesAt, AreServedLater, HasAdded};

@@ -2,7 +2,7 @@
 ghost use Rattle.std.specs.Prelude.{◌≡◌, ◌⊎◌, ℕ, ◌∷◌, List, None, IfErr, IsSome, OnErr, OnOk, false};
 ghost use Rattle.kcl_defs.specs.declared.consumer.Ask.{Ask};
 ghost use Rattle.kcl_defs.specs.Workers.{WorkerPast};
-ghost use Rattle.kcl_round.specs.Lists.{due_in};
+ghost use Rattle.kcl_worker_lists.specs.Lists.{due_in};
 ghost use Rattle.kcl_worker.specs.Standing.{StandsFor, is_idle_in};
 ghost use Rattle.kds_turn.specs.Known.{Continues};
 ghost use Rattle.kcl_live.specs.Records.{HasAdded, IsDriven, with_calls};

@@ -12,7 +12,7 @@ use Rattle.kcl_consumer.specs.Standing.{Standing}
 use Rattle.kcl_hand.specs.Joints.{JointPast, Of_worker}
 use Rattle.kcl_proc.specs.declared.stock.Kind.{Kind}
 use Rattle.kcl_proc.specs.Stocks.{StandsFor as Calls, asked_of}
-use Rattle.kcl_round.specs.Lists.{due_in, due_or}
+use Rattle.kcl_worker_lists.specs.Lists.{due_in, due_or}
 use Rattle.kcl_worker.proofs.Counting.{not_again}
 use Rattle.kcl_worker.specs.Asks.{IsAsk, IsAskOf}
 use Rattle.kcl_worker.specs.Standing.{ConsumersStand, StandsFor, is_due_in, is_giving_in, is_idle_in}

@@ -3,7 +3,7 @@ use Rattle.std.proofs.Common.{◌≡◌, ℕ, ◌+◌, ◌<◌, ◌^◌, List, [
 use Rattle.std.specs.List.{AllByRecursion}
 use Rattle.kds_defs.specs.declared.command.Command.{Command}
 use Rattle.kds_defs.specs.Lawful.{IsHistory}
-use Rattle.kds_member.specs.declared.problem.Fault.{Fault}
+use Rattle.kds_json_members.specs.declared.problem.Fault.{Fault}
 use Rattle.kds_json.specs.Asked.{asked, IsRequest}
 use Rattle.kcl_script.specs.declared.line.Line.{Line}
 use Rattle.kcl_script.specs.declared.line.Line.TheVariants.{Api, Hand, Raw, Step, Stop, Worker}

@@ -6,7 +6,7 @@ use Rattle.kds_base.specs.declared.lease_key.ShardRef.{ShardRef}
 use Rattle.kds_defs.specs.declared.command.Command.{Command}
 use Rattle.kds_defs.specs.declared.command.Turn.{Turn}
 use Rattle.kds_defs.specs.Requests.{request_turn}
-use Rattle.kds_member.specs.declared.problem.Fault.{Fault}
+use Rattle.kds_json_members.specs.declared.problem.Fault.{Fault}
 use Rattle.kds_json.specs.Asked.{asked}
 use Rattle.kcl_defs.specs.Workers.{Release}
 use Rattle.kcl_hand.specs.Handing.{hand_command}

@@ -14,7 +14,7 @@ use Rattle.kds_defs.specs.declared.reply.Reply.TheVariants as reply
 use Rattle.kds_defs.specs.Histories.{answer}
 use Rattle.kds_defs.specs.Lawful.{IsHistory}
 use Rattle.kds_defs.specs.Requests.{request_turn}
-use Rattle.kds_member.specs.declared.problem.Fault.{Fault}
+use Rattle.kds_json_members.specs.declared.problem.Fault.{Fault}
 use Rattle.kds_json.specs.Asked.{asked}
 use Rattle.kcl_defs.specs.declared.consumer.WorkerMade.{WorkerMade}
 use Rattle.kcl_defs.specs.declared.plans.Held.{Held}

@@ -7,7 +7,7 @@ use Rattle.kds_defs.specs.declared.reply.Reply.{Reply}
 use Rattle.kcl_defs.specs.Workers.{Gave_command, Made_call, due_known, is_idle, next_pending, worker_after}
 use Rattle.kcl_hand.specs.Joints.{Of_worker, worker_past}
 use Rattle.kcl_proc.specs.Stocks.{StandsFor as Calls, asked_of}
-use Rattle.kcl_round.specs.Lists.{due_in}
+use Rattle.kcl_worker_lists.specs.Lists.{due_in}
 use Rattle.kcl_worker.specs.Adding.{AddsAnswer, AddsCall, AddsCommand, AddsStop}
 use Rattle.kcl_worker.specs.Asks.{AllowsSame}
 use Rattle.kcl_worker.specs.Standing.{is_idle_in}

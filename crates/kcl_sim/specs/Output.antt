@@ -5,7 +5,7 @@ use Rattle.kds_defs.specs.declared.command.Turn.{Turn}
 use Rattle.kds_defs.specs.declared.command.Command.{Command}
 use Rattle.kds_defs.specs.Histories.{answer}
 use Rattle.kds_defs.specs.Requests.{request_turn}
-use Rattle.kds_member.specs.declared.problem.Fault.{Fault}
+use Rattle.kds_json_members.specs.declared.problem.Fault.{Fault}
 use Rattle.kds_json.specs.Asked.{asked}
 use Rattle.kds_reply.specs.Replies.{reply_of, fault_reply}
 use Rattle.kcl_defs.specs.Lives.{Deal}
@@ -15,8 +15,8 @@ use Rattle.kcl_hand.specs.declared.stand.Left.TheVariants as left
 use Rattle.kcl_hand.specs.Handing.{hand_left}
 use Rattle.kcl_hand.specs.Joints.{hand_of, state_of}
 use Rattle.kcl_hand.specs.Runs.{HandRun, hand_run, run_hand, with_hand}
-use Rattle.kcl_text.specs.Answers.{answer_text}
-use Rattle.kcl_text.specs.Commands.{command_text}
+use Rattle.kcl_script_fields.specs.Answers.{answer_text}
+use Rattle.kcl_script_fields.specs.Commands.{command_text}
 use Rattle.kcl_script.specs.declared.line.Line.{Line}
 use Rattle.kcl_script.specs.declared.line.Line.TheVariants.{Api, Hand, Raw, Step, Stop, Worker}
 use Rattle.kcl_sim.specs.Workers.{Employed, actor_at, all_called, answered, command_at, employed_by, hired, release_by, stopped, with_employed}

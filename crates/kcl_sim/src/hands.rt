@@ -17,7 +17,7 @@ use crate::print::{print_left, print_part, print_word};
 use crate::sim::Sim;
 use kcl_hand::Handover;
 use kcl_proc::Stock;
-use kcl_text::print_command;
+use kcl_script_fields::print_command;
 use kds_base::{Memory, Moment, Octets, ShardRef};
 use kds_defs::{Answer, Command, Machine, Turn};
 use std::alloc::Global;

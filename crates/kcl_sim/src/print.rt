@@ -2,14 +2,14 @@
 ghost use Rattle.std.specs.Prelude.{◌≡◌, [], ◌∷◌, ◌++◌, codes, decimal, true, false, IsUtf8, OnOk, OnErr};
 ghost use Rattle.kds_defs.specs.Kinds.{is_lease_answer};
 ghost use Rattle.kds_reply.specs.Replies.{fault_reply};
-ghost use Rattle.kcl_text.specs.Answers.{answer_text};
+ghost use Rattle.kcl_script_fields.specs.Answers.{answer_text};
 ghost use Rattle.kcl_sim.specs.Output.{left_text, printed};
 
 use kcl_hand::Left;
-use kcl_text::print_answer;
+use kcl_script_fields::print_answer;
 use kds_base::{Memory, Octets, write_u64};
 use kds_defs::Answer;
-use kds_member::Fault;
+use kds_json_members::Fault;
 use kds_reply::fault;
 use std::alloc::Global;
 

@@ -14,7 +14,7 @@ use crate::sim::Sim;
 use crate::workers::{absorb, ask, call_all};
 use kcl_defs::Settings;
 use kcl_proc::Kind;
-use kcl_text::print_command;
+use kcl_script_fields::print_command;
 use kcl_worker::Worker;
 use kds_base::{Memory, Moment, Octets, WorkerNo};
 use kds_defs::limits::MOST_ACTOR;

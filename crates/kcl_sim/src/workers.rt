@@ -1,6 +1,6 @@
 //! What a step makes of a worker. After want of memory some of it may have been done.
 ghost use Rattle.std.specs.Prelude.{◌≡◌, ◌<◌, ◌^◌, false, None, Result, IfSome, OnOk, IsSome, MatchOption};
-ghost use Rattle.kcl_round.specs.Lists.{due_in};
+ghost use Rattle.kcl_worker_lists.specs.Lists.{due_in};
 ghost use Rattle.kcl_sim.specs.Standing.{Employs, HasAsked};
 ghost use Rattle.kcl_sim.specs.Workers.{Employed, all_called, answered, command_at};
 ghost use Rattle.kds_defs.specs.Kinds.{is_service};

@@ -12,9 +12,9 @@ use Rattle.kcl_defs.specs.Consumers.{Phase, Opening, Starting, Filling, Holding,
 use Rattle.kcl_defs.specs.Workers.{Known, is_before_id, is_due_known, same_id}
 use Rattle.kcl_consumer.specs.Standing.{HasAsked, Standing}
 use Rattle.kcl_worker.specs.Asks.{AskWithin, IsAsk, IsAskOf, IsWithin, processors}
-use Rattle.kcl_round.specs.Changes.{FirstCalled, FirstUncalled, answered_among, answered_in, is_over_in, live_among, lost_among, lost_in, with_consumer}
-use Rattle.kcl_round.specs.Lists.{id_in}
-use Rattle.kcl_round.specs.Lists.{is_due}
+use Rattle.kcl_worker_lists.specs.Changes.{FirstCalled, FirstUncalled, answered_among, answered_in, is_over_in, live_among, lost_among, lost_in, with_consumer}
+use Rattle.kcl_worker_lists.specs.Lists.{id_in}
+use Rattle.kcl_worker_lists.specs.Lists.{is_due}
 use Rattle.kcl_worker.specs.Standing.{ConsumersStand}
 use Rattle.kcl_worker.proofs.Happenings.{phase_known}
 

@@ -8,8 +8,8 @@ use Rattle.kcl_defs.specs.declared.consumer.Call.{Call}
 use Rattle.kcl_defs.specs.declared.consumer.Tenancy.{Tenancy}
 use Rattle.kcl_defs.specs.Consumers.{Phase, Opening, Starting, Filling, Holding, Giving, Marking, Ending, MarkingEnd, Leaving, Over, after_call, due_call}
 use Rattle.kcl_consumer.specs.Standing.{Standing}
-use Rattle.kcl_round.specs.Changes.{FirstCalled, is_over_in, live_among}
-use Rattle.kcl_round.specs.Lists.{due_count, is_due}
+use Rattle.kcl_worker_lists.specs.Changes.{FirstCalled, is_over_in, live_among}
+use Rattle.kcl_worker_lists.specs.Lists.{due_count, is_due}
 
 -- after its call a processor isn't due again
 pub not_again : (made : Tenancy) (a : Ask) (p : Phase) → is_some (due_call p) ≡ true → is_some (due_call (after_call made a p)) ≡ false

@@ -18,10 +18,10 @@ use Rattle.kcl_defs.specs.Workers.{Known, WorkerState, WorkerPast, Gave_command,
 use Rattle.kcl_consumer.specs.Standing.{Standing}
 use Rattle.kcl_worker.specs.declared.round.Asked.{Asked}
 use Rattle.kcl_worker.specs.declared.round.Asked.TheVariants as asked
-use Rattle.kcl_round.specs.Lists.{giving_in, id_in, past_in}
+use Rattle.kcl_worker_lists.specs.Lists.{giving_in, id_in, past_in}
 use Rattle.kcl_worker.specs.Outlook.{IsAsking, IsGiven, IsReady}
 use Rattle.kcl_worker.specs.Parts.{chore_of}
-use Rattle.kcl_round.specs.Lists.{due_in, due_or, is_due}
+use Rattle.kcl_worker_lists.specs.Lists.{due_in, due_or, is_due}
 use Rattle.kcl_worker.specs.Standing.{ConsumersStand, ShowsState, StandsFor, WorkerStanding, is_idle_in}
 
 -- ---- the same consumer is found on both sides

@@ -8,9 +8,9 @@ use Rattle.kds_defs.specs.declared.reply.Stored.{Stored}
 use Rattle.kcl_defs.specs.Consumers.{Called, Losing}
 use Rattle.kcl_defs.specs.Workers.{AtStopping, Made_call, Pending, Stopped, WorkerPast, WorkerState, happens_to, happens_to_first, is_due_known, settled, worker_after}
 use Rattle.kcl_consumer.specs.Standing.{Standing}
-use Rattle.kcl_round.specs.Changes.{FirstCalled, FirstUncalled, live_among, lost_among, retired_among}
+use Rattle.kcl_worker_lists.specs.Changes.{FirstCalled, FirstUncalled, live_among, lost_among, retired_among}
 use Rattle.kcl_worker.specs.Standing.{settled_in}
-use Rattle.kcl_round.specs.Lists.{Retirement}
+use Rattle.kcl_worker_lists.specs.Lists.{Retirement}
 use Rattle.kcl_worker.specs.Standing.{ShowsState, StandsFor, WorkerStanding}
 use Rattle.kcl_worker.proofs.Happenings.{first_called_stand, live_stand, lost_stand, retired_stand, retirements_append, uncalled_stand}
 

@@ -14,10 +14,10 @@ use Rattle.kcl_defs.specs.Consumers.{Losing}
 use Rattle.kcl_defs.specs.Plans.{after_rows, expiry, seen_at, sync_plan, take_plan}
 use Rattle.kcl_defs.specs.Workers.{AtSync, Got_answer, Surveying, WorkerPast, WorkerState, after_chore, happens_to, id_of, still_stands}
 use Rattle.kcl_consumer.specs.Standing.{Standing}
-use Rattle.kcl_round.specs.declared.planning.Planned.{Planned}
-use Rattle.kcl_round.specs.Changes.{live_among, lost_among, retired_among}
-use Rattle.kcl_round.specs.Planning.{IsPlanned, IsPlannedAfter, gone, is_among}
-use Rattle.kcl_round.specs.Lists.{Retirement}
+use Rattle.kcl_worker_lists.specs.declared.planning.Planned.{Planned}
+use Rattle.kcl_worker_lists.specs.Changes.{live_among, lost_among, retired_among}
+use Rattle.kcl_worker_lists.specs.Planning.{IsPlanned, IsPlannedAfter, gone, is_among}
+use Rattle.kcl_worker_lists.specs.Lists.{Retirement}
 use Rattle.kcl_worker.specs.Standing.{ConsumersStand, ShowsState, StandsFor, WorkerStanding}
 use Rattle.kcl_worker.proofs.Absorbings.{absorbed_leaves, absorbed_stands}
 use Rattle.kcl_worker.proofs.Happenings.{lost_stand}

@@ -16,7 +16,7 @@ use Rattle.kcl_worker.specs.declared.round.Asked.{Asked}
 use Rattle.kcl_worker.specs.declared.round.Part.{Part}
 use Rattle.kcl_worker.specs.Parts.{chore_of, round_of}
 use Rattle.kcl_worker.specs.Standing.{ConsumersStand}
-use Rattle.kcl_round.specs.Lists.{due_in}
+use Rattle.kcl_worker_lists.specs.Lists.{due_in}
 
 -- no call of it is due, and it is not over
 abbrev pub IsReady : {P : Type 0} → Standing P → Type 0

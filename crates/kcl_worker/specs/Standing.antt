@@ -17,10 +17,10 @@ use Rattle.kds_defs.specs.declared.reply.Reply.{Reply}
 use Rattle.kcl_defs.specs.Lives.{IsLifeIn, IsWholeLifeIn}
 use Rattle.kcl_defs.specs.WorkerLives.{IsOfTenure, IsOrderly}
 use Rattle.kcl_consumer.specs.Standing.{Standing, StandsFor as ConsumerStandsFor}
-use Rattle.kcl_round.specs.declared.planning.Planned.{Planned}
-use Rattle.kcl_round.specs.Changes.{live_among, retired_among}
-use Rattle.kcl_round.specs.Lists.{Retirement, is_due}
-use Rattle.kcl_round.specs.Planning.{IsPlannedAfter}
+use Rattle.kcl_worker_lists.specs.declared.planning.Planned.{Planned}
+use Rattle.kcl_worker_lists.specs.Changes.{live_among, retired_among}
+use Rattle.kcl_worker_lists.specs.Lists.{Retirement, is_due}
+use Rattle.kcl_worker_lists.specs.Planning.{IsPlannedAfter}
 
 -- the fields of a worker
 pub record WorkerStanding (P F : Type 0) : Type 0 where

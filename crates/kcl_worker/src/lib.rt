@@ -8,6 +8,6 @@ mod round;
 mod worker;
 
 pub use kcl_defs::Settings;
-pub use kcl_round::Retired;
+pub use kcl_worker_lists::Retired;
 pub use laws::{served, service};
 pub use worker::{NoRoom, Worker};

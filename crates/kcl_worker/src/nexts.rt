@@ -11,8 +11,8 @@ ghost use Rattle.kcl_worker.specs.Parts.{chore_of};
 use crate::round::{Asked, Part};
 use kcl_consumer::{Consumer, Processor};
 use kcl_defs::{Held, LeaseId, SyncStep, TakeStep, WorkerMade};
-use kcl_round::consumers::{first_giving, first_past, id_of};
-use kcl_round::leases::{counter_of, next_due};
+use kcl_worker_lists::consumers::{first_giving, first_past, id_of};
+use kcl_worker_lists::leases::{counter_of, next_due};
 use kds_base::Moment;
 use kds_defs::Command;
 

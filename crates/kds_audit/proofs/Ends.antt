@@ -2,8 +2,8 @@
 use Rattle.std.proofs.Common.{◌≡◌, ℕ, Bool, true, false, List, [], ◌∷◌, ◌++◌, refl, ap, ◌∙◌}
 use Rattle.std.proofs.lemmas.List.{append-nil}
 use Rattle.kds_lines.specs.Lines.{End, lined, too_long}
-use Rattle.kcl_streams.specs.declared.rule.Rule.{Rule}
-use Rattle.kcl_streams.specs.declared.rule.Rule.TheVariants as rule
+use Rattle.kcl_audit_streams.specs.declared.rule.Rule.{Rule}
+use Rattle.kcl_audit_streams.specs.declared.rule.Rule.TheVariants as rule
 use Rattle.kcl_audit.specs.Progress.{AuditEnd, Progress, audit_of, closed, finish, found, fresh, going, next, over, progress, progress_from, sound, step, unsound}
 use Rattle.kcl_audit.specs.Text.{report}
 use Rattle.kcl_auditor.specs.Standing.{end_by, is_bad, is_sound}

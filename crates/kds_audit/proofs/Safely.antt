@@ -5,7 +5,7 @@ use Rattle.kds_defs.specs.Journal.{Journal}
 use Rattle.kds_defs.specs.Legal.{IsReached}
 use Rattle.kds_defs.specs.Safe.{IsSafe}
 use Rattle.kds_ends.specs.declared.status.Status.TheVariants as status
-use Rattle.kcl_streams.specs.declared.rule.Rule.{Rule}
+use Rattle.kcl_audit_streams.specs.declared.rule.Rule.{Rule}
 use Rattle.kcl_audit.specs.Progress.{audit_of, over, sound, unsound}
 use Rattle.kcl_audit.specs.Text.{IsJournal, journal_of}
 use Rattle.kds_audit.specs.Audited.{IsNoJournal, IsSafely, TellsAudit}

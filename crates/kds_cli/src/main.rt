@@ -1,9 +1,9 @@
 //! The program: its runs over the real ends.
 #![tactic(auto)]
 
+use kds_cli_program::run;
+use kds_cli_runs::tell;
 use kds_ends::{Status, StdSink, StdSource, SystemClock, TcpDoor};
-use kds_program::run;
-use kds_runs::tell;
 use std::env;
 use std::io::ErrorKind;
 use std::process::ExitCode;

@@ -6,12 +6,12 @@ use Rattle.serde_json.specs.Data.{Data, null, boolean, number, string, array, ob
 use Rattle.serde_json.specs.Find.{as_str}
 use Rattle.kds_json.specs.declared.operation.Operation.{Operation}
 use Rattle.kds_json.specs.declared.operation.Operation.TheVariants as op
-use Rattle.kds_member.specs.declared.problem.Fault.{Fault}
-use Rattle.kds_member.specs.Reading.{some_or}
-use Rattle.kds_member.specs.Member.{absent_at, required_at, optional_at, token_at, member_of}
+use Rattle.kds_json_members.specs.declared.problem.Fault.{Fault}
+use Rattle.kds_json_members.specs.Reading.{some_or}
+use Rattle.kds_json_members.specs.Member.{absent_at, required_at, optional_at, token_at, member_of}
 use Rattle.kds_json.specs.Operations.{create_stream, delete_stream, list_streams, describe_stream, describe_summary, keep, update_shard_count, enforce_limits, start_at, start_after, start_time, start_of, get_shard_iterator, get_records, split_shard, merge_shards, list_from_start, list_from_token, list_shards}
 use Rattle.kds_json.specs.Asked.{read_body, if_object, object_of, operation_named, members_of, asked}
-use Rattle.kds_member.proofs.MemberTexts.{NamesText, then_text, some_or_text, if_text, absent_text, required_text, optional_text, token_text, names}
+use Rattle.kds_json_members.proofs.MemberTexts.{NamesText, then_text, some_or_text, if_text, absent_text, required_text, optional_text, token_text, names}
 use Rattle.kds_json.proofs.RecordTexts.{put_text, many_text}
 
 -- ---- operations

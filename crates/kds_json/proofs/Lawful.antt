@@ -7,12 +7,12 @@ use Rattle.kds_defs.specs.declared.limits.TheConstants.{LEAST_SHARDS, MOST_SHARD
 use Rattle.kds_defs.specs.Lawful.{IsNameIfThere, IsRetention, IsShardCount}
 use Rattle.kds_json.specs.declared.operation.Operation.{Operation}
 use Rattle.kds_json.specs.declared.operation.Operation.TheVariants as op
-use Rattle.kds_member.specs.Reading.{some_or}
-use Rattle.kds_member.specs.Member.{absent_at, member_of, required_at, optional_at, token_at}
-use Rattle.kds_member.specs.Kinds.{some_name_in, scaling_in, number_in, hash_in}
+use Rattle.kds_json_members.specs.Reading.{some_or}
+use Rattle.kds_json_members.specs.Member.{absent_at, member_of, required_at, optional_at, token_at}
+use Rattle.kds_json_members.specs.Kinds.{some_name_in, scaling_in, number_in, hash_in}
 use Rattle.kds_json.specs.Operations.{create_stream, delete_stream, list_streams, describe_stream, describe_summary, keep, update_shard_count, enforce_limits, start_of, get_shard_iterator, get_records, split_shard, merge_shards, list_from_start, list_from_token, list_shards}
 use Rattle.kds_json.specs.Asked.{object_of, operation_named, members_of, asked, IsRequest}
-use Rattle.kds_member.proofs.LawfulMembers.{then_has, then_is, either, some_name_is, number_is, IsHash, hash_is, required_has, optional_has}
+use Rattle.kds_json_members.proofs.LawfulMembers.{then_has, then_is, either, some_name_is, number_is, IsHash, hash_is, required_has, optional_has}
 use Rattle.kds_json.proofs.LawfulSteps.{then_named, then_limited}
 use Rattle.kds_json.proofs.LawfulRecords.{put_is, many_is}
 

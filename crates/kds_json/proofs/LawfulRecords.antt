@@ -7,14 +7,14 @@ use Rattle.serde_json.specs.Find.{as_array, as_object}
 use Rattle.kds_defs.specs.declared.command.NewItem.{NewItem}
 use Rattle.kds_defs.specs.declared.limits.TheConstants.{MANY_ITEMS, MANY_BYTES}
 use Rattle.kds_defs.specs.Lawful.{IsPartitionKey, IsItem, AreItems, item_bytes}
-use Rattle.kds_member.specs.declared.problem.Fault.{Fault}
-use Rattle.kds_member.specs.Reading.{some_or}
+use Rattle.kds_json_members.specs.declared.problem.Fault.{Fault}
+use Rattle.kds_json_members.specs.Reading.{some_or}
 use Rattle.kds_json.specs.Asked.{IsRequest}
-use Rattle.kds_member.specs.Member.{required_at}
-use Rattle.kds_member.specs.Kinds.{key_in, blob_in, hash_at}
+use Rattle.kds_json_members.specs.Member.{required_at}
+use Rattle.kds_json_members.specs.Kinds.{key_in, blob_in, hash_at}
 use Rattle.kds_json.specs.Operations.{item_of, put_record}
 use Rattle.kds_json.specs.Many.{count, counted, records_in, in_record, record_at, records_from, within_limit, put_records}
-use Rattle.kds_member.proofs.LawfulMembers.{then_has, some_or_has, and_then_has, kept_if, either, in_range, key_is, IsShort, blob_is, IsHash, record_hash_is, required_has}
+use Rattle.kds_json_members.proofs.LawfulMembers.{then_has, some_or_has, and_then_has, kept_if, either, in_range, key_is, IsShort, blob_is, IsHash, record_hash_is, required_has}
 use Rattle.kds_json.proofs.LawfulSteps.{then_named}
 
 item_is : (d : Data) → IfOk (item_of d) IsItem

@@ -6,11 +6,11 @@ use Rattle.kds_defs.specs.declared.command.Command.{Command}
 use Rattle.kds_defs.specs.declared.limits.TheConstants.{MOST}
 use Rattle.kds_defs.specs.Lawful.{IsLimit}
 use Rattle.kds_json.specs.Asked.{IsRequest}
-use Rattle.kds_member.specs.declared.problem.Fault.{Fault}
-use Rattle.kds_member.specs.Kinds.{name_in, number_in}
-use Rattle.kds_member.specs.Member.{required_at, optional_at}
-use Rattle.kds_member.specs.Reading.{◌>>=◌}
-use Rattle.kds_member.proofs.LawfulMembers.{then_has, name_is, number_is, required_has, optional_has}
+use Rattle.kds_json_members.specs.declared.problem.Fault.{Fault}
+use Rattle.kds_json_members.specs.Kinds.{name_in, number_in}
+use Rattle.kds_json_members.specs.Member.{required_at, optional_at}
+use Rattle.kds_json_members.specs.Reading.{◌>>=◌}
+use Rattle.kds_json_members.proofs.LawfulMembers.{then_has, name_is, number_is, required_has, optional_has}
 
 -- the name of a stream, and what follows it
 pub then_named : (name : List ℕ) (d : Data) (f : List ℕ → Result Command Fault) → ((x : List ℕ) → IsName x → IfOk (f x) IsRequest) → IfOk (required_at name_in name d >>= f) IsRequest

@@ -7,8 +7,8 @@ use Rattle.std.proofs.lemmas.Str.{IsUtf8-from_is_utf8, is_utf8-from_IsUtf8}
 use Rattle.serde_json.specs.Read.{read}
 use Rattle.serde_json.specs.Data.{Data, null, boolean, number, string, array, object}
 use Rattle.serde_json.specs.Find.{as_object}
-use Rattle.kds_member.specs.declared.problem.FaultKind.TheVariants.{Serialization}
-use Rattle.kds_member.specs.Reading.{fault_of}
+use Rattle.kds_json_members.specs.declared.problem.FaultKind.TheVariants.{Serialization}
+use Rattle.kds_json_members.specs.Reading.{fault_of}
 use Rattle.kds_json.specs.Asked.{if_object, read_body}
 
 pub object_is : (d : Data) → is_some (as_object d) ≡ true → if_object (Some d) ≡ Ok d

@@ -6,15 +6,15 @@ use Rattle.std.proofs.lemmas.Str.{IsUtf8-append, IsUtf8-from_ascii}
 use Rattle.serde_json.specs.Data.{Data, Items, no_items, item}
 use Rattle.serde_json.specs.Find.{as_object}
 use Rattle.kds_defs.specs.declared.command.NewItem.{NewItem}
-use Rattle.kds_member.specs.declared.problem.Fault.{Fault}
-use Rattle.kds_member.specs.Reading.{some_or}
-use Rattle.kds_member.specs.Member.{required_at}
-use Rattle.kds_member.specs.Kinds.{hash_at}
+use Rattle.kds_json_members.specs.declared.problem.Fault.{Fault}
+use Rattle.kds_json_members.specs.Reading.{some_or}
+use Rattle.kds_json_members.specs.Member.{required_at}
+use Rattle.kds_json_members.specs.Kinds.{hash_at}
 use Rattle.kds_json.specs.Operations.{item_of, put_record}
 use Rattle.kds_json.specs.Many.{count, records_in, record_name, in_record, record_at, records_from, within_limit, put_records}
-use Rattle.kds_member.proofs.LawfulMembers.{required_has}
+use Rattle.kds_json_members.proofs.LawfulMembers.{required_has}
 use Rattle.kds_json.proofs.LawfulRecords.{IsCounted, records_counted}
-use Rattle.kds_member.proofs.MemberTexts.{NamesText, then_text, then_text_if, some_or_text, if_text, required_text, hash_text, names}
+use Rattle.kds_json_members.proofs.MemberTexts.{NamesText, then_text, then_text_if, some_or_text, if_text, required_text, hash_text, names}
 
 item_text : (d : Data) → NamesText (item_of d)
 unfolding item_of

@@ -8,9 +8,9 @@ use Rattle.kds_defs.specs.Kinds.{is_service}
 use Rattle.kds_defs.specs.Lawful.{IsLawfulCommand}
 use Rattle.kds_json.specs.declared.operation.Operation.{Operation}
 use Rattle.kds_json.specs.declared.operation.Operation.TheVariants as op
-use Rattle.kds_member.specs.declared.problem.Fault.{Fault}
-use Rattle.kds_member.specs.declared.problem.FaultKind.TheVariants.{Unknown, Serialization}
-use Rattle.kds_member.specs.Reading.{◌>>=◌, fault_of, some_or}
+use Rattle.kds_json_members.specs.declared.problem.Fault.{Fault}
+use Rattle.kds_json_members.specs.declared.problem.FaultKind.TheVariants.{Unknown, Serialization}
+use Rattle.kds_json_members.specs.Reading.{◌>>=◌, fault_of, some_or}
 use Rattle.kds_json.specs.Operations.{create_stream, delete_stream, list_streams, describe_stream, describe_summary, keep, update_shard_count, enforce_limits, put_record, get_shard_iterator, get_records, split_shard, merge_shards, list_shards}
 use Rattle.kds_json.specs.Many.{put_records}
 

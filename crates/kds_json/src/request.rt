@@ -1,8 +1,8 @@
 //! From an operation and a body to a command.
 ghost use Rattle.std.specs.Prelude.{◌≡◌, ℕ, List, Ok, IsUtf8, IfOk, IfErr, option_map};
 ghost use Rattle.kds_defs.specs.declared.command.Command.{Command};
-ghost use Rattle.kds_value.specs.View.{view};
-ghost use Rattle.kds_member.specs.Reading.{Gives};
+ghost use Rattle.kds_json_value.specs.View.{view};
+ghost use Rattle.kds_json_members.specs.Reading.{Gives};
 ghost use Rattle.kds_json.specs.Asked.{object_of, read_body, members_of, asked, IsRequest};
 
 use crate::many::put_records;
@@ -15,8 +15,8 @@ use crate::streams::{
 };
 use kds_base::Memory;
 use kds_defs::Command;
-use kds_member::{Fault, FaultKind, Stop, stop_at};
-use kds_value::{Datum, Refused, Scratch, read_datum};
+use kds_json_members::{Fault, FaultKind, Stop, stop_at};
+use kds_json_value::{Datum, Refused, Scratch, read_datum};
 use std::alloc::Global;
 
 /// What a body reads as, if it is JSON in UTF-8.

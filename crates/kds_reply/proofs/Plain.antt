@@ -7,9 +7,9 @@ use Rattle.kds_base.specs.Span.{Span}
 use Rattle.kds_defs.specs.declared.reply.About.{About}
 use Rattle.kds_defs.specs.declared.reply.Page.{Page}
 use Rattle.kds_defs.specs.declared.reply.Shard.{Shard}
-use Rattle.kds_body.specs.Bodies.{number_data, id_data, list_data}
+use Rattle.kds_reply_texts.specs.Bodies.{number_data, id_data, list_data}
 use Rattle.kds_reply.specs.Bodies.{member_if, page_string}
-use Rattle.kds_body.specs.Children.{range_data}
+use Rattle.kds_reply_texts.specs.Children.{range_data}
 use Rattle.kds_reply.specs.Shards.{sequence_data, shard_data, shards_data}
 use Rattle.kds_reply.specs.Streams.{streams_data, description_data, digest_data, described_data, summary_data, scaled_data}
 

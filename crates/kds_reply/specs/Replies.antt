@@ -5,11 +5,11 @@ use Rattle.serde_json.specs.Written.{compact_text}
 use Rattle.kds_defs.specs.declared.reply.Reply.{Reply}
 use Rattle.kds_defs.specs.declared.reply.Reply.TheVariants.{Done, Streams, Described, Summary, Put, PutMany, Scaled, Iterator, Records, Shards}
 use Rattle.kds_defs.specs.declared.reply.Refusal.{Refusal}
-use Rattle.kds_member.specs.declared.problem.Fault.{Fault}
-use Rattle.kds_body.specs.Bodies.{place_data, outcomes_data, iterator_data}
-use Rattle.kds_body.specs.Errors.{refusal_text}
+use Rattle.kds_json_members.specs.declared.problem.Fault.{Fault}
+use Rattle.kds_reply_texts.specs.Bodies.{place_data, outcomes_data, iterator_data}
+use Rattle.kds_reply_texts.specs.Errors.{refusal_text}
 use Rattle.kds_reply.specs.Errors.{fault_text}
-use Rattle.kds_body.specs.Records.{records_data}
+use Rattle.kds_reply_texts.specs.Records.{records_data}
 use Rattle.kds_reply.specs.Shards.{shards_data}
 use Rattle.kds_reply.specs.Streams.{streams_data, described_data, summary_data, scaled_data}
 

@@ -3,9 +3,9 @@ use Rattle.std.specs.Prelude.{ℕ, List, codes, Option, option_map}
 use Rattle.serde_json.specs.Data.{Data, object, no_members, member}
 use Rattle.kds_defs.specs.declared.reply.Page.{Page}
 use Rattle.kds_defs.specs.declared.reply.Shard.{Shard}
-use Rattle.kds_body.specs.Bodies.{number_data, id_data, list_data}
+use Rattle.kds_reply_texts.specs.Bodies.{number_data, id_data, list_data}
 use Rattle.kds_reply.specs.Bodies.{member_if, page_string}
-use Rattle.kds_body.specs.Children.{range_data}
+use Rattle.kds_reply_texts.specs.Children.{range_data}
 
 -- the sequence numbers of a shard, the ending one where it is closed (Kinesis API Reference, SequenceNumberRange)
 unfoldable pub sequence_data : ℕ → Option ℕ → Data

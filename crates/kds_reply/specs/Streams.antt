@@ -3,7 +3,7 @@ use Rattle.std.specs.Prelude.{ℕ, List, ◌++◌, codes, Bool}
 use Rattle.serde_json.specs.Data.{unsigned, Data, boolean, number, string, array, object, no_items, item, Members, no_members, member}
 use Rattle.kds_defs.specs.declared.reply.About.{About}
 use Rattle.kds_defs.specs.declared.reply.Shard.{Shard}
-use Rattle.kds_body.specs.Bodies.{list_data, seconds_data}
+use Rattle.kds_reply_texts.specs.Bodies.{list_data, seconds_data}
 use Rattle.kds_reply.specs.Shards.{shard_data}
 
 -- names, and whether more follow (Kinesis API Reference, ListStreams, Response Elements)

@@ -9,8 +9,10 @@ ghost use Rattle.kds_reply.specs.Streams.{described_data};
 use crate::shards::shards_value;
 use crate::streams::{described_value, scaled_value, streams_value, summary_value};
 use kds_base::{Memory, Octets};
-use kds_body::{BAD_REQUEST, batch_text, iterator_text, outcomes_text, place_text, refusal_body};
 use kds_defs::{About, Answer, Reply, Shard};
+use kds_reply_texts::{
+    BAD_REQUEST, batch_text, iterator_text, outcomes_text, place_text, refusal_body,
+};
 use serde_json::Value;
 use std::alloc::Global;
 

@@ -4,8 +4,8 @@ ghost use Rattle.kds_reply.specs.Errors.{fault_name as name_of, fault_message as
 ghost use Rattle.kds_reply.specs.Replies.{fault_reply};
 
 use kds_base::{Memory, Octets};
-use kds_body::{BAD_REQUEST, error_body};
-use kds_member::{Fault, FaultKind};
+use kds_json_members::{Fault, FaultKind};
+use kds_reply_texts::{BAD_REQUEST, error_body};
 use std::alloc::Global;
 
 /// The name of a fault (Kinesis API Reference, Common Errors).

@@ -1,20 +1,20 @@
 //! Shards as they are shown, and listings of them.
 ghost use Rattle.std.specs.Prelude.{◌≡◌, map, option_map, IfOk, OnOk};
 ghost use Rattle.serde_json.specs.View.{view, members_view};
-ghost use Rattle.kds_body.specs.Bodies.{id_data};
+ghost use Rattle.kds_reply_texts.specs.Bodies.{id_data};
 ghost use Rattle.kds_reply.specs.Bodies.{put_if};
-ghost use Rattle.kds_body.specs.Children.{range_data};
+ghost use Rattle.kds_reply_texts.specs.Children.{range_data};
 ghost use Rattle.kds_reply.specs.Shards.{sequence_data, shard_data, shards_data};
 
 use kds_base::{Memory, Range, Seq, ShardNo};
-use kds_body::listing_token;
 use kds_defs::{Page, Shard};
-use kds_member::shard_id;
+use kds_json_members::shard_id;
+use kds_reply_texts::listing_token;
 use serde_json::{Map, Value, json, push, put};
 use std::alloc::Global;
 
 /// A range of hash keys (Kinesis API Reference, HashKeyRange).
-#[tactic(auto, unfolding(kds_body::specs::Children::range_data))]
+#[tactic(auto, unfolding(kds_reply_texts::specs::Children::range_data))]
 fn range_value(alloc: Global, range: &Range) -> Result<Value, Memory>
     ensures { IfOk result (λ v. view v ≡ range_data range.now) }
 {

@@ -6,8 +6,8 @@ ghost use Rattle.kds_reply.specs.Streams.{streams_data, monitoring_data, about_m
 
 use crate::shards::shard_values;
 use kds_base::{Memory, Name};
-use kds_body::seconds;
 use kds_defs::{About, Shard};
+use kds_reply_texts::seconds;
 use serde_json::{Map, Value, json, push, put};
 use std::alloc::Global;
 

@@ -2,7 +2,7 @@
 use Rattle.std.proofs.Common.{◌≡◌, ℕ, ◌+◌, List, [], ◌∷◌, ◌++◌, length, sym, ap, ◌∙◌, arith, refl, Bool, Result, Ok, Err}
 use Rattle.std.proofs.lemmas.List.{append_assoc, append-nil}
 use Rattle.kds_defs.specs.declared.command.Command.{Command}
-use Rattle.kds_member.specs.declared.problem.Fault.{Fault}
+use Rattle.kds_json_members.specs.declared.problem.Fault.{Fault}
 use Rattle.kds_reply.specs.Replies.{reply_of, fault_reply}
 use Rattle.kds_session.specs.Messages.{Message, closes}
 use Rattle.kds_session.specs.Text.{Answers, asked_by, command_of, commands, answered, respond, responses}

@@ -6,7 +6,7 @@ use Rattle.std.proofs.lemmas.List.{append_assoc, append-nil, length-append}
 use Rattle.kds_defs.specs.declared.command.Command.{Command}
 use Rattle.kds_defs.specs.declared.reply.Refusal.{Refusal}
 use Rattle.kds_defs.specs.declared.reply.Reply.{Reply}
-use Rattle.kds_member.specs.declared.problem.Fault.{Fault}
+use Rattle.kds_json_members.specs.declared.problem.Fault.{Fault}
 use Rattle.kds_reply.specs.Replies.{reply_of, fault_reply}
 use Rattle.kds_head.specs.declared.found.Head.{Head}
 use Rattle.kds_head.specs.declared.found.Found.TheVariants.{Refused as RefusedHead}

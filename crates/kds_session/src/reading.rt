@@ -17,7 +17,7 @@ use kds_head::{
     Head, decided_stays, found_within_limits, no_bytes_need_more, one_finding, response,
 };
 use kds_json::Scratch;
-use kds_member::Fault;
+use kds_json_members::Fault;
 use kds_reply::fault;
 use std::alloc::Global;
 

@@ -9,9 +9,9 @@ use Rattle.kds_log.specs.Log.{LogValue}
 use Rattle.kds_stream.proofs.Cuts.{advanced_floor, later_floor, trims_later}
 use Rattle.kds_stream.proofs.Rates.{rated_later}
 use Rattle.kds_stream.specs.Showing.{AreKept, Shows}
-use Rattle.kds_shards.proofs.LogLemmas.{all-filter}
+use Rattle.kds_stream_logs.proofs.LogLemmas.{all-filter}
 use Rattle.kds_stream.proofs.LogLemmas.{all-settled, arrived_later, length-settled}
-use Rattle.kds_shards.specs.Logs.{HasArrived, IsBelow, settled_at}
+use Rattle.kds_stream_logs.specs.Logs.{HasArrived, IsBelow, settled_at}
 use Rattle.kds_stream.specs.Value.{IsStream, StreamValue, cut_at, later_cut}
 
 -- ---- what is kept at a floor is kept at a higher one

@@ -22,7 +22,7 @@ use Rattle.kds_defs.specs.Shards.{Closing, ShardState, children, children_among,
 use Rattle.kds_defs.specs.Streams.{floor_of, trim_floor}
 use Rattle.kds_log.specs.Log.{LogValue, first_arrival}
 use Rattle.kds_stream.proofs.ReadLemmas.{are_none_by, batch_is, behind_first, left_is}
-use Rattle.kds_shards.specs.Reading.{batch_among, behind_by, position_from}
+use Rattle.kds_stream_logs.specs.Reading.{batch_among, behind_by, position_from}
 use Rattle.kds_stream.specs.Showing.{Shows}
 use Rattle.kds_stream.specs.Value.{IsStream, StreamValue, is_listed_at, listed_at}
 

@@ -5,8 +5,8 @@ use Rattle.std.specs.List.{AllByRecursion}
 use Rattle.std.proofs.lemmas.List.{append_assoc, take_at}
 use Rattle.kds_defs.specs.Records.{Logged}
 use Rattle.kds_log.specs.Log.{LogValue, LogWithRoom, log_of}
-use Rattle.kds_shards.specs.Logs.{HasArrived, IsBelow, IsUnder, empty_log, settled_at, settled_log, with_appended}
-use Rattle.kds_shards.proofs.LogLemmas.{all_weaker}
+use Rattle.kds_stream_logs.specs.Logs.{HasArrived, IsBelow, IsUnder, empty_log, settled_at, settled_log, with_appended}
+use Rattle.kds_stream_logs.proofs.LogLemmas.{all_weaker}
 
 -- ---- facts of each
 

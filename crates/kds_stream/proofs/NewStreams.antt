@@ -17,9 +17,9 @@ use Rattle.kds_rate.specs.Windows.{WindowValue}
 use Rattle.kds_stream.proofs.Cuts.{cut_floor, first_floor, trims_at}
 use Rattle.kds_stream.proofs.Puts.{same_number}
 use Rattle.kds_stream.proofs.Rates.{counted_unused, stand_unused}
-use Rattle.kds_shards.specs.Rating.{IsUnused}
+use Rattle.kds_stream_logs.specs.Rating.{IsUnused}
 use Rattle.kds_stream.specs.Showing.{AreKept, IsFresh, Shows}
-use Rattle.kds_shards.specs.Logs.{HasArrived, IsBelow, empty_log}
+use Rattle.kds_stream_logs.specs.Logs.{HasArrived, IsBelow, empty_log}
 use Rattle.kds_stream.specs.Value.{EndsUnder, IsStream, cut_at}
 
 -- ---- so many shards, and so many logs

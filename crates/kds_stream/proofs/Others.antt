@@ -12,7 +12,7 @@ use Rattle.kds_defs.specs.Shards.{ShardState, shards, shards_after}
 use Rattle.kds_defs.specs.Streams.{floor_after, floor_of, hours, hours_after, is_live, is_live_after, made_at, made_at_after, name_of, name_of_after, was_made, was_made_after}
 use Rattle.kds_log.specs.Log.{LogValue}
 use Rattle.kds_stream.proofs.Cuts.{same_floor_at}
-use Rattle.kds_shards.proofs.Rates.{stand_along}
+use Rattle.kds_stream_logs.proofs.Rates.{stand_along}
 use Rattle.kds_stream.specs.Showing.{AreKept, IsFresh, IsKept, Shows, stream_of}
 use Rattle.kds_stream.specs.Value.{StreamValue}
 

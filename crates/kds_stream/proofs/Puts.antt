@@ -24,15 +24,15 @@ use Rattle.kds_defs.specs.Streams.{floor_of, hours, is_live, made_at, name_of, t
 use Rattle.kds_log.specs.Log.{LogValue}
 use Rattle.kds_rate.specs.Windows.{WindowValue}
 use Rattle.kds_stream.proofs.Cuts.{same_floor_at}
-use Rattle.kds_shards.proofs.LogLemmas.{all-append, all_weaker}
+use Rattle.kds_stream_logs.proofs.LogLemmas.{all-append, all_weaker}
 use Rattle.kds_stream.proofs.LogLemmas.{all-appended, arrived_later, length-appended}
-use Rattle.kds_shards.proofs.Rates.{put_elsewhere, stand_along}
-use Rattle.kds_shards.specs.Rating.{StandFor, with_put}
+use Rattle.kds_stream_logs.proofs.Rates.{put_elsewhere, stand_along}
+use Rattle.kds_stream_logs.specs.Rating.{StandFor, with_put}
 use Rattle.kds_stream.specs.Rating.{AreRated, ShowsRates}
 use Rattle.kds_stream.specs.Showing.{AreKept, IsKept, Shows}
-use Rattle.kds_shards.specs.Logs.{HasArrived, IsBelow, IsUnder, with_appended}
+use Rattle.kds_stream_logs.specs.Logs.{HasArrived, IsBelow, IsUnder, with_appended}
 use Rattle.kds_stream.specs.Value.{EndsUnder, IsClosedUnder, IsStream, StreamValue}
-use Rattle.kds_shards.proofs.Numbers.{is_number}
+use Rattle.kds_stream_logs.proofs.Numbers.{is_number}
 
 -- ---- a number and itself
 

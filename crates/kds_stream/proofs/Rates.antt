@@ -5,8 +5,8 @@ use Rattle.std.specs.List.{AllByRecursion}
 use Rattle.std.proofs.lemmas.List.{append_assoc}
 use Rattle.kds_defs.specs.Rates.{SizedPut}
 use Rattle.kds_rate.specs.Windows.{StandsFor, WindowValue}
-use Rattle.kds_shards.proofs.LogLemmas.{all-append, all_weaker}
-use Rattle.kds_shards.specs.Rating.{IsCounted, IsUnused, StandFor}
+use Rattle.kds_stream_logs.proofs.LogLemmas.{all-append, all_weaker}
+use Rattle.kds_stream_logs.specs.Rating.{IsCounted, IsUnused, StandFor}
 use Rattle.kds_stream.specs.Rating.{AreRated}
 
 -- ---- at a place

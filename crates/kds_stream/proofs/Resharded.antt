@@ -19,16 +19,16 @@ use Rattle.kds_defs.specs.Streams.{floor_of, hours, is_live, made_at, name_of, w
 use Rattle.kds_log.specs.Log.{LogValue}
 use Rattle.kds_rate.specs.Windows.{WindowValue}
 use Rattle.kds_stream.proofs.Cuts.{same_floor_at}
-use Rattle.kds_shards.proofs.LogLemmas.{all-append, all_weaker}
+use Rattle.kds_stream_logs.proofs.LogLemmas.{all-append, all_weaker}
 use Rattle.kds_stream.proofs.LogLemmas.{arrived_later, below_higher}
 use Rattle.kds_stream.proofs.Opens.{few_merged, few_split}
 use Rattle.kds_stream.proofs.Others.{kept_along}
 use Rattle.kds_stream.proofs.Puts.{ends_later, one_free, same_number}
-use Rattle.kds_shards.proofs.Rates.{stand_along}
+use Rattle.kds_stream_logs.proofs.Rates.{stand_along}
 use Rattle.kds_stream.proofs.Rates.{rated_more, stand_more}
-use Rattle.kds_shards.specs.Rating.{IsUnused}
+use Rattle.kds_stream_logs.specs.Rating.{IsUnused}
 use Rattle.kds_stream.specs.Showing.{AreKept, Shows, merge_line, split_line}
-use Rattle.kds_shards.specs.Logs.{HasArrived, IsBelow, empty_log}
+use Rattle.kds_stream_logs.specs.Logs.{HasArrived, IsBelow, empty_log}
 use Rattle.kds_stream.specs.Value.{EndsUnder, IsStream, StreamValue}
 use Rattle.kds_tree.specs.Tree.{merge_refusal, split_refusal}
 

@@ -14,7 +14,7 @@ use Rattle.kds_defs.specs.Shards.{ShardState, is_listed, range_of, shard_at, sha
 use Rattle.kds_defs.specs.StreamCommands.{is_open_at, last_number, merge, split_where}
 use Rattle.kds_defs.specs.Streams.{floor_of}
 use Rattle.kds_stream.proofs.Listed.{listed_is, shard_is}
-use Rattle.kds_shards.proofs.Numbers.{is_number}
+use Rattle.kds_stream_logs.proofs.Numbers.{is_number}
 use Rattle.kds_stream.proofs.Puts.{is_other}
 use Rattle.kds_stream.specs.Showing.{Shows, merge_line, split_line}
 use Rattle.kds_stream.specs.Value.{StreamValue, is_listed_at}

@@ -23,19 +23,19 @@ use Rattle.kds_log.specs.Log.{LogValue}
 use Rattle.kds_stream.proofs.Clocks.{settled_stream, shows_settled}
 use Rattle.kds_stream.proofs.LogLemmas.{arrived_later, below_higher}
 use Rattle.kds_rate.specs.Windows.{WindowValue}
-use Rattle.kds_shards.proofs.Numbers.{is_number}
+use Rattle.kds_stream_logs.proofs.Numbers.{is_number}
 use Rattle.kds_stream.proofs.Puts.{ShowsStored, held_is, home_so, is_other, put_of, put_record, puts_more, shows_put, stored_part, stream_put, with_rates}
-use Rattle.kds_shards.proofs.Rates.{put_elsewhere, stand_along}
+use Rattle.kds_stream_logs.proofs.Rates.{put_elsewhere, stand_along}
 use Rattle.kds_stream.proofs.Rates.{rated_later}
-use Rattle.kds_shards.specs.declared.routes.Routed.{Routed}
-use Rattle.kds_shards.specs.declared.routes.Routes.{Routes}
-use Rattle.kds_shards.specs.Rating.{StandFor}
+use Rattle.kds_stream_logs.specs.declared.routes.Routed.{Routed}
+use Rattle.kds_stream_logs.specs.declared.routes.Routes.{Routes}
+use Rattle.kds_stream_logs.specs.Rating.{StandFor}
 use Rattle.kds_stream.specs.Rating.{AreRated, ShowsRates}
-use Rattle.kds_shards.specs.Routes.{AreInTurn, AreRouted, CanTake, GoesOn, IsWithin, after_item, after_items, after_number, is_held, outcome_of, outcomes, taken, routed_items, settled_each, with_each}
+use Rattle.kds_stream_logs.specs.Routes.{AreInTurn, AreRouted, CanTake, GoesOn, IsWithin, after_item, after_items, after_number, is_held, outcome_of, outcomes, taken, routed_items, settled_each, with_each}
 use Rattle.kds_stream.specs.Showing.{Shows}
-use Rattle.kds_shards.specs.Logs.{IsBelow, settled_at, with_appended}
+use Rattle.kds_stream_logs.specs.Logs.{IsBelow, settled_at, with_appended}
 use Rattle.kds_stream.specs.Value.{EndsUnder, IsStream, StreamValue}
-use Rattle.kds_shards.proofs.Routings.{IsFrom, all_from, all_two, apart, turns}
+use Rattle.kds_stream_logs.proofs.Routings.{IsFrom, all_from, all_two, apart, turns}
 
 -- ---- the records of items
 

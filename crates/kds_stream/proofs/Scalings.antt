@@ -22,17 +22,17 @@ use Rattle.kds_defs.specs.Shards.{ShardState, is_open, shards}
 use Rattle.kds_defs.specs.StreamCommands.{last_number}
 use Rattle.kds_log.specs.Log.{LogValue}
 use Rattle.kds_rate.specs.Windows.{WindowValue}
-use Rattle.kds_shards.proofs.LogLemmas.{all-append}
+use Rattle.kds_stream_logs.proofs.LogLemmas.{all-append}
 use Rattle.kds_stream.proofs.LogLemmas.{arrived_later, below_higher}
 use Rattle.kds_stream.proofs.Puts.{ends_later}
 use Rattle.kds_stream.proofs.Rates.{rated_more}
 use Rattle.kds_stream.proofs.Resharded.{ends_merged, ends_split, length-merged, length-split, shows_merged, shows_split}
-use Rattle.kds_shards.specs.Rating.{IsUnused}
+use Rattle.kds_stream_logs.specs.Rating.{IsUnused}
 use Rattle.kds_stream.specs.Rating.{AreRated}
 use Rattle.kds_stream.specs.Showing.{Shows, merge_line, split_line}
-use Rattle.kds_shards.specs.Steps.{entries_in, home_in, scaled, starts_in, stepped}
+use Rattle.kds_stream_logs.specs.Steps.{entries_in, home_in, scaled, starts_in, stepped}
 use Rattle.kds_stream.specs.Steps.{are_spent, scale_where}
-use Rattle.kds_shards.specs.Logs.{HasArrived, IsBelow, empty_log}
+use Rattle.kds_stream_logs.specs.Logs.{HasArrived, IsBelow, empty_log}
 use Rattle.kds_stream.specs.Value.{EndsUnder, IsStream, StreamValue}
 
 -- ---- the shards after the steps

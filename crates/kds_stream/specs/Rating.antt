@@ -5,7 +5,7 @@ use Rattle.kds_defs.specs.Journal.{Journal}
 use Rattle.kds_defs.specs.PutCommands.{is_enforced}
 use Rattle.kds_defs.specs.Rates.{puts}
 use Rattle.kds_rate.specs.Windows.{WindowValue}
-use Rattle.kds_shards.specs.Rating.{IsCounted, StandFor}
+use Rattle.kds_stream_logs.specs.Rating.{IsCounted, StandFor}
 
 -- there are so many windows, and they count no put that is later than the moment
 pub record AreRated (moment count : ℕ) (ws : List WindowValue) : Type 0 where

@@ -12,7 +12,7 @@ use Rattle.kds_defs.specs.ScaleCommands.{made_by, step_lines, steps_to}
 use Rattle.kds_defs.specs.Shards.{is_open, open_shards, shards}
 use Rattle.kds_defs.specs.StreamCommands.{last_number}
 use Rattle.kds_stream.specs.Value.{StreamValue}
-use Rattle.kds_shards.specs.Steps.{starts_in}
+use Rattle.kds_stream_logs.specs.Steps.{starts_in}
 
 -- so many open shards are too many, where only so many more may be open
 abbrev pub is_over : StreamValue → ℕ → ℕ → Bool

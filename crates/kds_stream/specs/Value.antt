@@ -8,7 +8,7 @@ use Rattle.kds_defs.specs.Streams.{floor_of}
 use Rattle.kds_log.specs.Log.{LogValue}
 use Rattle.kds_rate.specs.Windows.{WindowValue}
 use Rattle.kds_stream.specs.Rating.{AreRated}
-use Rattle.kds_shards.specs.Logs.{HasArrived, IsBelow, settled_at}
+use Rattle.kds_stream_logs.specs.Logs.{HasArrived, IsBelow, settled_at}
 
 -- its number, its name, when it was made, its retention in hours, its shards, the log of each, the window of each,
 -- whether the limits on throughput are on, its next number, its clock and its cut; what clock and cut were before the

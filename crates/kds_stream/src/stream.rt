@@ -23,7 +23,7 @@ use kds_base::{Memory, Moment, Name, Seq, StreamNo};
 use kds_defs::limits::FIRST_HOURS;
 use kds_log::ShardLog;
 use kds_rate::Window;
-use kds_shards::{new_logs, new_windows};
+use kds_stream_logs::{new_logs, new_windows};
 use kds_tree::ShardTree;
 use std::alloc::Global;
 use std::marker::Model;

@@ -38,7 +38,7 @@ fn next_of(count: usize, place: usize) -> usize
     }
 }
 
-use kds_shards::settle_at;
+use kds_stream_logs::settle_at;
 
 impl Stream {
     /// Raises the clock and with it the cut, and drops nothing yet.

@@ -2,14 +2,14 @@
 ghost use Rattle.std.specs.Prelude.{◌≡◌, ◌<◌, ◌&&◌, ℕ, List, Ok, length};
 ghost use Rattle.kds_defs.specs.PutCommands.{enforce};
 ghost use Rattle.kds_defs.specs.Rates.{SizedPut, is_throttled};
-ghost use Rattle.kds_shards.specs.Rating.{StandFor};
+ghost use Rattle.kds_stream_logs.specs.Rating.{StandFor};
 ghost use Rattle.kds_stream.specs.Showing.{Decides};
 ghost use Rattle.kds_stream.specs.Value.{IsChangedAt};
 
 use crate::stream::Stream;
 use kds_base::ShardNo;
 use kds_defs::{Answer, Reply};
-use kds_shards::admits_at;
+use kds_stream_logs::admits_at;
 
 impl Stream {
     /// LocalEnforceLimits: turns the limits on the throughput of its shards on or off. It is never refused. The

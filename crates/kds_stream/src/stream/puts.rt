@@ -8,7 +8,7 @@ ghost use Rattle.kds_stream.specs.Value.{IsChangedAt};
 use crate::stream::Stream;
 use kds_base::{Items, Memory, Seq};
 use kds_defs::{Answer, NewItem, Place, Refusal, Reply, Stored};
-use kds_shards::{Routes, count_at, item_bytes, put_all, put_at, route_all};
+use kds_stream_logs::{Routes, count_at, item_bytes, put_all, put_at, route_all};
 use std::collections::VecDeque;
 
 impl Stream {

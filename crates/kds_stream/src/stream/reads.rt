@@ -13,13 +13,13 @@ ghost use Rattle.kds_defs.specs.Shards.{listed_among, shown};
 ghost use Rattle.kds_defs.specs.Streams.{floor_of};
 ghost use Rattle.kds_stream.specs.Reading.{read_ends};
 ghost use Rattle.kds_stream.specs.Showing.{Shows};
-ghost use Rattle.kds_shards.specs.Logs.{IsUnder};
+ghost use Rattle.kds_stream_logs.specs.Logs.{IsUnder};
 ghost use Rattle.kds_stream.specs.Value.{is_listed_at, listed_at};
 
 use crate::stream::Stream;
 use kds_base::{Items, Memory, ShardNo, ShardRef};
 use kds_defs::{Answer, Iter, Origin, Page, Refusal, Reply, Shard, Start, Stored};
-use kds_shards::{batch_at, behind, is_end, last_no, origin_position, position};
+use kds_stream_logs::{batch_at, behind, is_end, last_no, origin_position, position};
 use kds_token::iter_expired;
 use std::alloc::Global;
 

@@ -10,7 +10,7 @@ use crate::stream::Stream;
 use kds_base::{Items, Memory, Seq};
 use kds_defs::{Answer, Refusal, Reply, ScaleStep};
 use kds_scale::plan;
-use kds_shards::{add_shards, is_spent, made_by, reserve_shards, take_steps};
+use kds_stream_logs::{add_shards, is_spent, made_by, reserve_shards, take_steps};
 
 impl Stream {
     /// UpdateShardCount: merges and then splits its open shards to `target` uniform ranges, by as few steps as there

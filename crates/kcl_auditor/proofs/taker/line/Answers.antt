@@ -1,7 +1,7 @@
 use Rattle.std.proofs.Common.{◌≡◌, Some, sym, ap, subst, ◌∙◌}
 use Rattle.std.specs.Option.{option_map}
 use Rattle.kcl_journal.specs.Entries.{entry_of}
-use Rattle.kcl_streams.specs.Verdict.{verdict}
+use Rattle.kcl_audit_streams.specs.Verdict.{verdict}
 use Rattle.kcl_audit.specs.Progress.{after_entry, after_line, line_of}
 use Rattle.kcl_auditor.specs.declared.stage.Stage.TheVariants as stage
 use Rattle.kcl_auditor.specs.Standing.{IsAt, IsNamed}

@@ -1,5 +1,5 @@
 use Rattle.std.proofs.Common.{◌≡◌, ◌*◌, ◌-◌, ◌≤◌, None, length}
-use Rattle.kcl_round.specs.Lists.{due_in}
+use Rattle.kcl_worker_lists.specs.Lists.{due_in}
 use Rattle.kds_turn.specs.Known.{Continues}
 use Rattle.kcl_live.specs.Records.{AreOnLeasesAt}
 use Rattle.kcl_live.specs.Steps.{IsFinishing}

@@ -1,5 +1,5 @@
 use Rattle.std.proofs.Common.{◌∙◌, ◌∷◌, sym}
-use Rattle.kcl_round.specs.Lists.{due_in}
+use Rattle.kcl_worker_lists.specs.Lists.{due_in}
 use Rattle.kcl_live.specs.Records.{with_calls}
 use Rattle.kcl_live.proofs.Ending.{due_again, is_some_of}
 use Rattle.kcl_live.proofs.steps.call_all.Goals as goal

@@ -1,7 +1,7 @@
 use Rattle.std.proofs.Common.{◌≡◌, List, None}
 use Rattle.kcl_defs.specs.declared.consumer.Ask.{Ask}
 use Rattle.kcl_defs.specs.Workers.{WorkerPast}
-use Rattle.kcl_round.specs.Lists.{due_count}
+use Rattle.kcl_worker_lists.specs.Lists.{due_count}
 use Rattle.kcl_worker.specs.Standing.{StandsFor}
 use Rattle.kcl_live.specs.Records.{with_calls}
 use Rattle.kcl_live.proofs.steps.call_all.Given as goal

@@ -1,5 +1,5 @@
 use Rattle.std.proofs.Common.{◌≡◌, None}
-use Rattle.kcl_round.specs.Lists.{due_count}
+use Rattle.kcl_worker_lists.specs.Lists.{due_count}
 use Rattle.kcl_sim.specs.Standing.{Employs}
 use Rattle.kcl_sim.specs.Workers.{Employed, all_called}
 use Rattle.kcl_sim.proofs.workers.call_all.Given as goal

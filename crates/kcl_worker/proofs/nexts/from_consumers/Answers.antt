@@ -1,6 +1,6 @@
 use Rattle.std.proofs.Common.{sym}
 use Rattle.kcl_defs.specs.Workers.{is_past}
-use Rattle.kcl_round.specs.Lists.{id_in}
+use Rattle.kcl_worker_lists.specs.Lists.{id_in}
 use Rattle.kcl_worker.specs.Outlook.{IsReady}
 use Rattle.kcl_worker.proofs.Outlooks.{all_found, consumer_as, survey_given}
 use Rattle.kcl_worker.proofs.nexts.from_consumers.Goals as goal

@@ -1,7 +1,7 @@
 use Rattle.std.proofs.Common.{◌≡◌, ◌<◌, ◌∷◌, ◌++◌, [], length, ◌∙◌, ap, subst, sym}
 use Rattle.std.specs.Prelude.{codes, false, slice_get, slice_set}
-use Rattle.kcl_text.specs.Answers.{answer_text}
-use Rattle.kcl_text.specs.Commands.{command_text}
+use Rattle.kcl_script_fields.specs.Answers.{answer_text}
+use Rattle.kcl_script_fields.specs.Commands.{command_text}
 use Rattle.kcl_sim.specs.Standing.{Employs, SimValue}
 use Rattle.kcl_sim.specs.Workers.{answered}
 use Rattle.kcl_sim.proofs.Employing.{got_there}

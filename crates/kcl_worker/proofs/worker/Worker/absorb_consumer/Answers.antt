@@ -1,6 +1,6 @@
 use Rattle.std.proofs.Common.{map, subst, sym}
 use Rattle.kcl_worker.specs.Outlook.{NoneOver}
-use Rattle.kcl_round.specs.Retirements.{retirement}
+use Rattle.kcl_worker_lists.specs.Retirements.{retirement}
 use Rattle.kcl_worker.specs.Asks.{AskWithin}
 use Rattle.kcl_worker.proofs.Askings.{within_answered, within_settled}
 use Rattle.kcl_worker.proofs.Absorbings.{consumer_leaves}

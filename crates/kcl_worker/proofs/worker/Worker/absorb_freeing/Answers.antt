@@ -1,7 +1,7 @@
 use Rattle.std.proofs.Common.{◌∙◌, ap, map, subst, sym}
 use Rattle.kcl_defs.specs.Workers.{without_held}
 use Rattle.kcl_worker.specs.Outlook.{NoneOver}
-use Rattle.kcl_round.specs.Retirements.{retirement}
+use Rattle.kcl_worker_lists.specs.Retirements.{retirement}
 use Rattle.kcl_worker.proofs.Askings.{within_settled}
 use Rattle.kcl_worker.proofs.Absorbings.{freeing_leaves}
 use Rattle.kcl_worker.proofs.Happenings.{live_on}

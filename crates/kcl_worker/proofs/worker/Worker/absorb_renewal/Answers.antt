@@ -2,7 +2,7 @@ use Rattle.std.proofs.Common.{map, subst, sym}
 use Rattle.std.specs.List.{AllByRecursion}
 use Rattle.kcl_worker.specs.Asks.{IsWithin}
 use Rattle.kcl_worker.specs.Outlook.{NoneOver}
-use Rattle.kcl_round.specs.Retirements.{retirement}
+use Rattle.kcl_worker_lists.specs.Retirements.{retirement}
 use Rattle.kcl_worker.proofs.Askings.{within_settled}
 use Rattle.kcl_worker.proofs.Absorbings.{renewal_leaves}
 use Rattle.kcl_worker.proofs.Happenings.{live_on}

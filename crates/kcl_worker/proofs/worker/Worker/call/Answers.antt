@@ -5,8 +5,8 @@ use Rattle.kcl_defs.specs.Workers.{due_known, worker_after}
 use Rattle.kcl_worker.specs.Asks.{IsAskOf}
 use Rattle.kcl_worker.specs.Outlook.{IsAsking, NoneOver}
 use Rattle.kcl_worker.specs.Parts.{chore_of}
-use Rattle.kcl_round.specs.Retirements.{retirement}
-use Rattle.kcl_round.specs.Lists.{due_count, due_in}
+use Rattle.kcl_worker_lists.specs.Retirements.{retirement}
+use Rattle.kcl_worker_lists.specs.Lists.{due_count, due_in}
 use Rattle.kcl_worker.specs.Standing.{StandsFor}
 use Rattle.kcl_worker.proofs.Askings.{asked_so, within_called, within_settled, within_uncalled}
 use Rattle.kcl_worker.proofs.Counting.{fewer_due}

@@ -1,5 +1,5 @@
 use Rattle.std.proofs.Common.{◌≡◌, drop}
-use Rattle.kcl_round.specs.Lists.{due_in}
+use Rattle.kcl_worker_lists.specs.Lists.{due_in}
 use Rattle.kcl_worker.proofs.worker.Worker.due.Given as goal
 
 abbrev pub invariant-loop-c : goal.invariant-loop-c

@@ -1,8 +1,8 @@
 use Rattle.std.proofs.Common.{◌∙◌, ap, map, subst, sym}
-use Rattle.kcl_round.specs.Changes.{lost_among}
+use Rattle.kcl_worker_lists.specs.Changes.{lost_among}
 use Rattle.kcl_worker.specs.Outlook.{NoneOver}
-use Rattle.kcl_round.specs.Planning.{is_among}
-use Rattle.kcl_round.specs.Retirements.{retirement}
+use Rattle.kcl_worker_lists.specs.Planning.{is_among}
+use Rattle.kcl_worker_lists.specs.Retirements.{retirement}
 use Rattle.kcl_worker.specs.Asks.{AskWithin}
 use Rattle.kcl_worker.proofs.Askings.{within_lost, within_settled}
 use Rattle.kcl_worker.proofs.Happenings.{live_on}

@@ -3,7 +3,7 @@ use Rattle.std.specs.List.{AllByRecursion}
 use Rattle.kcl_defs.specs.Workers.{chore_from}
 use Rattle.kcl_worker.specs.Outlook.{IsGiven, IsReady}
 use Rattle.kcl_worker.specs.Parts.{round_of}
-use Rattle.kcl_round.specs.Lists.{due_in}
+use Rattle.kcl_worker_lists.specs.Lists.{due_in}
 use Rattle.kcl_worker.specs.Standing.{ConsumersStand}
 use Rattle.kcl_worker.proofs.Outlooks.{asked_leaves, none_left, ready}
 use Rattle.kcl_worker.proofs.worker.Worker.next.Goals as goal

@@ -1,7 +1,7 @@
 use Rattle.std.proofs.Common.{drop, map, subst, sym}
 use Rattle.kcl_worker.specs.Outlook.{NoneOver}
 use Rattle.kcl_worker.specs.Parts.{IsTaking}
-use Rattle.kcl_round.specs.Retirements.{retirement}
+use Rattle.kcl_worker_lists.specs.Retirements.{retirement}
 use Rattle.kcl_worker.proofs.Askings.{within_settled}
 use Rattle.kcl_worker.proofs.Happenings.{live_on}
 use Rattle.kcl_worker.proofs.Steppings.{pass_leaves, taking_so}

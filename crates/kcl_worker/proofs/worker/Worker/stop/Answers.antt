@@ -1,8 +1,8 @@
 use Rattle.std.proofs.Common.{◌≡◌, true, ◌∙◌, ◌++◌, None, ap, map, subst, sym}
-use Rattle.kcl_round.specs.Changes.{live_among, retired_among}
+use Rattle.kcl_worker_lists.specs.Changes.{live_among, retired_among}
 use Rattle.kcl_worker.specs.Outlook.{IsAsking, NoneOver}
 use Rattle.kcl_worker.specs.Parts.{chore_of}
-use Rattle.kcl_round.specs.Retirements.{retirement}
+use Rattle.kcl_worker_lists.specs.Retirements.{retirement}
 use Rattle.kcl_worker.specs.Standing.{StandsFor}
 use Rattle.kcl_worker.specs.Asks.{AskWithin}
 use Rattle.kcl_worker.proofs.Askings.{within_lost, within_settled}

@@ -1,7 +1,7 @@
 use Rattle.std.proofs.Common.{◌+◌, ◌∙◌, sym, ap, take, drop, subst, inl, refl, Result}
 use Rattle.std.specs.Result.{IfOk}
 use Rattle.kds_defs.specs.declared.command.Command.{Command}
-use Rattle.kds_member.specs.declared.problem.Fault.{Fault}
+use Rattle.kds_json_members.specs.declared.problem.Fault.{Fault}
 use Rattle.kds_json.specs.Asked.{IsRequest}
 use Rattle.kds_reply.specs.Replies.{fault_reply}
 use Rattle.kds_session.specs.Text.{requested, answered}

@@ -10,9 +10,9 @@ use Rattle.kds_rate.specs.Windows.{WindowValue}
 use Rattle.kds_stream.proofs.Puts.{led_along}
 use Rattle.kds_stream.proofs.Scalings.{numbers_fit, open_so, scale_done, stream_scaled}
 use Rattle.kds_stream.specs.Showing.{Shows}
-use Rattle.kds_shards.specs.Steps.{entries_in, scaled, starts_in}
+use Rattle.kds_stream_logs.specs.Steps.{entries_in, scaled, starts_in}
 use Rattle.kds_stream.specs.Steps.{IsPlan, scale_where}
-use Rattle.kds_shards.specs.Logs.{empty_log}
+use Rattle.kds_stream_logs.specs.Logs.{empty_log}
 use Rattle.kds_stream.specs.Value.{StreamValue}
 use Rattle.kds_stream.specs.contracts.stream.Stream.{the_view}
 use Rattle.kds_stream.proofs.stream.Stream.carry_out.Goals as goal

@@ -5,9 +5,9 @@ use Rattle.kds_defs.specs.StreamCommands.{last_number}
 use Rattle.kds_stream.proofs.LogLemmas.{one_more_log}
 use Rattle.kds_stream.proofs.Rates.{one_window}
 use Rattle.kds_stream.proofs.Resharded.{merge_done, shows_merged, stream_merged}
-use Rattle.kds_shards.specs.Rating.{IsUnused}
+use Rattle.kds_stream_logs.specs.Rating.{IsUnused}
 use Rattle.kds_stream.specs.Showing.{Shows}
-use Rattle.kds_shards.specs.Logs.{empty_log}
+use Rattle.kds_stream_logs.specs.Logs.{empty_log}
 use Rattle.kds_stream.specs.Value.{StreamValue}
 use Rattle.kds_stream.specs.contracts.stream.Stream.{the_view}
 use Rattle.kds_tree.specs.Tree.{merge_refusal, value_by}

@@ -10,7 +10,7 @@ use Rattle.kds_stream.specs.Showing.{Shows, merge_line}
 use Rattle.kds_stream.specs.Value.{StreamValue, is_listed_at}
 use Rattle.kds_stream.specs.contracts.stream.Stream.{the_view}
 use Rattle.kds_stream.proofs.stream.Stream.merge_refusal.Goals as goal
-use Rattle.kds_shards.proofs.LogLemmas.{as_many_logs}
+use Rattle.kds_stream_logs.proofs.LogLemmas.{as_many_logs}
 use Rattle.kds_stream.proofs.stream.Stream.merge_refusal.Goals.{then-not-is_listed-via-then-not-is_listed, then-not-is_listed-via-else-not-is_listed+then-not-is_listed-2}
 
 pub returns-then-not-is_listed-clause-decided : goal.returns-then-not-is_listed-clause-decided

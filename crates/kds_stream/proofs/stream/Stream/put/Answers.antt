@@ -11,11 +11,11 @@ use Rattle.kds_defs.specs.Streams.{floor_of}
 use Rattle.kds_log.specs.Log.{LogValue, LogWithRoom, log_of}
 use Rattle.kds_rate.specs.Windows.{WindowValue}
 use Rattle.kds_stream.proofs.Clocks.{settled_stream, shows_settled}
-use Rattle.kds_shards.proofs.LogLemmas.{as_many_logs}
+use Rattle.kds_stream_logs.proofs.LogLemmas.{as_many_logs}
 use Rattle.kds_stream.proofs.LogLemmas.{put_back, written_back}
 use Rattle.kds_stream.proofs.Puts.{held_is, led_along, put_done, put_of, put_record, put_spent, put_throttled, stored_part, stream_put}
 use Rattle.kds_stream.proofs.Routings.{with_logs}
-use Rattle.kds_shards.specs.Rating.{StandFor, with_put}
+use Rattle.kds_stream_logs.specs.Rating.{StandFor, with_put}
 use Rattle.kds_stream.specs.Rating.{AreRated}
 use Rattle.kds_stream.specs.Showing.{Shows}
 use Rattle.kds_stream.specs.Value.{IsStream, StreamValue}

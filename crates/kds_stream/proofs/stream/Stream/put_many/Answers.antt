@@ -11,11 +11,11 @@ use Rattle.kds_rate.specs.Windows.{WindowValue}
 use Rattle.kds_stream.proofs.LogLemmas.{written_back}
 use Rattle.kds_stream.proofs.Puts.{led_along}
 use Rattle.kds_stream.proofs.Routings.{can_take, in_turn, puts_done, puts_spent, shows_each, stream_each, stream_puts, stream_rated, with_logs}
-use Rattle.kds_shards.specs.declared.routes.Routed.{Routed}
-use Rattle.kds_shards.specs.declared.routes.Routes.{Routes}
-use Rattle.kds_shards.specs.Rating.{StandFor}
+use Rattle.kds_stream_logs.specs.declared.routes.Routed.{Routed}
+use Rattle.kds_stream_logs.specs.declared.routes.Routes.{Routes}
+use Rattle.kds_stream_logs.specs.Rating.{StandFor}
 use Rattle.kds_stream.specs.Rating.{AreRated}
-use Rattle.kds_shards.specs.Routes.{ArePlaced, AreRouted, CanTake, routed_items, settled_each, taken, with_each}
+use Rattle.kds_stream_logs.specs.Routes.{ArePlaced, AreRouted, CanTake, routed_items, settled_each, taken, with_each}
 use Rattle.kds_stream.specs.Showing.{Shows}
 use Rattle.kds_stream.specs.Value.{IsStream, StreamValue}
 use Rattle.kds_stream.specs.contracts.stream.Stream.{the_view}

@@ -10,7 +10,7 @@ use Rattle.kds_stream.specs.Showing.{Shows}
 use Rattle.kds_stream.specs.Value.{StreamValue, listed_at}
 use Rattle.kds_stream.specs.contracts.stream.Stream.{the_view}
 use Rattle.kds_log.specs.Log.{log_of}
-use Rattle.kds_shards.proofs.LogLemmas.{as_many_logs}
+use Rattle.kds_stream_logs.proofs.LogLemmas.{as_many_logs}
 use Rattle.kds_stream.proofs.LogLemmas.{log_at}
 use Rattle.kds_stream.proofs.stream.Stream.records.Goals as goal
 

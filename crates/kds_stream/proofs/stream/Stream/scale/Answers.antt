@@ -8,7 +8,7 @@ use Rattle.kds_defs.specs.Scaling.{scale}
 use Rattle.kds_defs.specs.Shards.{is_open}
 use Rattle.kds_stream.proofs.Scalings.{few_steps, is_less, is_not_less, scale_full, scale_spent, spent_so}
 use Rattle.kds_stream.specs.Showing.{Shows}
-use Rattle.kds_shards.specs.Steps.{starts_in}
+use Rattle.kds_stream_logs.specs.Steps.{starts_in}
 use Rattle.kds_stream.specs.Steps.{is_over, scale_where}
 use Rattle.kds_stream.specs.Value.{StreamValue}
 use Rattle.kds_stream.proofs.stream.Stream.scale.Goals as goal

@@ -4,7 +4,7 @@ use Rattle.kds_log.specs.Log.{LogValue, LogWithRoom, log_of}
 use Rattle.kds_stream.proofs.Clocks.{settled_stream, shows_settled}
 use Rattle.kds_stream.proofs.LogLemmas.{written_back}
 use Rattle.kds_stream.specs.Showing.{Shows}
-use Rattle.kds_shards.specs.Logs.{settled_at}
+use Rattle.kds_stream_logs.specs.Logs.{settled_at}
 use Rattle.kds_stream.specs.Value.{IsStream, StreamValue}
 use Rattle.kds_stream.specs.contracts.stream.Stream.{the_view}
 use Rattle.kds_stream.proofs.stream.Stream.settle.Goals as goal

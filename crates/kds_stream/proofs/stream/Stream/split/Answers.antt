@@ -6,9 +6,9 @@ use Rattle.kds_defs.specs.StreamCommands.{last_number}
 use Rattle.kds_stream.proofs.LogLemmas.{two_more}
 use Rattle.kds_stream.proofs.Rates.{two_windows}
 use Rattle.kds_stream.proofs.Resharded.{split_done, shows_split, stream_split}
-use Rattle.kds_shards.specs.Rating.{IsUnused}
+use Rattle.kds_stream_logs.specs.Rating.{IsUnused}
 use Rattle.kds_stream.specs.Showing.{Shows, is_full}
-use Rattle.kds_shards.specs.Logs.{empty_log}
+use Rattle.kds_stream_logs.specs.Logs.{empty_log}
 use Rattle.kds_stream.specs.Value.{StreamValue}
 use Rattle.kds_stream.specs.contracts.stream.Stream.{the_view}
 use Rattle.kds_tree.specs.Tree.{split_refusal, value_by}

@@ -9,7 +9,7 @@ use Rattle.kds_stream.proofs.Reshards.{split_accepted, split_full, split_refused
 use Rattle.kds_stream.specs.Showing.{Shows, is_full, split_line}
 use Rattle.kds_stream.specs.Value.{StreamValue, is_listed_at}
 use Rattle.kds_stream.specs.contracts.stream.Stream.{the_view}
-use Rattle.kds_shards.proofs.LogLemmas.{as_many_logs}
+use Rattle.kds_stream_logs.proofs.LogLemmas.{as_many_logs}
 use Rattle.kds_stream.proofs.stream.Stream.split_refusal.Goals as goal
 
 pub returns-then-not-is_listed-clause-decided : goal.returns-then-not-is_listed-clause-decided

@@ -1,0 +1,263 @@
+-- The line that a command on leases gives, if it is accepted, and what a judge makes of it.
+use Rattle.std.proofs.Common.{◌≡◌, ℕ, ◌+◌, ◌-◌, ◌≤◌, ◌≢◌, length, Bool, true, false, List, [], ◌∷◌, Option, Some, None, refl, sym, ap, subst, ◌∙◌, arith}
+use Rattle.std.proofs.lemmas.Bool.Decides.{nat_tests}
+use Rattle.std.specs.Prelude.{◌==◌, ◌||◌, is_some, not, if◌then◌else◌, Result, Ok, Err}
+use Rattle.kds_base.specs.declared.lease_key.ShardRef.{ShardRef}
+use Rattle.kds_defs.specs.declared.command.Command.{Command}
+use Rattle.kds_defs.specs.declared.command.Command.TheVariants as command
+use Rattle.kds_defs.specs.declared.command.Origin.{Origin}
+use Rattle.kds_defs.specs.declared.command.Origin.TheVariants as origin
+use Rattle.kds_defs.specs.declared.command.Target.{Target}
+use Rattle.kds_defs.specs.declared.command.Target.TheVariants as target
+use Rattle.kds_defs.specs.declared.entry.Entry.{Entry}
+use Rattle.kds_defs.specs.declared.entry.Entry.TheVariants as entry
+use Rattle.kds_defs.specs.declared.reply.Refusal.{Refusal}
+use Rattle.kds_defs.specs.declared.reply.Refusal.TheVariants as refusal
+use Rattle.kds_defs.specs.declared.reply.Reply.{Reply}
+use Rattle.kds_defs.specs.declared.reply.Reply.TheVariants as reply
+use Rattle.kds_defs.specs.Decision.{Decision, Refused, Accepted, refuse◌if◌else◌, with◌or◌then◌}
+use Rattle.kcl_laws.specs.ShownLines.{entry_line}
+use Rattle.kds_defs.specs.Legal.{told}
+use Rattle.kds_defs.specs.Histories.{answer_of, decide, lines_of}
+use Rattle.kds_defs.specs.Journal.{Journal, Line, plain_line, with_lines}
+use Rattle.kds_defs.specs.Keys.{is_listed_key, ref}
+use Rattle.kds_defs.specs.LeaseCommands.{counting_origin, parent_reaches_end, row_reaches_end, make_lease, take_lease, renew, free, open_shard, give, mark, cut_lease, past_target, past_parent, past_parents, with_held}
+use Rattle.kds_defs.specs.Leases.{TenureState, row, taken_count}
+use Rattle.kds_defs.specs.StreamCommands.{last_number}
+use Rattle.kcl_book.specs.Tenures.{TenureValue}
+use Rattle.kcl_leases.proofs.RowWrites.{is_shard, take_allowed, take_refused}
+use Rattle.kcl_leases.specs.Conditions.{counting_from, parent_reaches, start_answer}
+use Rattle.kcl_table.specs.Rows.{row_of}
+use Rattle.kds_base.specs.declared.lease_key.Checkpoint.{Checkpoint}
+use Rattle.kds_defs.specs.declared.reply.Row.{Row}
+use Rattle.kds_defs.specs.Shards.{ShardState, adjacent_of, parent_of, shard_at, shown}
+use Rattle.kds_defs.specs.Streams.{is_live}
+use Rattle.kds_defs.specs.declared.reply.Shard.{Shard}
+use Rattle.std.specs.Option.{option_map}
+use Rattle.kcl_leases.specs.Standing.{Facing, Leads, LeasesValue, Stands, leases, live_shard}
+use Rattle.kcl_audit_streams.specs.declared.rule.Rule.TheVariants as rule
+use Rattle.kcl_audit_streams.specs.Judging.{agrees}
+use Rattle.kcl_audit_judge.specs.Judging.{answer_verdict, lease_verdict}
+use Rattle.kcl_audit_judge.specs.Standing.{After, Judges}
+use Rattle.kcl_audit_streams.specs.Verdict.{Verdict, judged, same_entry, same_origin}
+use Rattle.kcl_audit_streams.proofs.SameEntries.{key_self, same_refl}
+use Rattle.kcl_audit_streams.proofs.StreamTold.{then_refuse}
+
+-- it is refused, or gives just this line
+abbrev pub GivesLine : Decision → Line → Type 0
+GivesLine (Refused r) line = Unit {0}
+GivesLine (Accepted lines reply) line = lines ≡ line ∷ []
+
+refuse_line : (r : Refusal) (b : Bool) (d : Decision) (line : Line) → GivesLine d line → GivesLine (refuse r if b else d) line
+unfolding refuse◌if◌else◌
+refuse_line r true d line h = tt
+refuse_line r false d line h = h
+
+with_line : {A : Type 0} (o : Option A) (r : Refusal) (f : A → Decision) (line : Line) → ((x : A) → GivesLine (f x) line) → GivesLine (with o or r then f) line
+unfolding with◌or◌then◌
+with_line None r f line h = tt
+with_line (Some x) r f line h = h x
+
+-- ---- each command
+
+pub make_line : (log : Journal) (c by : ℕ) (key : ShardRef) (from : Origin) → counting_origin log key from ≡ from → GivesLine (make_lease log c by key from) (plain_line c by (entry.LeaseMade key from))
+make_line log c by key from is = refuse_line _ _ _ _ (refuse_line _ _ _ _ (ap (λ (o : Origin). plain_line c by (entry.LeaseMade key o) ∷ []) is))
+
+-- past a test that did not refuse
+refuse_if : (r : Refusal) (b : Bool) (d : Decision) (line : Line) → (b ≡ false → GivesLine d line) → GivesLine (refuse r if b else d) line
+unfolding refuse◌if◌else◌
+refuse_if r true d line h = tt
+refuse_if r false d line h = h refl
+
+equal_so : (a b : ℕ) → not (a == b) ≡ false → a ≡ b
+equal_so a b h = grind (arith, nat_tests)
+
+pub take_line : (log : Journal) (c by counter owner : ℕ) (key : ShardRef) → GivesLine (take_lease log c by key counter owner) (plain_line c by (entry.Taken key (taken_count log + 1) (counter + 1) owner))
+take_line log c by counter owner key = with_line (row log key) refusal.NoLease _ _ (λ r. refuse_if (refusal.Moved r.counter) (not (r.counter == counter)) _ _ (λ same.
+    refuse_line _ _ _ _ (refuse_line _ _ _ _ (ap (λ (n : ℕ). plain_line c by (entry.Taken key (taken_count log + 1) (n + 1) owner) ∷ []) (equal_so r.counter counter same)))))
+
+pub held_line : (log : Journal) (by t : ℕ) (next : TenureState → Decision) (line : Line) → ((T : TenureState) → GivesLine (next T) line) → GivesLine (with_held log by t next) line
+held_line log by t next line h = with_line _ _ _ _ (λ T. refuse_line _ _ _ _ (refuse_line _ _ _ _ (h T)))
+
+pub renew_line : (log : Journal) (c by t counter : ℕ) → GivesLine (renew log c by t counter) (plain_line c by (entry.Renewed t (counter + 1)))
+renew_line log c by t counter = held_line log by t _ _ (λ T. refuse_line _ _ _ _ (refuse_line _ _ _ _ refl))
+
+pub free_line : (log : Journal) (c by t counter : ℕ) → GivesLine (free log c by t counter) (plain_line c by (entry.Freed t (counter + 1)))
+free_line log c by t counter = held_line log by t _ _ (λ T. refuse_line _ _ _ _ (refuse_line _ _ _ _ refl))
+
+parent_line : (log : Journal) (c s : ℕ) (p : Option ℕ) (d : Decision) (line : Line) → GivesLine d line → GivesLine (past_parent log c s p d) line
+parent_line log c s None d line h = h
+parent_line log c s (Some n) d line h = refuse_line _ _ _ _ h
+
+parents_line : (log : Journal) (c s : ℕ) (o : Option ShardState) (d : Decision) (line : Line) → GivesLine d line → GivesLine (past_parents log c s o d) line
+parents_line log c s None d line h = h
+parents_line log c s (Some x) d line h = parent_line log c s x.parent _ line (parent_line log c s x.adjacent d line h)
+
+pub open_line : (log : Journal) (c by t : ℕ) → GivesLine (open_shard log c by t) (plain_line c by (entry.Opened t))
+open_line log c by t = held_line log by t _ _ (λ T. refuse_line _ _ _ _ (refuse_line _ _ _ _ (parents_line log c T.key.stream (shard_at log T.key.stream T.key.shard) (Accepted (plain_line c by (entry.Opened t) ∷ []) reply.Done) (plain_line c by (entry.Opened t)) refl)))
+
+pub give_line : (log : Journal) (c by t : ℕ) → GivesLine (give log c by t) (plain_line c by (entry.Given t))
+give_line log c by t = with_line _ _ _ _ (λ T. refuse_line _ _ _ _ (refuse_line _ _ _ _ refl))
+
+target_line : (log : Journal) (T : TenureState) (to : Target) (d : Decision) (line : Line) → GivesLine d line → GivesLine (past_target log T to d) line
+target_line log T (target.At q) d line h = refuse_line _ _ _ _ (refuse_line _ _ _ _ (refuse_line _ _ _ _ h))
+target_line log T target.End d line h = refuse_line _ _ _ _ h
+
+pub mark_line : (log : Journal) (c by t counter : ℕ) (to : Target) → GivesLine (mark log c by t counter to) (plain_line c by (entry.Marked t (counter + 1) to))
+mark_line log c by t counter to = held_line log by t _ _ (λ T. refuse_line _ _ _ _ (target_line log T to _ _ (refuse_line _ _ _ _ refl)))
+
+pub cut_line : (log : Journal) (c by counter : ℕ) (key : ShardRef) → GivesLine (cut_lease log c by key counter) (plain_line c by (entry.LeaseCut key counter))
+cut_line log c by counter key = with_line _ _ _ _ (λ r. refuse_line _ _ _ _ (refuse_line _ _ _ _ refl))
+
+-- ---- the judgement
+
+-- another entry than the one that is given
+pub judged_other : (d : Decision) (line : Line) (what : Entry) (r : Reply) → GivesLine d line → answer_of d ≡ Ok r → same_entry line.what what ≡ false → Err rule.Entry ≡ judged d what
+judged_other (Refused q) line what r h is differ = absurd cc
+judged_other (Accepted lines reply) line what r h is differ =
+    let one : judged (Accepted (line ∷ []) reply) what ≡ Err rule.Entry = rw differ refl in
+    sym (ap (λ (ls : List Line). judged (Accepted ls reply) what) h ∙ one)
+
+-- a command that is refused
+pub judged_refused : (d : Decision) (what : Entry) (r : Refusal) → Err r ≡ answer_of d → Err (rule.By r) ≡ judged d what
+judged_refused (Refused q) what r is = let same : r ≡ q = cc in ap (λ (x : Refusal). Err (rule.By x)) same
+judged_refused (Accepted lines reply) what r is = absurd cc
+
+pub one_less : (n : ℕ) → 1 ≤ n → n - 1 + 1 ≡ n
+one_less n h = omega (arith, h)
+
+pub judged_line : (d : Decision) (line : Line) → GivesLine d line → answer_verdict (answer_of d) ≡ judged d line.what
+judged_line (Refused r) line h = refl
+judged_line (Accepted lines reply) line h =
+    let one : judged (Accepted (line ∷ []) reply) line.what ≡ Ok tt = rw (same_refl line.what) refl in
+    sym (ap (λ (ls : List Line). judged (Accepted ls reply) line.what) h ∙ one)
+
+pub after_line : (d : Decision) (line : Line) (new : LeasesValue) (log : Journal) → GivesLine d line → Stands new (with_lines (lines_of d) log) → After (answer_verdict (answer_of d)) new line log
+after_line (Refused r) line new log h st = (tt, st)
+after_line (Accepted lines reply) line new log h st = (subst (λ (ls : List Line). Stands new (with_lines ls log)) h st, tt)
+
+-- a command that was answered so, of an entry that tells all that it gives
+pub leads_entry : (old new : LeasesValue) (by : ℕ) (what : Command) (answer : Result Reply Refusal) (line : Line) (log : Journal) → Leads old new by what answer
+    → GivesLine (decide log old.shards.clock by what) line → Stands old log
+    → (answer_verdict answer ≡ judged (decide log old.shards.clock by what) line.what) × After (answer_verdict answer) new line log
+leads_entry old new by what answer line log leads h st =
+    let l = leads log st in
+    let d = decide log old.shards.clock by what in
+    (ap answer_verdict l.0 ∙ judged_line d line h, subst (λ (a : Result Reply Refusal). After (answer_verdict a) new line log) (sym l.0) (after_line d line new log h l.1))
+
+-- ---- each entry that tells all that its command gives
+
+entry_by : (old new : LeasesValue) (by : ℕ) (cmd : Command) (answer : Result Reply Refusal) (e : Entry) (v : Verdict) (log : Journal) → v ≡ answer_verdict answer → Leads old new by cmd answer → Stands old log
+    → told log (entry_line old.shards.clock by e) e ≡ decide log old.shards.clock by cmd → GivesLine (decide log old.shards.clock by cmd) (entry_line old.shards.clock by e)
+    → Judges old new by e v log
+entry_by old new by cmd answer e v log is leads st tells gives =
+    let l = leads_entry old new by cmd answer (entry_line old.shards.clock by e) log leads gives st in
+    let line = entry_line old.shards.clock by e in
+    (is ∙ l.0 ∙ ap (λ d. judged d e) (sym tells), subst (λ (w : Verdict). After w new line log) (sym is) l.1)
+
+module _ (old new : LeasesValue) (by : ℕ) (answer : Result Reply Refusal) (v : Verdict) (is : v ≡ answer_verdict answer) (log : Journal) (st : Stands old log) where
+  pub made_entry : (key : ShardRef) (from : Origin) → counting_origin log key from ≡ from → Leads old new by (command.MakeLease key from) answer → Judges old new by (entry.LeaseMade key from) v log
+  made_entry key from counts leads = entry_by old new by (command.MakeLease key from) answer (entry.LeaseMade key from) v log is leads st refl (make_line log old.shards.clock by key from counts)
+
+  pub renewed_entry : (t n : ℕ) → 1 ≤ n → Leads old new by (command.Renew t (n - 1)) answer → Judges old new by (entry.Renewed t n) v log
+  renewed_entry t n some leads = entry_by old new by (command.Renew t (n - 1)) answer (entry.Renewed t n) v log is leads st refl
+      (subst (λ (m : ℕ). GivesLine (renew log old.shards.clock by t (n - 1)) (plain_line old.shards.clock by (entry.Renewed t m))) (one_less n some) (renew_line log old.shards.clock by t (n - 1)))
+
+  pub freed_entry : (t n : ℕ) → 1 ≤ n → Leads old new by (command.Free t (n - 1)) answer → Judges old new by (entry.Freed t n) v log
+  freed_entry t n some leads = entry_by old new by (command.Free t (n - 1)) answer (entry.Freed t n) v log is leads st refl
+      (subst (λ (m : ℕ). GivesLine (free log old.shards.clock by t (n - 1)) (plain_line old.shards.clock by (entry.Freed t m))) (one_less n some) (free_line log old.shards.clock by t (n - 1)))
+
+  pub opened_entry : (t : ℕ) → Leads old new by (command.OpenShard t) answer → Judges old new by (entry.Opened t) v log
+  opened_entry t leads = entry_by old new by (command.OpenShard t) answer (entry.Opened t) v log is leads st refl (open_line log old.shards.clock by t)
+
+  pub given_entry : (t : ℕ) → Leads old new by (command.Give t) answer → Judges old new by (entry.Given t) v log
+  given_entry t leads = entry_by old new by (command.Give t) answer (entry.Given t) v log is leads st refl (give_line log old.shards.clock by t)
+
+  pub marked_entry : (t n : ℕ) (to : Target) → 1 ≤ n → Leads old new by (command.Mark t (n - 1) to) answer → Judges old new by (entry.Marked t n to) v log
+  marked_entry t n to some leads = entry_by old new by (command.Mark t (n - 1) to) answer (entry.Marked t n to) v log is leads st refl
+      (subst (λ (m : ℕ). GivesLine (mark log old.shards.clock by t (n - 1) to) (plain_line old.shards.clock by (entry.Marked t m to))) (one_less n some) (mark_line log old.shards.clock by t (n - 1) to))
+
+  pub cut_entry : (key : ShardRef) (n : ℕ) → Leads old new by (command.CutLease key n) answer → Judges old new by (entry.LeaseCut key n) v log
+  cut_entry key n leads = entry_by old new by (command.CutLease key n) answer (entry.LeaseCut key n) v log is leads st refl (cut_line log old.shards.clock by n key)
+
+-- ---- a making, whose origin is to be the one that counts
+
+pub origin_so : (a b : Origin) → same_origin a b ≡ true → a ≡ b
+origin_so origin.TrimHorizon origin.TrimHorizon h = refl
+origin_so origin.TrimHorizon origin.Latest h = absurd cc
+origin_so origin.TrimHorizon (origin.Time n) h = absurd cc
+origin_so origin.Latest origin.TrimHorizon h = absurd cc
+origin_so origin.Latest origin.Latest h = refl
+origin_so origin.Latest (origin.Time n) h = absurd cc
+origin_so (origin.Time m) origin.TrimHorizon h = absurd cc
+origin_so (origin.Time m) origin.Latest h = absurd cc
+origin_so (origin.Time m) (origin.Time n) h = ap origin.Time (num m n h)
+  where
+    num : (a b : ℕ) → (a == b) ≡ true → a ≡ b
+    num a b h = grind (arith, nat_tests)
+
+same_lease : (key : ShardRef) (a b : Origin) → same_entry (entry.LeaseMade key a) (entry.LeaseMade key b) ≡ same_origin a b
+same_lease key a b = rw (key_self key) refl
+
+module _ (s : Facing) (rs : List Row) (ts : List TenureValue) (by : ℕ) (key : ShardRef) (from : Origin) (log : Journal) (st : Stands (leases s rs ts) log) where
+  made_by : judged (told log (entry_line s.clock by (entry.LeaseMade key from)) (entry.LeaseMade key from)) (entry.LeaseMade key from)
+      ≡ lease_verdict (is_listed_key log s.clock key) (is_some (row log key)) (same_origin (counting_origin log key from) from)
+  made_by = then_refuse _ _ _ _ _ (then_refuse _ _ _ _ _ (ap agrees (same_lease key (counting_origin log key from) from)))
+
+  -- its shard isn't listed
+  pub made_gone : is_listed_key log s.clock key ≡ false → Judges (leases s rs ts) (leases s rs ts) by (entry.LeaseMade key from) (Err (rule.By refusal.ShardGone)) log
+  made_gone gone =
+      (sym (made_by ∙ ap (λ b. lease_verdict b (is_some (row log key)) (same_origin (counting_origin log key from) from)) gone), (tt, st))
+
+  -- it has a row
+  pub made_there : is_listed_key log s.clock key ≡ true → is_some (row_of rs key) ≡ true → Judges (leases s rs ts) (leases s rs ts) by (entry.LeaseMade key from) (Err (rule.By refusal.LeaseThere)) log
+  made_there listed there =
+      let has : is_some (row log key) ≡ true = ap is_some (st.row_is key) ∙ there in
+      (sym (made_by ∙ (λ i. lease_verdict (listed i) (has i) (same_origin (counting_origin log key from) from))), (tt, st))
+
+  -- another origin counts
+  pub made_other : is_listed_key log s.clock key ≡ true → is_some (row_of rs key) ≡ false → same_origin (counting_origin log key from) from ≡ false
+      → Judges (leases s rs ts) (leases s rs ts) by (entry.LeaseMade key from) (Err rule.Entry) log
+  made_other listed none other =
+      let has : is_some (row log key) ≡ false = ap is_some (st.row_is key) ∙ none in
+      (sym (made_by ∙ (λ i. lease_verdict (listed i) (has i) (other i))), (tt, st))
+
+  -- the origin that counts, by the rows that are kept
+  reaches_is : (o : Option ℕ) → is_live log key.stream ≡ true → parent_reaches log rs key.stream o ≡ parent_reaches_end log key.stream o
+  reaches_is None live = refl
+  reaches_is (Some n) live =
+      λ i. row_reaches_end (sym (st.row_is (ref key.stream n)) i) (if live i then shard_at log key.stream n else None)
+
+  pub counts_is : (y : Shard) → Some y ≡ option_map shown (live_shard log key) → counting_from log rs key.stream y from ≡ counting_origin log key from
+  counts_is y some =
+      let of = is_shard log key y some in
+      ap (λ z. counting_from log rs key.stream z from) of.is_shown
+      ∙ (λ i. if reaches_is of.state.parent of.live i || reaches_is of.state.adjacent of.live i then origin.TrimHorizon else from)
+      ∙ ap (λ o. if parent_reaches_end log key.stream (parent_of o) || parent_reaches_end log key.stream (adjacent_of o) then origin.TrimHorizon else from) (sym of.at)
+
+-- ---- a taking, whose tenure is to be the next
+
+module _ (s : Facing) (rs : List Row) (ts : List TenureValue) (by : ℕ) (key : ShardRef) (t n owner : ℕ) (some : 1 ≤ n) (log : Journal) (st : Stands (leases s rs ts) log) where
+  its_line : GivesLine (take_lease log s.clock by key (n - 1) owner) (plain_line s.clock by (entry.Taken key (taken_count log + 1) n owner))
+  its_line = subst (λ (m : ℕ). GivesLine (take_lease log s.clock by key (n - 1) owner) (plain_line s.clock by (entry.Taken key (taken_count log + 1) m owner))) (one_less n some) (take_line log s.clock by (n - 1) owner key)
+
+  pub taken_refused : (r : Refusal) → Err r ≡ start_answer (row_of rs key) (n - 1) (length ts == last_number) → Judges (leases s rs ts) (leases s rs ts) by (entry.Taken key t n owner) (Err (rule.By r)) log
+  taken_refused r h =
+      (judged_refused (take_lease log s.clock by key (n - 1) owner) (entry.Taken key t n owner) r (take_refused s rs ts by key (n - 1) owner r h log st).0, (tt, st))
+
+  pub taken_other : (start : Checkpoint) → Ok start ≡ start_answer (row_of rs key) (n - 1) (length ts == last_number) → t ≢ length ts + 1 → Judges (leases s rs ts) (leases s rs ts) by (entry.Taken key t n owner) (Err rule.Entry) log
+  taken_other start h other =
+      let allowed = take_allowed s rs ts by key (n - 1) owner start h log st in
+      let apart : ((taken_count log + 1) == t) ≡ false = differ (taken_count log + 1) t (λ e. other (sym e ∙ ap (λ m. m + 1) st.count_is)) in
+      let no : same_entry (entry.Taken key (taken_count log + 1) n owner) (entry.Taken key t n owner) ≡ false = rw (key_self key, apart) refl in
+      (judged_other (take_lease log s.clock by key (n - 1) owner) (plain_line s.clock by (entry.Taken key (taken_count log + 1) n owner)) (entry.Taken key t n owner) allowed.0 its_line allowed.1 no, (tt, st))
+    where
+      differ : (a b : ℕ) → a ≢ b → (a == b) ≡ false
+      differ a b h = grind (arith, nat_tests)
+
+  pub taken_entry : (new : LeasesValue) (answer : Result Reply Refusal) (v : Verdict) → v ≡ answer_verdict answer → t ≡ length ts + 1 → Leads (leases s rs ts) new by (command.Take key (n - 1) owner) answer
+      → Judges (leases s rs ts) new by (entry.Taken key t n owner) v log
+  taken_entry new answer v is next leads =
+      let e : taken_count log + 1 ≡ t = sym (next ∙ ap (λ m. m + 1) (sym st.count_is)) in
+      entry_by (leases s rs ts) new by (command.Take key (n - 1) owner) answer (entry.Taken key t n owner) v log is leads st refl
+      (subst (λ (m : ℕ). GivesLine (take_lease log s.clock by key (n - 1) owner) (plain_line s.clock by (entry.Taken key m n owner))) e its_line)

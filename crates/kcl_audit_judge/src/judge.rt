@@ -1,0 +1,152 @@
+//! The judgement of entries, one after another.
+ghost use Rattle.std.specs.Prelude.{◌≡◌, ◌∷◌, [], is_some, IfOk, OnErr, OnOk};
+ghost use Rattle.kcl_laws.specs.ShownLines.{entry_line};
+ghost use Rattle.kds_defs.specs.Journal.{Journal};
+ghost use Rattle.kds_defs.specs.Legal.{told};
+ghost use Rattle.kcl_leases.specs.Standing.{stream_of};
+ghost use Rattle.kcl_audit_judge.specs.Standing.{Holds, Stands};
+ghost use Rattle.kcl_audit_streams.specs.Verdict.{IsFit, end_verdict, judged, verdict};
+ghost use Rattle.kcl_audit_streams.specs.Judging.{stream_verdict, streams_after};
+
+use crate::lease_entries;
+use kcl_audit_streams::{Rule, Streams, add, judge};
+use kcl_book::Book;
+use kcl_table::Table;
+use kds_base::{Memory, Moment};
+use kds_defs::Entry;
+use std::alloc::Global;
+use std::marker::Model;
+
+/// What is known after the entries of a journal that were good: the clock of the last one, the streams, the rows
+/// of the leases and the tenures.
+#[derive(Drop)]
+pub struct Judge {
+    streams: Streams,
+    table: Table,
+    book: Book,
+}
+
+/// Whether an entry is one of a stream.
+fn is_of_stream(what: &Entry) -> bool
+    ensures { result ≡ is_some (stream_of what.now) }
+{
+    matches!(
+        what,
+        Entry::Made { .. }
+            | Entry::Gone { .. }
+            | Entry::Put { .. }
+            | Entry::Split { .. }
+            | Entry::Merged { .. }
+            | Entry::Kept { .. }
+            | Entry::Enforced { .. }
+    )
+}
+
+/// Judges an entry of a stream at the streams' clock, and adds it where it is good. Else, and after `Memory`, the
+/// streams are as before.
+fn stream_entry(
+    alloc: Global,
+    streams: &mut Streams,
+    what: Entry,
+) -> Result<Result<(), Rule>, Memory>
+    requires fit { IsFit what }
+    ensures clock { streams.new.clock ≡ streams.old.clock }
+    ensures value { IfOk result (λ r. r ≡ stream_verdict streams.old.streams streams.old.clock what) }
+    ensures good { IfOk result (λ r. OnOk r (streams.new.streams ≡ streams_after streams.old.clock what streams.old.streams)) }
+    ensures bad { IfOk result (λ r. OnErr r (streams.new.streams ≡ streams.old.streams)) }
+    ensures kept { OnErr result (streams.new.streams ≡ streams.old.streams) }
+{
+    if let Err(rule) = judge(&streams.list, streams.clock, &what) {
+        return Ok(Err(rule));
+    }
+    add(alloc, &mut streams.list, streams.clock, what)?;
+    Ok(Ok(()))
+}
+
+impl Model for Judge {
+    ghost use Rattle.kcl_audit_judge.specs.Standing.{JudgeValue, judge};
+
+    ghost Value = { JudgeValue };
+
+    ghost view = { λ a. judge a.streams a.table a.book.tenures };
+}
+
+impl Judge {
+    /// No entry was judged.
+    pub fn new(alloc: Global) -> Judge
+        ensures { Stands result [] }
+    {
+        Judge {
+            streams: Streams {
+                clock: Moment::start(),
+                list: Vec::new(alloc),
+            },
+            table: Table::new(alloc),
+            book: Book::new(alloc),
+        }
+    }
+
+    /// Judges an entry at the streams' clock, and adds it where it is good. Else, and after `Memory`, all is as before.
+    fn judge(&mut self, alloc: Global, by: u32, what: Entry) -> Result<Result<(), Rule>, Memory>
+        requires fit { IsFit what }
+        requires holds { (log : Journal) × Holds self.old log }
+        ensures clock { self.new.streams.clock ≡ self.old.streams.clock }
+        ensures value { (log : Journal) → Holds self.old log → IfOk result (λ r. r ≡ judged (told log (entry_line self.old.streams.clock by what) what) what) }
+        ensures good { (log : Journal) → Holds self.old log → IfOk result (λ r. OnOk r (Holds self.new (entry_line self.old.streams.clock by what ∷ log))) }
+        ensures bad { (log : Journal) → Holds self.old log → IfOk result (λ r. OnErr r (Holds self.new log)) }
+        ensures kept { (log : Journal) → Holds self.old log → OnErr result (Holds self.new log) }
+    {
+        if is_of_stream(&what) {
+            stream_entry(alloc, &mut self.streams, what)
+        } else {
+            lease_entries::entry(
+                alloc,
+                &self.streams,
+                &mut self.table,
+                &mut self.book,
+                by,
+                &what,
+            )
+        }
+    }
+
+    /// Judges the next entry of a journal, told by an actor at a clock, and keeps it where it is good: `Clock` where the
+    /// clock is below that of the entry before, `By` where the command that it tells is refused, `Entry` where that gives
+    /// another entry. After a rule, and after `Memory`, the entries are as before.
+    pub fn entry(
+        &mut self,
+        alloc: Global,
+        clock: Moment,
+        by: u32,
+        what: Entry,
+    ) -> Result<Result<(), Rule>, Memory>
+        requires fit { IsFit what }
+        requires stands { (log : Journal) × Stands self.old log }
+        ensures value { (log : Journal) → Stands self.old log → IfOk result (λ r. r ≡ verdict log (entry_line clock by what)) }
+        ensures good { (log : Journal) → Stands self.old log → IfOk result (λ r. OnOk r (Stands self.new (entry_line clock by what ∷ log))) }
+        ensures bad { (log : Journal) → Stands self.old log → IfOk result (λ r. OnErr r (Stands self.new log)) }
+        ensures kept { (log : Journal) → Stands self.old log → OnErr result (Stands self.new log) }
+    {
+        let before = self.streams.clock;
+        if clock < before {
+            return Ok(Err(Rule::Clock));
+        }
+        self.streams.clock = clock;
+        let judged = self.judge(alloc, by, what);
+        if !matches!(judged, Ok(Ok(()))) {
+            self.streams.clock = before;
+        }
+        judged
+    }
+
+    /// Judges the clock of the journal's last line: `Clock` exactly where it is below that of the last entry.
+    pub fn finish(&self, clock: Moment) -> Result<(), Rule>
+        ensures { (log : Journal) → Stands self.now log → result ≡ end_verdict log clock }
+    {
+        if clock < self.streams.clock {
+            Err(Rule::Clock)
+        } else {
+            Ok(())
+        }
+    }
+}

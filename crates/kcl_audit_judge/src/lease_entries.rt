@@ -1,0 +1,341 @@
+//! The entries of leases, judged and added.
+ghost use Rattle.std.specs.Prelude.{◌≡◌, ◌+◌, ◌≤◌, ◌==◌, length, None, IfOk, OnErr};
+ghost use Rattle.kds_defs.specs.declared.entry.Entry.TheVariants as entry;
+ghost use Rattle.kds_defs.specs.Journal.{Journal};
+ghost use Rattle.kds_defs.specs.LeaseCommands.{reaches_closing};
+ghost use Rattle.kds_defs.specs.Shards.{ShardState, shown};
+ghost use Rattle.kcl_leases.specs.Conditions.{counting_from, parent_reaches};
+ghost use Rattle.kcl_leases.specs.Standing.{stream_of};
+ghost use Rattle.kcl_book.specs.Tenures.{tenure_at};
+ghost use Rattle.kcl_audit_judge.specs.Judging.{answer_verdict, reach_of};
+ghost use Rattle.kcl_audit_streams.specs.Standing.{Shows};
+ghost use Rattle.kcl_audit_judge.specs.Standing.{HoldBeside, JudgesBeside, Keeps};
+ghost use Rattle.kcl_audit_streams.specs.Verdict.{IsFit, same_flag, same_list, same_origin};
+
+use kcl_audit_streams::{Rule, Streams, live};
+use kcl_book::Book;
+use kcl_leases::{Shards, cut, free, give, make, mark, open, reader, renew, start, take};
+use kcl_table::Table;
+use kds_base::{Items, Memory, Seq, ShardNo, ShardRef, StreamNo, TenureNo, WorkerNo};
+use kds_defs::{Answer, Entry, Origin, Refusal, Shard, Target, place_after_numbers};
+use std::alloc::Global;
+
+/// An answer as a judgement, of an entry that tells all that its command gives.
+fn by_answer(answer: &Answer) -> Result<(), Rule>
+    ensures { result ≡ answer_verdict answer.now }
+{
+    match answer {
+        Ok(_) => Ok(()),
+        Err(refusal) => Err(Rule::By(*refusal)),
+    }
+}
+
+/// Whether it is the number of the next tenure.
+fn is_next(book: &Book, no: TenureNo) -> bool
+    ensures { result ≡ (no == length book.now.tenures + 1) }
+{
+    let Some(before) = no.0.checked_sub(1) else {
+        return false;
+    };
+    book.tenure(no).is_none() && (before == 0 || book.tenure(TenureNo(before)).is_some())
+}
+
+/// A taking is good, and is added, where its tenure is the next.
+fn taken(
+    shards: &Streams,
+    table: &mut Table,
+    book: &mut Book,
+    by: u32,
+    key: &ShardRef,
+    no: TenureNo,
+    counter: u64,
+    owner: WorkerNo,
+) -> Result<Result<(), Rule>, Memory>
+    requires written { 1 ≤ counter }
+    requires stands { (log : Journal) × HoldBeside shards.now table.old book.old.tenures log }
+    ensures judged { IfOk result (JudgesBeside shards.now table.old book.old.tenures table.new book.new.tenures by (entry.Taken key.now no counter owner)) }
+    ensures kept { OnErr result (Keeps shards.now table.old book.old.tenures table.new book.new.tenures) }
+{
+    if let Err(refusal) = start(table, key, counter - 1, book.spent()) {
+        return Ok(Err(Rule::By(refusal)));
+    }
+    if !is_next(book, no) {
+        return Ok(Err(Rule::Entry));
+    }
+    let answer = take(shards, table, book, by, key, counter - 1, owner)?;
+    Ok(by_answer(&answer))
+}
+
+/// The position of a tenure, if it is there.
+fn reach(book: &Book, no: TenureNo) -> u64
+    ensures { result ≡ reach_of (tenure_at book.now.tenures no) }
+{
+    match book.tenure(no) {
+        Some(tenure) => tenure.reach,
+        None => 0,
+    }
+}
+
+/// Whether both lists have the same numbers.
+fn same_numbers(a: &[Seq], b: &[Seq]) -> bool
+    ensures { result ≡ same_list a.now b.now }
+{
+    a == b
+}
+
+/// Whether both ended the shard, or neither.
+fn same_end(a: bool, b: bool) -> bool
+    ensures { result ≡ same_flag a b }
+{
+    a == b
+}
+
+/// A read is good, and is added, where it has the numbers of the batch at the tenure's reach.
+fn read(
+    alloc: Global,
+    shards: &Streams,
+    table: &Table,
+    book: &mut Book,
+    by: u32,
+    no: TenureNo,
+    limit: u32,
+    end: bool,
+    numbers: &Items<Seq>,
+) -> Result<Result<(), Rule>, Memory>
+    requires stands { (log : Journal) × HoldBeside shards.now table.now book.old.tenures log }
+    ensures judged { IfOk result (JudgesBeside shards.now table.now book.old.tenures table.now book.new.tenures by (entry.Read no limit end numbers.now)) }
+    ensures kept { OnErr result (Keeps shards.now table.now book.old.tenures table.now book.new.tenures) }
+{
+    let _ = table;
+    let position = reach(book, no);
+    let tenure = match reader(shards, book, by, no, position) {
+        Ok(tenure) => tenure,
+        Err(refusal) => return Ok(Err(Rule::By(refusal))),
+    };
+    // borrowed, so that it can be looked at more than once
+    let key = &tenure.key;
+    let Some(stream) = live(&shards.list, key.stream) else {
+        unreachable!()
+    };
+    let (batch, ends) = stream.read(alloc, shards.clock, key.shard, position, limit)?;
+    if !same_end(ends, end) {
+        return Ok(Err(Rule::Entry));
+    }
+    if !same_numbers(batch.as_slice(), numbers.as_slice()) {
+        return Ok(Err(Rule::Entry));
+    }
+    book.read(no, place_after_numbers(position, batch.as_slice()), ends);
+    Ok(Ok(()))
+}
+
+/// Whether a row of this floor reads up to where the shard was closed.
+fn reaches_closing(floor: Seq, shard: &Shard) -> bool
+    ensures { (x : ShardState) → shard.now ≡ shown x → result ≡ reaches_closing floor x.closing }
+{
+    match shard.end {
+        Some(end) => floor <= end,
+        None => false,
+    }
+}
+
+/// Whether a parent of a shard of the stream, if there is one, has a row whose floor is at or below the parent's
+/// ending number.
+fn parent_reaches(
+    shards: &Streams,
+    table: &Table,
+    stream: StreamNo,
+    parent: Option<ShardNo>,
+) -> bool
+    ensures { (log : Journal) → Shows shards.now log → result ≡ parent_reaches log table.now stream parent }
+{
+    let Some(shard) = parent else {
+        return false;
+    };
+    let key = ShardRef { stream, shard };
+    // borrowed, so that it can be handed on more than once
+    let key = &key;
+    let Some(row) = table.row(*key) else {
+        return false;
+    };
+    match shards.shard(*key) {
+        Some(shard) => reaches_closing(row.floor, shard),
+        None => false,
+    }
+}
+
+/// Whether this origin is the one that counts for a shard of the stream: where the row of a parent reaches the
+/// parent's end, only TRIM_HORIZON is.
+fn counts(shards: &Streams, table: &Table, stream: StreamNo, shard: &Shard, from: Origin) -> bool
+    ensures { (log : Journal) → Shows shards.now log → result ≡ same_origin (counting_from log table.now stream shard.now from) from }
+{
+    if parent_reaches(shards, table, stream, shard.parent)
+        || parent_reaches(shards, table, stream, shard.adjacent)
+    {
+        matches!(from, Origin::TrimHorizon)
+    } else {
+        true
+    }
+}
+
+/// A making of a row is good, and is added, where it has the origin that counts.
+fn made(
+    shards: &Streams,
+    table: &mut Table,
+    book: &Book,
+    by: u32,
+    key: &ShardRef,
+    from: &Origin,
+) -> Result<Result<(), Rule>, Memory>
+    ensures judged { IfOk result (JudgesBeside shards.now table.old book.now.tenures table.new book.now.tenures by (entry.LeaseMade key.now from.now)) }
+    ensures kept { OnErr result (table.new ≡ table.old) }
+{
+    let _ = book;
+    let Some(shard) = shards.shard(*key) else {
+        return Ok(Err(Rule::By(Refusal::ShardGone)));
+    };
+    if !shards.is_listed(*key) {
+        return Ok(Err(Rule::By(Refusal::ShardGone)));
+    }
+    if table.row(*key).is_some() {
+        return Ok(Err(Rule::By(Refusal::LeaseThere)));
+    }
+    if !counts(shards, table, key.stream, shard, *from) {
+        return Ok(Err(Rule::Entry));
+    }
+    let answer = make(shards, table, key, *from)?;
+    Ok(by_answer(&answer))
+}
+
+/// A renewal of a row.
+fn renewed(
+    shards: &Streams,
+    table: &mut Table,
+    book: &Book,
+    by: u32,
+    tenure: TenureNo,
+    counter: u64,
+) -> Result<(), Rule>
+    requires { 1 ≤ counter }
+    ensures { JudgesBeside shards.now table.old book.now.tenures table.new book.now.tenures by (entry.Renewed tenure counter) result }
+{
+    by_answer(&renew(shards, table, book, by, tenure, counter - 1))
+}
+
+/// A freeing of a row.
+fn freed(
+    shards: &Streams,
+    table: &mut Table,
+    book: &Book,
+    by: u32,
+    tenure: TenureNo,
+    counter: u64,
+) -> Result<(), Rule>
+    requires { 1 ≤ counter }
+    ensures { JudgesBeside shards.now table.old book.now.tenures table.new book.now.tenures by (entry.Freed tenure counter) result }
+{
+    by_answer(&free(shards, table, book, by, tenure, counter - 1))
+}
+
+/// An opening of a tenure.
+fn opened(
+    shards: &Streams,
+    table: &Table,
+    book: &mut Book,
+    by: u32,
+    tenure: TenureNo,
+) -> Result<(), Rule>
+    ensures { JudgesBeside shards.now table.now book.old.tenures table.now book.new.tenures by (entry.Opened tenure) result }
+{
+    by_answer(&open(shards, table, book, by, tenure))
+}
+
+/// A delivery of a tenure.
+fn given(
+    shards: &Streams,
+    table: &Table,
+    book: &mut Book,
+    by: u32,
+    tenure: TenureNo,
+) -> Result<(), Rule>
+    ensures { JudgesBeside shards.now table.now book.old.tenures table.now book.new.tenures by (entry.Given tenure) result }
+{
+    let _ = table;
+    by_answer(&give(shards, book, by, tenure))
+}
+
+/// A marking of a row.
+fn marked(
+    shards: &Streams,
+    table: &mut Table,
+    book: &Book,
+    by: u32,
+    tenure: TenureNo,
+    counter: u64,
+    to: Target,
+) -> Result<(), Rule>
+    requires { 1 ≤ counter }
+    ensures { JudgesBeside shards.now table.old book.now.tenures table.new book.now.tenures by (entry.Marked tenure counter to) result }
+{
+    by_answer(&mark(shards, table, book, by, tenure, counter - 1, to))
+}
+
+/// A removal of a row.
+fn removed(
+    shards: &Streams,
+    table: &mut Table,
+    book: &Book,
+    by: u32,
+    key: &ShardRef,
+    counter: u64,
+) -> Result<(), Rule>
+    ensures { JudgesBeside shards.now table.old book.now.tenures table.new book.now.tenures by (entry.LeaseCut key.now counter) result }
+{
+    let _ = book;
+    by_answer(&cut(shards, table, key, counter))
+}
+
+/// Judges an entry of a lease at the shards' clock, and adds it where it is good. Else, and after `Memory`, the
+/// rows and the tenures are as before.
+pub fn entry(
+    alloc: Global,
+    shards: &Streams,
+    table: &mut Table,
+    book: &mut Book,
+    by: u32,
+    what: &Entry,
+) -> Result<Result<(), Rule>, Memory>
+    requires fit { IsFit what.now }
+    requires lease { stream_of what.now ≡ None }
+    requires stands { (log : Journal) × HoldBeside shards.now table.old book.old.tenures log }
+    ensures judged { IfOk result (JudgesBeside shards.now table.old book.old.tenures table.new book.new.tenures by what.now) }
+    ensures kept { OnErr result (Keeps shards.now table.old book.old.tenures table.new book.new.tenures) }
+{
+    match what {
+        Entry::LeaseMade { key, from } => made(shards, table, book, by, key, from),
+        Entry::Taken {
+            key,
+            tenure,
+            counter,
+            owner,
+        } => taken(shards, table, book, by, key, *tenure, *counter, *owner),
+        Entry::Renewed { tenure, counter } => {
+            Ok(renewed(shards, table, book, by, *tenure, *counter))
+        }
+        Entry::Freed { tenure, counter } => Ok(freed(shards, table, book, by, *tenure, *counter)),
+        Entry::Opened { tenure } => Ok(opened(shards, table, book, by, *tenure)),
+        Entry::Read {
+            tenure: no,
+            limit,
+            end,
+            numbers,
+        } => read(alloc, shards, table, book, by, *no, *limit, *end, numbers),
+        Entry::Given { tenure } => Ok(given(shards, table, book, by, *tenure)),
+        Entry::Marked {
+            tenure,
+            counter,
+            to,
+        } => Ok(marked(shards, table, book, by, *tenure, *counter, *to)),
+        Entry::LeaseCut { key, counter } => Ok(removed(shards, table, book, by, key, *counter)),
+        _ => unreachable!(),
+    }
+}

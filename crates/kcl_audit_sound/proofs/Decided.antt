@@ -1,0 +1,257 @@
+-- The lines of each command that is accepted after a legal journal can be told.
+use Rattle.std.proofs.Common.{◌≡◌, ℕ, zero, suc, ◌+◌, ◌-◌, ◌^◌, ◌<◌, ◌≤◌, Bool, true, false, List, [], ◌∷◌, length, refl, subst, arith}
+use Rattle.std.specs.Prelude.{◌==◌, ◌&&◌, not, nat_le, if◌then◌else◌}
+use Rattle.std.specs.List.{AllByRecursion, filter}
+use Rattle.std.proofs.lemmas.Bool.Decides.{nat_tests}
+use Rattle.kds_defs.specs.declared.command.Command.{Command}
+use Rattle.kds_defs.specs.declared.command.Command.TheVariants as command
+use Rattle.kds_defs.specs.declared.command.Origin.{Origin}
+use Rattle.kds_defs.specs.declared.command.Origin.TheVariants as origin
+use Rattle.kds_defs.specs.declared.entry.Entry.TheVariants as entry
+use Rattle.kds_defs.specs.declared.reply.Reply.{Reply}
+use Rattle.kds_defs.specs.Decision.{Accepted}
+use Rattle.kds_defs.specs.Histories.{decide}
+use Rattle.kds_defs.specs.Journal.{Journal, Line}
+use Rattle.kds_defs.specs.Lawful.{IsLawfulCommand}
+use Rattle.kds_defs.specs.LeaseCommands.{follows_parent}
+use Rattle.kds_defs.specs.Legal.{IsLegal}
+use Rattle.kds_defs.specs.Records.{Logged, batch, beginning, left_among, left_from, next_number, numbers_of, records}
+use Rattle.kds_defs.specs.Shards.{shards, start_of, shard_at}
+use Rattle.kds_defs.specs.StreamCommands.{last_number}
+use Rattle.kds_defs.specs.Streams.{is_live, trim_floor}
+use Rattle.kds_defs.specs.Tiled.{AreNumbered}
+use Rattle.kds_defs.proofs.Decisions.{found, holds_so, passes, same_lines}
+use Rattle.kcl_laws.specs.Recorded.{AreDrawn, RiseBetween}
+use Rattle.kcl_laws.proofs.FenceLemmas.{held, past_the_target}
+use Rattle.kcl_laws.proofs.LegalLemmas.{owned, past_the_parents}
+use Rattle.kcl_script_fields.specs.Commands.{AreNumbers}
+use Rattle.kcl_script_fields.specs.Origins.{IsOrigin}
+use Rattle.kcl_journal.specs.declared.line.TheConstants.{VERSION}
+use Rattle.kcl_journal.specs.Ranges.{Is64, IsEntryLine}
+use Rattle.kcl_sim_scribe.specs.Added.{told_by}
+use Rattle.kcl_audit_sound.proofs.Counts.{listed_fits, made_fits, named_fits, neither, not_past, shards_fit, taken_fits}
+use Rattle.kcl_audit_sound.proofs.Streams.{AreTold, IsBy, line_told, plan_at, put_told, puts_told, steps_told}
+
+-- no line, and one line
+told_none : (lines : List Line) (reply reply' : Reply) → Accepted [] reply' ≡ Accepted lines reply → AreTold lines
+told_none lines reply reply' h = subst AreTold (same_lines [] lines reply' reply h) tt
+
+told_one : (line : Line) (lines : List Line) (reply reply' : Reply) → Accepted (line ∷ []) reply' ≡ Accepted lines reply → IsEntryLine VERSION (told_by line) → AreTold lines
+told_one line lines reply reply' h is = subst AreTold (same_lines (line ∷ []) lines reply' reply h) (is, tt)
+
+-- the counter after a write, where the row's isn't the last number
+next_counter : (n counter : ℕ) → not (n == counter) ≡ false → (n == last_number) ≡ false → counter < 2 ^ 64 → (1 ≤ counter + 1) × (counter + 1 < 2 ^ 64)
+next_counter n counter same free fits = (omega arith, grind (arith, nat_tests))
+
+row_counter : (n counter : ℕ) → not (n == counter) ≡ false → (n == last_number) ≡ false → counter < 2 ^ 64 → (1 ≤ n + 1) × (n + 1 < 2 ^ 64)
+row_counter n counter same free fits = (omega arith, grind (arith, nat_tests))
+
+free_number : (n : ℕ) → (n == last_number) ≡ false → n ≤ last_number → n < 2 ^ 64
+free_number n free le = omega (arith, le)
+
+after_free : (n : ℕ) → (n == last_number) ≡ false → n ≤ last_number → n + 1 < 2 ^ 64
+after_free n free le = grind (arith, nat_tests)
+
+both_hold : (a b : Bool) → not (a && b) ≡ false → (a ≡ true) × (b ≡ true)
+both_hold true true h = (refl, refl)
+both_hold true false h = absurd cc
+both_hold false b h = absurd cc
+
+origin_counts : (b : Bool) (from : Origin) → IsOrigin from → IsOrigin (if b then origin.TrimHorizon else from)
+origin_counts true from is = tt
+origin_counts false from is = is
+
+-- ---- the numbers of a batch
+
+rise_to : (first : ℕ) (rs : List Logged) (next : ℕ) → RiseBetween first rs next → first ≤ next
+rise_to first [] next h = h
+rise_to first (r ∷ rs) next h = omega (arith, h.0, rise_to (r.seq + 1) rs next h.1)
+
+abbrev AreBelow : ℕ → List Logged → Type 0
+AreBelow m rs = AllByRecursion (λ (r : Logged). r.seq < m) rs
+
+below_next : (first : ℕ) (rs : List Logged) (next : ℕ) → RiseBetween first rs next → AreBelow next rs
+below_next first [] next h = tt
+below_next first (r ∷ rs) next h = (omega (arith, rise_to (r.seq + 1) rs next h.1), below_next (r.seq + 1) rs next h.1)
+
+kept_below : (keep : Bool) (m : ℕ) (r : Logged) (rs : List Logged) → r.seq < m → AreBelow m rs → AreBelow m (if keep then r ∷ rs else rs)
+kept_below true m r rs h g = (h, g)
+kept_below false m r rs h g = g
+
+filtered_below : (p : Logged → Bool) (m : ℕ) (rs : List Logged) → AreBelow m rs → AreBelow m (filter p rs)
+filtered_below p m [] h = tt
+filtered_below p m (r ∷ rs) h = kept_below (p r) m r (filter p rs) h.0 (filtered_below p m rs h.1)
+
+first_below : (fits : Bool) (m : ℕ) (r : Logged) (rs : List Logged) → r.seq < m → AreBelow m rs → AreBelow m (if fits then r ∷ rs else [])
+first_below true m r rs h g = (h, g)
+first_below false m r rs h g = tt
+
+beginning_below : (limit room m : ℕ) (rs : List Logged) → AreBelow m rs → AreBelow m (beginning limit room rs)
+beginning_below zero room m rs h = tt
+beginning_below (suc limit) room m [] h = tt
+beginning_below (suc limit) room m (r ∷ rs) h =
+    first_below (nat_le r.bytes room) m r (beginning limit (room - r.bytes) rs) h.0 (beginning_below limit (room - r.bytes) m rs h.1)
+
+live_below : (live : Bool) (m : ℕ) (rs : List Logged) → AreBelow m rs → AreBelow m (if live then rs else [])
+live_below true m rs h = h
+live_below false m rs h = tt
+
+numbers_fit : (m : ℕ) (rs : List Logged) → m ≤ last_number → AreBelow m rs → AllByRecursion Is64 (numbers_of rs)
+numbers_fit m [] le h = tt
+numbers_fit m (r ∷ rs) le h = (omega (arith, le, h.0), numbers_fit m rs le h.1)
+
+-- ---- each command
+
+module _
+    (numbered : (log : Journal) (s : ℕ) → AreNumbered 0 (shards log s))
+    (drawn : (log : Journal) → IsLegal log → (s sh : ℕ) → AreDrawn log s sh)
+    (next_fits : (log : Journal) → IsLegal log → (s : ℕ) → next_number log s ≤ last_number) where
+  batch_fits : (log : Journal) (c s sh place limit : ℕ) → IsLegal log → AllByRecursion Is64 (numbers_of (batch log c s sh place limit))
+  batch_fits log c s sh place limit legal =
+      let next = next_number log s in
+      let left = left_among (trim_floor log c s) place (records log s sh) in
+      numbers_fit next (batch log c s sh place limit) (next_fits log legal s)
+      (beginning_below limit _ next (left_from log c s sh place)
+      (live_below (is_live log s) next left (filtered_below _ next (records log s sh) (below_next (start_of (shard_at log s sh)) (records log s sh) next (drawn log legal s sh)))))
+
+  pub told_lines : (log : Journal) (c by : ℕ) (what : Command) (lines : List Line) (reply : Reply) → IsLegal log → IsBy c by → IsLawfulCommand what → AreNumbers what
+      → decide log c by what ≡ Accepted lines reply → AreTold lines
+  told_lines log c by (command.Create name count) lines reply legal is lawful bits h =
+      let a = passes _ _ _ _ reply h in
+      let b = passes _ _ _ _ reply a.1 in
+      let d = passes _ _ _ _ reply b.1 in
+      told_one _ lines reply _ d.1 (line_told c by _ is (after_free _ d.0 (made_fits log legal), lawful))
+  told_lines log c by (command.Delete name) lines reply legal is lawful bits h =
+      let f = found _ _ _ _ reply h in
+      told_one _ lines reply _ f.2 (line_told c by _ is (named_fits log name f.0 legal f.1))
+  told_lines log c by (command.Streams after limit) lines reply legal is lawful bits h = told_none lines reply _ h
+  told_lines log c by (command.Describe name after limit) lines reply legal is lawful bits h =
+      let f = found _ _ _ _ reply h in
+      told_none lines reply _ f.2
+  told_lines log c by (command.Summary name) lines reply legal is lawful bits h =
+      let f = found _ _ _ _ reply h in
+      told_none lines reply _ f.2
+  told_lines log c by (command.Shards name after limit) lines reply legal is lawful bits h =
+      let f = found _ _ _ _ reply h in
+      told_none lines reply _ f.2
+  told_lines log c by (command.More page limit) lines reply legal is lawful bits h =
+      let a = passes _ _ _ _ reply h in
+      let b = passes _ _ _ _ reply a.1 in
+      told_none lines reply _ b.1
+  told_lines log c by (command.GetIterator name sh from) lines reply legal is lawful bits h =
+      let f = found _ _ _ _ reply h in
+      let a = passes _ _ _ _ reply f.2 in
+      let g = found _ _ _ _ reply a.1 in
+      let b = passes _ _ _ _ reply g.2 in
+      told_none lines reply _ b.1
+  told_lines log c by (command.Records iter limit) lines reply legal is lawful bits h =
+      let a = passes _ _ _ _ reply h in
+      let b = passes _ _ _ _ reply a.1 in
+      let d = passes _ _ _ _ reply b.1 in
+      told_none lines reply _ d.1
+  told_lines log c by (command.Put name item) lines reply legal is lawful bits h =
+      let f = found _ _ _ _ reply h in
+      let a = passes _ _ _ _ reply f.2 in
+      let b = passes _ _ _ _ reply a.1 in
+      let s = f.0 in
+      told_one _ lines reply _ b.1
+      (put_told log c by s item is (named_fits log name s legal f.1) (numbered log s) (shards_fit log legal s) (next_fits log legal s) lawful.1)
+  told_lines log c by (command.PutMany name items) lines reply legal is lawful bits h =
+      let f = found _ _ _ _ reply h in
+      let a = passes _ _ _ _ reply f.2 in
+      let s = f.0 in
+      subst AreTold (same_lines _ lines _ reply a.1)
+      (puts_told items log c by s is (named_fits log name s legal f.1) (numbered log s) (shards_fit log legal s) (not_past _ _ a.0) lawful.1.each)
+  told_lines log c by (command.Scale name target) lines reply legal is lawful bits h =
+      let f = found _ _ _ _ reply h in
+      let a = passes _ _ _ _ reply f.2 in
+      let b = passes _ _ _ _ reply a.1 in
+      let fits = neither _ _ b.0 in
+      subst AreTold (same_lines _ lines _ reply b.1)
+      (steps_told numbered _ log c by f.0 is (named_fits log name f.0 legal f.1) (plan_at _ target lawful.1.0 lawful.1.1) (not_past _ _ fits.0) (not_past _ _ fits.1))
+  told_lines log c by (command.Enforce name on) lines reply legal is lawful bits h =
+      let f = found _ _ _ _ reply h in
+      told_one _ lines reply _ f.2 (line_told c by _ is (named_fits log name f.0 legal f.1))
+  told_lines log c by (command.Split name sh at) lines reply legal is lawful bits h =
+      let f = found _ _ _ _ reply h in
+      let a = passes _ _ _ _ reply f.2 in
+      let b = passes _ _ _ _ reply a.1 in
+      let d = passes _ _ _ _ reply b.1 in
+      let e = passes _ _ _ _ reply d.1 in
+      let g = passes _ _ _ _ reply e.1 in
+      let s = f.0 in
+      let room = not_past (length (shards log s) + 1) last_number (neither _ _ g.0).0 in
+      told_one _ lines reply _ g.1
+      (line_told c by _ is (
+        named_fits log name s legal f.1,
+        (listed_fits log c s sh legal (holds_so _ a.0), (lawful.1, (omega (arith, next_fits log legal s), (omega (arith, room), omega (arith, room))))),
+      ))
+  told_lines log c by (command.Merge name sh other) lines reply legal is lawful bits h =
+      let f = found _ _ _ _ reply h in
+      let a = passes _ _ _ _ reply f.2 in
+      let b = passes _ _ _ _ reply a.1 in
+      let d = passes _ _ _ _ reply b.1 in
+      let e = passes _ _ _ _ reply d.1 in
+      let s = f.0 in
+      let room = not_past (length (shards log s)) last_number (neither _ _ e.0).0 in
+      let listed = both_hold _ _ a.0 in
+      told_one _ lines reply _ e.1
+      (line_told c by _ is (
+        named_fits log name s legal f.1,
+        (listed_fits log c s sh legal listed.0, (listed_fits log c s other legal listed.1, (omega (arith, next_fits log legal s), omega (arith, room)))),
+      ))
+  told_lines log c by (command.Keep name wanted raise) lines reply legal is lawful bits h =
+      let f = found _ _ _ _ reply h in
+      let a = passes _ _ _ _ reply f.2 in
+      told_one _ lines reply _ a.1 (line_told c by _ is (named_fits log name f.0 legal f.1, lawful.1))
+  told_lines log c by command.Survey lines reply legal is lawful bits h = told_none lines reply _ h
+  told_lines log c by (command.MakeLease key from) lines reply legal is lawful bits h =
+      let a = passes _ _ _ _ reply h in
+      let b = passes _ _ _ _ reply a.1 in
+      told_one _ lines reply _ b.1 (line_told c by _ is (bits.0, origin_counts (follows_parent log key) from bits.1))
+  told_lines log c by (command.Take key counter owner) lines reply legal is lawful bits h =
+      let f = found _ _ _ _ reply h in
+      let a = passes _ _ _ _ reply f.2 in
+      let b = passes _ _ _ _ reply a.1 in
+      let d = passes _ _ _ _ reply b.1 in
+      let free = neither _ _ d.0 in
+      told_one _ lines reply _ d.1
+      (line_told c by _ is (bits.0, (after_free _ free.1 (taken_fits log legal), (row_counter _ counter a.0 free.0 bits.1.0, (lawful, bits.1.1)))))
+  told_lines log c by (command.Renew t counter) lines reply legal is lawful bits h =
+      let a = held log by t _ _ reply h in
+      let b = passes _ _ _ _ reply a.rest in
+      let d = passes _ _ _ _ reply b.1 in
+      told_one _ lines reply _ d.1 (line_told c by _ is (bits.0, next_counter _ counter b.0 d.0 bits.1))
+  told_lines log c by (command.Free t counter) lines reply legal is lawful bits h =
+      let a = held log by t _ _ reply h in
+      let b = passes _ _ _ _ reply a.rest in
+      let d = passes _ _ _ _ reply b.1 in
+      told_one _ lines reply _ d.1 (line_told c by _ is (bits.0, next_counter _ counter b.0 d.0 bits.1))
+  told_lines log c by (command.OpenShard t) lines reply legal is lawful bits h =
+      let a = held log by t _ _ reply h in
+      let b = passes _ _ _ _ reply a.rest in
+      let d = passes _ _ _ _ reply b.1 in
+      let e = past_the_parents log c _ _ _ _ reply d.1 in
+      told_one _ lines reply _ e.1 (line_told c by _ is bits)
+  told_lines log c by (command.Read t position limit) lines reply legal is lawful bits h =
+      let f = owned log by t _ _ reply h in
+      let a = passes _ _ _ _ reply f.rest in
+      let b = passes _ _ _ _ reply a.1 in
+      let d = passes _ _ _ _ reply b.1 in
+      let e = passes _ _ _ _ reply d.1 in
+      told_one _ lines reply _ e.1 (line_told c by _ is (bits.0, (lawful, batch_fits log c _ _ _ limit legal)))
+  told_lines log c by (command.Give t) lines reply legal is lawful bits h =
+      let f = owned log by t _ _ reply h in
+      let a = passes _ _ _ _ reply f.rest in
+      told_one _ lines reply _ a.1 (line_told c by _ is bits)
+  told_lines log c by (command.Mark t counter to) lines reply legal is lawful bits h =
+      let a = held log by t _ _ reply h in
+      let b = passes _ _ _ _ reply a.rest in
+      let d = past_the_target log a.holds.state to _ _ reply b.1 in
+      let e = passes _ _ _ _ reply d in
+      told_one _ lines reply _ e.1 (line_told c by (entry.Marked t (counter + 1) to) is (bits.0, (next_counter _ counter b.0 e.0 bits.1.0, bits.1.1)))
+  told_lines log c by (command.CutLease key counter) lines reply legal is lawful bits h =
+      let f = found _ _ _ _ reply h in
+      let a = passes _ _ _ _ reply f.2 in
+      let b = passes _ _ _ _ reply a.1 in
+      told_one _ lines reply _ b.1 (line_told c by _ is (bits.0, bits.1))

@@ -1,0 +1,169 @@
+-- The lines of puts and of scalings can be told.
+use Rattle.std.proofs.Common.{◌≡◌, ℕ, ◌+◌, ◌-◌, ◌*◌, ◌^◌, ◌<◌, ◌≤◌, Bool, true, false, List, [], ◌∷◌, ◌++◌, length, map, refl, ap, ◌∙◌, arith}
+use Rattle.std.specs.Prelude.{◌==◌, cond, chars, if◌then◌else◌}
+use Rattle.std.specs.List.{AllByRecursion, filter}
+use lib.Utf8.{encode, encodes}
+use Rattle.std.proofs.lemmas.Bool.Decides.{nat_tests}
+use Rattle.std.proofs.lemmas.List.{length-append}
+use Rattle.std.proofs.lemmas.Str.{encodes-chars, len_utf8_bounds, length-encode, length-le-encodes}
+use Rattle.kds_defs.specs.declared.command.NewItem.{NewItem}
+use Rattle.kds_defs.specs.declared.entry.Entry.{Entry}
+use Rattle.kds_defs.specs.declared.scale.ScaleStep.{ScaleStep}
+use Rattle.kds_defs.specs.declared.scale.ScaleStep.TheVariants.{Join, Cut}
+use Rattle.kds_defs.specs.Journal.{Line, Journal, plain_line}
+use Rattle.kds_defs.specs.Lawful.{IsItem, IsPartitionKey}
+use Rattle.kds_defs.specs.PutCommands.{is_held_back, put_lines}
+use Rattle.kds_defs.specs.Records.{next_number}
+use Rattle.kds_defs.specs.ScaleCommands.{made_by, step_entry, step_lines}
+use Rattle.kds_defs.specs.Scaling.{left_out, scale, uniform_starts}
+use Rattle.kds_defs.specs.Shards.{home, merged_shards, shards, split_shards}
+use Rattle.kds_defs.specs.StreamCommands.{last_number, put_line}
+use Rattle.kds_defs.specs.Tiled.{AreNumbered}
+use Rattle.kds_scale.proofs.Partitions.{below_wanted}
+use Rattle.kcl_laws.proofs.Added.{draws_one}
+use Rattle.kcl_journal.specs.declared.line.TheConstants.{VERSION}
+use Rattle.kcl_journal.specs.Ranges.{AreSizes, IsEntryLine, IsTellable}
+use Rattle.kcl_sim_scribe.specs.Added.{told_by}
+use Rattle.kcl_audit_sound.proofs.Counts.{home_fits, length_merged, length_split}
+
+-- a text can tell these lines
+abbrev pub AreTold : List Line → Type 0
+AreTold lines = AllByRecursion (λ line. IsEntryLine VERSION (told_by line)) lines
+
+-- the clock and the actor of lines
+pub record IsBy (c by : ℕ) : Type 0 where
+  pub clock : c < 2 ^ 62
+  pub actor : by < 2 ^ 32
+
+pub line_told : (c by : ℕ) (what : Entry) → IsBy c by → IsTellable VERSION what → IsEntryLine VERSION (record { clock = c; by = by; what = what })
+line_told c by what is tellable = record { clock = is.clock; by = is.actor; what = tellable }
+
+-- ---- puts
+
+-- so many characters have at most four times as many bytes
+few_bytes : (cs : List ℕ) → length (encodes cs) ≤ 4 * length cs
+few_bytes [] = omega arith
+few_bytes (c ∷ cs) = omega (arith, few_bytes cs, length-append (encode c) (encodes cs), length-encode c, (len_utf8_bounds c).1)
+
+key_sizes : (key : List ℕ) → IsPartitionKey key → (1 ≤ length key) × (length key ≤ 1024)
+key_sizes key is =
+    let same = ap length (encodes-chars key is.text) in (
+      omega (arith, same, is.some, length-le-encodes (chars key)),
+      omega (arith, same, is.few, few_bytes (chars key)),
+    )
+
+pub sizes : (item : NewItem) → IsItem item → AreSizes VERSION (length item.payload) (length item.key)
+sizes item is = (key_sizes item.key is.key, is.bytes)
+
+pub put_told : (log : Journal) (c by s : ℕ) (item : NewItem) → IsBy c by → s < 2 ^ 64 → AreNumbered 0 (shards log s) → length (shards log s) ≤ 2 ^ 64
+    → next_number log s ≤ last_number → IsItem item → IsEntryLine VERSION (told_by (put_line log c by s (next_number log s) item))
+put_told log c by s item is stream numbers few next lawful =
+    line_told c by _ is (stream, (home_fits log s item.hash numbers few, (omega (arith, next), (lawful.hash, sizes item lawful))))
+
+-- the line of an item that isn't held back, and the lines of it and of those that follow
+abbrev next_line : Journal → ℕ → ℕ → ℕ → NewItem → Line
+next_line log c by s item = put_line log c by s (next_number log s) item
+
+abbrev lines_from : Bool → Journal → ℕ → ℕ → ℕ → NewItem → List NewItem → List Line
+lines_from back log c by s item items =
+    if back
+    then put_lines log c by s items
+    else next_line log c by s item ∷ put_lines (next_line log c by s item ∷ log) c by s items
+
+item_told : (back : Bool) (item : NewItem) (items : List NewItem) (log : Journal) (c by s : ℕ) → next_number log s + length (lines_from back log c by s item items) ≤ last_number
+    → (next_number log s + length (put_lines log c by s items) ≤ last_number → AreTold (put_lines log c by s items))
+    → (next_number log s ≤ last_number → IsEntryLine VERSION (told_by (next_line log c by s item)))
+    → (next_number (next_line log c by s item ∷ log) s + length (put_lines (next_line log c by s item ∷ log) c by s items) ≤ last_number
+    → AreTold (put_lines (next_line log c by s item ∷ log) c by s items))
+    → AreTold (lines_from back log c by s item items)
+item_told true item items log c by s fits skip one take = skip fits
+item_told false item items log c by s fits skip one take =
+    (one (omega (arith, fits)), take (omega (arith, fits, draws_one s (next_number log s) (next_number log s) refl)))
+
+pub puts_told : (items : List NewItem) (log : Journal) (c by s : ℕ) → IsBy c by → s < 2 ^ 64 → AreNumbered 0 (shards log s) → length (shards log s) ≤ 2 ^ 64
+    → next_number log s + length (put_lines log c by s items) ≤ last_number → AllByRecursion IsItem items → AreTold (put_lines log c by s items)
+puts_told [] log c by s is stream numbers few fits lawful = tt
+puts_told (item ∷ items) log c by s is stream numbers few fits lawful =
+    item_told (is_held_back log c s item) item items log c by s fits
+    (λ room. puts_told items log c by s is stream numbers few room lawful.1)
+    (λ next. put_told log c by s item is stream numbers few next lawful.0)
+    (λ room. puts_told items (next_line log c by s item ∷ log) c by s is stream numbers few room lawful.1)
+
+-- ---- scalings
+
+-- a split is at a key
+abbrev IsAtKey : ScaleStep → Type 0
+IsAtKey (Join b) = Unit {0}
+IsAtKey (Cut b) = b < 2 ^ 128
+
+itself : (s : ℕ) → (s == s) ≡ true
+itself s = grind (arith, nat_tests)
+
+abbrev step_line : Journal → ℕ → ℕ → ℕ → ScaleStep → Line
+step_line log c by s step = plain_line c by (step_entry log s step)
+
+-- the shards after a merge and after a split of a scaling
+many_join : (log : Journal) (c by s b : ℕ) → length (shards (step_line log c by s (Join b) ∷ log) s) ≡ length (shards log s) + 1
+many_join log c by s b =
+    ap
+    (λ r. length (if r
+    then merged_shards (home log s (b - 1)) (home log s b) (record { number = next_number log s; clock = c }) (next_number (step_line log c by s (Join b) ∷ log) s) (shards log s)
+    else shards log s))
+    (itself s)
+    ∙ length_merged (shards log s) (home log s (b - 1)) (home log s b) (record { number = next_number log s; clock = c }) (next_number (step_line log c by s (Join b) ∷ log) s)
+
+many_cut : (log : Journal) (c by s b : ℕ) → length (shards (step_line log c by s (Cut b) ∷ log) s) ≡ length (shards log s) + 2
+many_cut log c by s b =
+    ap
+    (λ r. length (if r
+    then split_shards (home log s b) b (record { number = next_number log s; clock = c }) (next_number (step_line log c by s (Cut b) ∷ log) s) (shards log s)
+    else shards log s))
+    (itself s)
+    ∙ length_split (shards log s) (home log s b) b (record { number = next_number log s; clock = c }) (next_number (step_line log c by s (Cut b) ∷ log) s)
+
+module _ (numbered : (log : Journal) (s : ℕ) → AreNumbered 0 (shards log s)) where
+  pub steps_told : (steps : List ScaleStep) (log : Journal) (c by s : ℕ) → IsBy c by → s < 2 ^ 64 → AllByRecursion IsAtKey steps
+      → next_number log s + length steps ≤ last_number → length (shards log s) + made_by steps ≤ last_number → AreTold (step_lines log c by s steps)
+  steps_told [] log c by s is stream at fits room = tt
+  steps_told (Join b ∷ steps) log c by s is stream at fits room =
+      let line = step_line log c by s (Join b) in
+      let low = home_fits log s (b - 1) (numbered log s) (omega (arith, room)) in
+      let high = home_fits log s b (numbered log s) (omega (arith, room)) in (
+        line_told c by (step_entry log s (Join b)) is (stream, (low, (high, (omega (arith, fits), omega (arith, room))))),
+        steps_told steps (line ∷ log) c by s is stream at.1
+            (omega (arith, fits, draws_one s (next_number log s) (next_number log s) refl))
+            (omega (arith, room, many_join log c by s b)),
+      )
+  steps_told (Cut b ∷ steps) log c by s is stream at fits room =
+      let line = step_line log c by s (Cut b) in
+      let sh = home_fits log s b (numbered log s) (omega (arith, room)) in (
+        line_told c by (step_entry log s (Cut b)) is (stream, (sh, (at.0, (omega (arith, fits), (omega (arith, room), omega (arith, room)))))),
+        steps_told steps (line ∷ log) c by s is stream at.1
+            (omega (arith, fits, draws_one s (next_number log s) (next_number log s) refl))
+            (omega (arith, room, many_cut log c by s b)),
+      )
+
+abbrev AreBelow : List ℕ → Type 0
+AreBelow bs = AllByRecursion (λ b. b < 2 ^ 128) bs
+
+kept_below : (keep : Bool) (b : ℕ) (bs : List ℕ) → b < 2 ^ 128 → AreBelow bs → AreBelow (cond keep (b ∷ bs) bs)
+kept_below true b bs h g = (h, g)
+kept_below false b bs h g = g
+
+filtered_below : (p : ℕ → Bool) (bs : List ℕ) → AreBelow bs → AreBelow (filter p bs)
+filtered_below p [] h = tt
+filtered_below p (b ∷ bs) h = kept_below (p b) b (filter p bs) h.0 (filtered_below p bs h.1)
+
+cuts_at : (bs : List ℕ) → AreBelow bs → AllByRecursion IsAtKey (map Cut bs)
+cuts_at [] h = tt
+cuts_at (b ∷ bs) h = (h.0, cuts_at bs h.1)
+
+joins_at : (bs : List ℕ) (steps : List ScaleStep) → AllByRecursion IsAtKey steps → AllByRecursion IsAtKey (map Join bs ++ steps)
+joins_at [] steps h = h
+joins_at (b ∷ bs) steps h = (tt, joins_at bs steps h)
+
+-- the splits of a plan are at starts of uniform ranges
+pub plan_at : (starts : List ℕ) (target : ℕ) → 1 ≤ target → target ≤ 500 → AllByRecursion IsAtKey (scale starts target)
+plan_at starts target least most =
+    let wanted = uniform_starts target in
+    joins_at (left_out wanted starts) (map Cut (left_out starts wanted)) (cuts_at (left_out starts wanted) (filtered_below _ wanted (below_wanted target least most)))

@@ -1,0 +1,134 @@
+-- The numbers of a batch that grow, one record after another.
+use Rattle.std.proofs.Common.{◌≡◌, ℕ, zero, suc, ◌+◌, ◌-◌, ◌<◌, ◌≤◌, Bool, true, false, List, [], ◌∷◌, ◌++◌, length, get_or, drop, map, refl, sym, ap, ◌∙◌, arith}
+use Rattle.std.specs.Prelude.{◌==◌, ◌&&◌, cond, if◌then◌else◌, nat_le}
+use Rattle.std.specs.List.{AllByRecursion, filter}
+use Rattle.std.proofs.lemmas.Bool.Decides.{nat_tests}
+use Rattle.std.proofs.lemmas.List.{at_drop_more, drop_all, append-nil, append_assoc}
+use Rattle.kds_defs.specs.Records.{Logged, beginning, is_left, left_among, numbers_of}
+use Rattle.kcl_audit_streams.specs.declared.records.Sized.{Sized}
+use Rattle.kcl_audit_streams.specs.Standing.{is_in, logged, records_in}
+
+-- the record is one of the shard, and is left
+abbrev pub counts : ℕ → ℕ → ℕ → Sized → Bool
+counts sh floor position x = (x.shard == sh) && is_left floor position (logged x)
+
+-- what is left of these records
+abbrev pub left_in : ℕ → ℕ → ℕ → List Sized → List Logged
+left_in sh floor position xs = left_among floor position (records_in xs sh)
+
+-- one record more
+left_by : (sh floor position : ℕ) (x : Sized) (xs : List Sized) (a b : Bool) → is_in sh x ≡ a → is_left floor position (logged x) ≡ b
+    → left_in sh floor position (x ∷ xs) ≡ cond (a && b) (logged x ∷ left_in sh floor position xs) (left_in sh floor position xs)
+left_by sh floor position x xs true true e f = rw (e, f) refl
+left_by sh floor position x xs true false e f = rw (e, f) refl
+left_by sh floor position x xs false b e f = rw e refl
+
+-- what is left of the records from a place on
+abbrev pub ahead : ℕ → ℕ → ℕ → List Sized → ℕ → List Logged
+ahead sh floor position xs i = left_in sh floor position (drop i xs)
+
+pub ahead_more : (sh floor position : ℕ) (xs : List Sized) (i : ℕ) (x : Sized) (b : Bool) → i < length xs → x ≡ get_or xs i x → counts sh floor position x ≡ b
+    → ahead sh floor position xs i ≡ cond b (logged x ∷ ahead sh floor position xs (i + 1)) (ahead sh floor position xs (i + 1))
+ahead_more sh floor position xs i x b lt is t =
+    at_drop_more (λ ys. left_in sh floor position ys) xs i x lt
+    ∙ ap (λ (y : Sized). left_in sh floor position (y ∷ drop (i + 1) xs)) (sym is)
+    ∙ left_by sh floor position x (drop (i + 1) xs) (is_in sh x) (is_left floor position (logged x)) refl refl
+    ∙ ap (λ (c : Bool). cond c (logged x ∷ ahead sh floor position xs (i + 1)) (ahead sh floor position xs (i + 1))) t
+
+-- the numbers so far, and those of the beginning of what is left, are the whole
+abbrev pub Grows : List ℕ → ℕ → ℕ → List Logged → List ℕ → Type 0
+Grows numbers left room rest whole = numbers ++ numbers_of (beginning left room rest) ≡ whole
+
+beginning_one : (left room : ℕ) (r : Logged) (rest : List Logged) → (left ≡ 0 → ⊥) → nat_le r.bytes room ≡ true → beginning left room (r ∷ rest) ≡ r ∷ beginning (left - 1) (room - r.bytes) rest
+beginning_one zero room r rest some fits = absurd (some refl)
+beginning_one (suc left) room r rest some fits =
+    let e : suc left - 1 ≡ left = omega arith in
+    rw (fits, e) refl
+
+fits : (bytes room : ℕ) → bytes ≤ room → nat_le bytes room ≡ true
+fits bytes room h = grind (arith, nat_tests)
+
+fits_not : (bytes room : ℕ) → room < bytes → nat_le bytes room ≡ false
+fits_not bytes room h = grind (arith, nat_tests)
+
+beginning-nil : (left room : ℕ) → beginning left room [] ≡ []
+beginning-nil zero room = refl
+beginning-nil (suc left) room = refl
+
+beginning_full : (left room : ℕ) (r : Logged) (rest : List Logged) → room < r.bytes → beginning left room (r ∷ rest) ≡ []
+beginning_full zero room r rest h = refl
+beginning_full (suc left) room r rest h = rw (fits_not r.bytes room h) refl
+
+module _ (sh floor position : ℕ) (xs : List Sized) (i : ℕ) (x : Sized) (within : i < length xs) (is : x ≡ get_or xs i x) where
+  -- a record that is left, and fits, is taken
+  pub grows_by : (numbers : List ℕ) (left room : ℕ) (whole : List ℕ) → counts sh floor position x ≡ true → (left ≡ 0 → ⊥) → x.bytes ≤ room
+      → Grows numbers left room (ahead sh floor position xs i) whole → Grows (numbers ++ x.seq ∷ []) (left - 1) (room - x.bytes) (ahead sh floor position xs (i + 1)) whole
+  grows_by numbers left room whole t some small h =
+      let rest = ahead sh floor position xs (i + 1) in
+      let one : beginning left room (ahead sh floor position xs i) ≡ logged x ∷ beginning (left - 1) (room - x.bytes) rest =
+      ap (beginning left room) (ahead_more sh floor position xs i x true within is t) ∙ beginning_one left room (logged x) rest some (fits x.bytes room small) in
+      append_assoc numbers (x.seq ∷ []) (numbers_of (beginning (left - 1) (room - x.bytes) rest)) ∙ ap (λ taken. numbers ++ numbers_of taken) (sym one) ∙ h
+
+  -- one that doesn't count is passed over
+  pub grows_past : (numbers : List ℕ) (left room : ℕ) (whole : List ℕ) → counts sh floor position x ≡ false
+      → Grows numbers left room (ahead sh floor position xs i) whole → Grows numbers left room (ahead sh floor position xs (i + 1)) whole
+  grows_past numbers left room whole t h = ap (λ rest. numbers ++ numbers_of (beginning left room rest)) (sym (ahead_more sh floor position xs i x false within is t)) ∙ h
+
+  -- one that doesn't fit ends the batch
+  pub grows_full : (numbers : List ℕ) (left room : ℕ) (whole : List ℕ) → counts sh floor position x ≡ true → room < x.bytes
+      → Grows numbers left room (ahead sh floor position xs i) whole → numbers ≡ whole
+  grows_full numbers left room whole t big h =
+      sym (append-nil numbers)
+      ∙ ap (λ taken. numbers ++ numbers_of taken) (sym (ap (beginning left room) (ahead_more sh floor position xs i x true within is t) ∙ beginning_full left room (logged x) (ahead sh floor position xs (i + 1)) big)) ∙ h
+
+-- no more may be taken
+pub grows_to : (numbers : List ℕ) (left room : ℕ) (rest : List Logged) (whole : List ℕ) → left ≡ 0 → Grows numbers left room rest whole → numbers ≡ whole
+grows_to numbers zero room rest whole none h = sym (append-nil numbers) ∙ h
+grows_to numbers (suc left) room rest whole none h = absurd (omega (arith, none))
+
+-- at the end of the records the batch is whole
+pub grows_all : (sh floor position : ℕ) (xs : List Sized) (i : ℕ) (numbers : List ℕ) (left room : ℕ) (whole : List ℕ) → length xs ≤ i
+    → Grows numbers left room (ahead sh floor position xs i) whole → numbers ≡ whole
+grows_all sh floor position xs i numbers left room whole le h =
+    sym (append-nil numbers)
+    ∙ ap (λ taken. numbers ++ numbers_of taken) (sym (ap (λ ys. beginning left room (left_in sh floor position ys)) (drop_all i xs le) ∙ beginning-nil left room)) ∙ h
+
+-- ---- the numbers of a batch are those of records
+
+abbrev pub AreBelow : ℕ → List Sized → Type 0
+AreBelow top rs = AllByRecursion (λ (r : Sized). r.seq < top) rs
+
+abbrev below : ℕ → List Logged → Type 0
+below top rs = AllByRecursion (λ (r : Logged). r.seq < top) rs
+
+below_in : (top sh : ℕ) (rs : List Sized) → AreBelow top rs → below top (records_in rs sh)
+below_in top sh [] h = tt
+below_in top sh (r ∷ rs) h = by (is_in sh r) (below_in top sh rs h.1)
+  where
+    by : (b : Bool) → below top (records_in rs sh) → below top (map logged (cond b (r ∷ filter (is_in sh) rs) (filter (is_in sh) rs)))
+    by true rest = (h.0, rest)
+    by false rest = rest
+
+below_left : (top floor position : ℕ) (rs : List Logged) → below top rs → below top (left_among floor position rs)
+below_left top floor position [] h = tt
+below_left top floor position (r ∷ rs) h = by (is_left floor position r) (below_left top floor position rs h.1)
+  where
+    by : (b : Bool) → below top (left_among floor position rs) → below top (cond b (r ∷ left_among floor position rs) (left_among floor position rs))
+    by true rest = (h.0, rest)
+    by false rest = rest
+
+below_beginning : (top limit room : ℕ) (rs : List Logged) → below top rs → below top (beginning limit room rs)
+below_beginning top zero room rs h = tt
+below_beginning top (suc limit) room [] h = tt
+below_beginning top (suc limit) room (r ∷ rs) h = by (nat_le r.bytes room) (below_beginning top limit (room - r.bytes) rs h.1)
+  where
+    by : (b : Bool) → below top (beginning limit (room - r.bytes) rs) → below top (if b then r ∷ beginning limit (room - r.bytes) rs else [])
+    by true rest = (h.0, rest)
+    by false rest = tt
+
+below_numbers : (top : ℕ) (rs : List Logged) → below top rs → AllByRecursion (λ n. n < top) (numbers_of rs)
+below_numbers top [] h = tt
+below_numbers top (r ∷ rs) h = (h.0, below_numbers top rs h.1)
+
+pub batch_below : (top sh floor position limit room : ℕ) (rs : List Sized) → AreBelow top rs → AllByRecursion (λ n. n < top) (numbers_of (beginning limit room (left_among floor position (records_in rs sh))))
+batch_below top sh floor position limit room rs h = below_numbers top _ (below_beginning top limit room _ (below_left top floor position _ (below_in top sh rs h)))

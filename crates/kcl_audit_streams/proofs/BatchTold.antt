@@ -1,0 +1,80 @@
+-- The batch of a shard, by the records that a judge keeps.
+use Rattle.std.proofs.Common.{◌≡◌, ℕ, zero, suc, ◌-◌, ◌≤◌, Bool, true, false, List, [], ◌∷◌, map, slice_get, refl, sym, ap, ◌∙◌}
+use Rattle.std.specs.Prelude.{◌&&◌, cond, if◌then◌else◌, nat_le}
+use Rattle.kds_defs.specs.declared.limits.TheConstants.{BATCH_BYTES}
+use Rattle.kds_defs.specs.Journal.{Journal}
+use Rattle.kds_defs.specs.Legal.{last_clock}
+use Rattle.kds_defs.specs.Listings.{are_none, ends_at, is_closed_at}
+use Rattle.kds_base.specs.declared.lease_key.ShardRef.{ShardRef}
+use Rattle.kds_defs.specs.declared.command.Origin.{Origin}
+use Rattle.kds_defs.specs.declared.command.Origin.TheVariants as origin
+use Rattle.kds_defs.specs.Origins.{origin_position}
+use Rattle.kds_defs.specs.Records.{Logged, batch, beginning, first_at, is_left, left_among, left_from, next_number, numbers_of, records}
+use Rattle.kds_defs.specs.Shards.{ShardState, shards}
+use Rattle.kds_defs.specs.Streams.{trim_floor}
+use Rattle.kcl_audit_streams.specs.Judging.{position_in}
+use Rattle.kcl_audit_streams.specs.Standing.{IsStream, StreamValue, bare, floor_in, records_in}
+
+-- ---- keys and payloads are not looked at
+
+left_bare : (f p : ℕ) (rs : List Logged) → map bare (left_among f p rs) ≡ left_among f p (map bare rs)
+left_bare f p [] = refl
+left_bare f p (r ∷ rs) = by (is_left f p r) (left_bare f p rs)
+  where
+    by : (b : Bool) → map bare (left_among f p rs) ≡ left_among f p (map bare rs) → map bare (cond b (r ∷ left_among f p rs) (left_among f p rs)) ≡ cond b (bare r ∷ left_among f p (map bare rs)) (left_among f p (map bare rs))
+    by true h = ap (λ xs. bare r ∷ xs) h
+    by false h = h
+
+begin_bare : (n room : ℕ) (rs : List Logged) → map bare (beginning n room rs) ≡ beginning n room (map bare rs)
+begin_bare zero room rs = refl
+begin_bare (suc n) room [] = refl
+begin_bare (suc n) room (r ∷ rs) = by (nat_le r.bytes room) (begin_bare n (room - r.bytes) rs)
+  where
+    by : (b : Bool) → map bare (beginning n (room - r.bytes) rs) ≡ beginning n (room - r.bytes) (map bare rs)
+        → map bare (if b then r ∷ beginning n (room - r.bytes) rs else []) ≡ (if b then bare r ∷ beginning n (room - r.bytes) (map bare rs) else [])
+    by true h = ap (λ xs. bare r ∷ xs) h
+    by false h = refl
+
+numbers_bare : (rs : List Logged) → numbers_of (map bare rs) ≡ numbers_of rs
+numbers_bare [] = refl
+numbers_bare (r ∷ rs) = ap (λ ns. r.seq ∷ ns) (numbers_bare rs)
+
+none_bare : (rs : List Logged) → are_none (map bare rs) ≡ are_none rs
+none_bare [] = refl
+none_bare (r ∷ rs) = refl
+
+-- ---- of a live stream
+
+left_is : (log : Journal) (c s sh p : ℕ) (v : StreamValue) → IsStream log s v → v.live ≡ true → last_clock log ≤ c → map bare (left_from log c s sh p) ≡ left_among (floor_in v c) p (records_in v.records sh)
+left_is log c s sh p v st live order =
+    ap (λ (b : Bool). map bare (if b then left_among (trim_floor log c s) p (records log s sh) else [])) (st.lives ∙ live)
+    ∙ left_bare (trim_floor log c s) p (records log s sh)
+    ∙ ap (λ f. left_among f p (map bare (records log s sh))) (st.trims c order)
+    ∙ ap (left_among (floor_in v c) p) (st.records_are sh)
+
+pub batch_is : (log : Journal) (c s sh p limit : ℕ) (v : StreamValue) → IsStream log s v → v.live ≡ true → last_clock log ≤ c
+    → numbers_of (batch log c s sh p limit) ≡ numbers_of (beginning limit BATCH_BYTES (left_among (floor_in v c) p (records_in v.records sh)))
+batch_is log c s sh p limit v st live order =
+    sym (numbers_bare (batch log c s sh p limit))
+    ∙ ap numbers_of (begin_bare limit BATCH_BYTES (left_from log c s sh p))
+    ∙ ap (λ rs. numbers_of (beginning limit BATCH_BYTES rs)) (left_is log c s sh p v st live order)
+
+pub ends_is : (log : Journal) (c s sh place : ℕ) (v : StreamValue) → IsStream log s v → v.live ≡ true → last_clock log ≤ c
+    → ends_at log c s sh place ≡ (is_closed_at (slice_get v.tree sh) && are_none (left_among (floor_in v c) place (records_in v.records sh)))
+ends_is log c s sh place v st live order =
+    ap (λ (b : Bool). is_closed_at (slice_get (shards log s) sh) && b) (sym (none_bare (left_from log c s sh place)) ∙ ap are_none (left_is log c s sh place v st live order))
+    ∙ ap (λ (xs : List ShardState). is_closed_at (slice_get xs sh) && are_none (left_among (floor_in v c) place (records_in v.records sh))) st.shards_are
+
+-- ---- where reading begins
+
+first_bare : (rs : List Logged) (moment otherwise : ℕ) → first_at (map bare rs) moment otherwise ≡ first_at rs moment otherwise
+first_bare [] moment otherwise = refl
+first_bare (r ∷ rs) moment otherwise = λ i. if nat_le moment r.arrival then r.seq else first_bare rs moment otherwise i
+
+pub position_is : (log : Journal) (c : ℕ) (key : ShardRef) (from : Origin) (v : StreamValue) → IsStream log key.stream v → v.live ≡ true → last_clock log ≤ c
+    → position_in v c key.shard from ≡ origin_position log c key from
+position_is log c key origin.TrimHorizon v st live order = refl
+position_is log c key origin.Latest v st live order = sym st.draws
+position_is log c key (origin.Time moment) v st live order =
+    (λ i. first_at (sym (left_is log c key.stream key.shard 0 v st live order) i) moment (sym st.draws i))
+    ∙ first_bare (left_from log c key.stream key.shard 0) moment (next_number log key.stream)

@@ -1,0 +1,131 @@
+-- The stream of a good entry, and the streams with it changed.
+use Rattle.std.proofs.Common.{◌≡◌, ◌≢◌, ℕ, zero, suc, ◌-◌, ◌<◌, ◌≤◌, Bool, true, false, List, [], ◌∷◌, length, slice_get, slice_set, slice_index_or, Option, Some, None, refl, sym, ap, subst, ◌∙◌, arith}
+use Rattle.std.specs.Prelude.{◌==◌, ◌&&◌, ◌||◌, not, if◌then◌else◌, Result, Ok, Err, OnOk}
+use Rattle.std.proofs.lemmas.Bool.Decides.{nat_tests}
+use Rattle.std.proofs.lemmas.List.{set-get_or}
+use Rattle.std.proofs.lemmas.Option.{get_or_from_slice_get, slice_get_within}
+use Rattle.kds_defs.specs.declared.reply.Refusal.{Refusal}
+use Rattle.kds_defs.specs.declared.reply.Refusal.TheVariants as refusal
+use Rattle.kds_defs.specs.Rates.{is_throttled}
+use Rattle.kds_defs.specs.StreamCommands.{last_number}
+use Rattle.kds_tree.specs.Tree.{merge_refusal, split_refusal}
+use Rattle.kcl_audit_streams.specs.Judging.{agrees, changed_at, home_in, in_live, is_spent, merge_verdict, put_verdict, refused, refused_by, split_verdict}
+use Rattle.kcl_audit_streams.specs.Standing.{StreamValue, if_live, is_listed_in, live_at, puts_in}
+use Rattle.kcl_audit_streams.specs.Verdict.{Verdict}
+
+-- ---- the stream of a good entry
+
+-- a good entry's stream is there, and is live
+pub record IsOf (vs : List StreamValue) (s : ℕ) (f : StreamValue → Verdict) : Type 0 where
+  pub value : StreamValue
+  pub some : 1 ≤ s
+  pub at : slice_get vs (s - 1) ≡ Some value
+  pub live : value.live ≡ true
+  pub good : f value ≡ Ok tt
+
+by_state : (vs : List StreamValue) (i : ℕ) (f : StreamValue → Verdict) (v : StreamValue) (b : Bool) → slice_get vs i ≡ Some v → v.live ≡ b → in_live (if b then Some v else None) f ≡ Ok tt → IsOf vs (suc i) f
+by_state vs i f v true is live good =
+    let same : suc i - 1 ≡ i = omega arith in
+    record { value = v; some = omega arith; at = ap (slice_get vs) same ∙ is; live = live; good = good }
+by_state vs i f v false is live good = absurd cc
+
+by_place : (vs : List StreamValue) (i : ℕ) (f : StreamValue → Verdict) (o : Option StreamValue) → slice_get vs i ≡ o → in_live (if_live o) f ≡ Ok tt → IsOf vs (suc i) f
+by_place vs i f None is good = absurd cc
+by_place vs i f (Some v) is good = by_state vs i f v v.live is refl good
+
+pub is_of : (vs : List StreamValue) (s : ℕ) (f : StreamValue → Verdict) → in_live (live_at vs s) f ≡ Ok tt → IsOf vs s f
+is_of vs zero f good = absurd cc
+is_of vs (suc i) f good = by_place vs i f (slice_get vs i) refl good
+
+-- ---- the place of it
+
+changed_get : (vs : List StreamValue) (i : ℕ) (g : StreamValue → StreamValue) (v : StreamValue) → slice_get vs i ≡ Some v → slice_set vs i (g v) ≡ changed_at i g vs
+changed_get [] i g v is = absurd cc
+changed_get (u ∷ vs) zero g v is = let same : u ≡ v = cc in ap (λ (x : StreamValue). g x ∷ vs) (sym same)
+changed_get (u ∷ vs) (suc i) g v is = ap (λ xs. u ∷ xs) (changed_get vs i g v is)
+
+module _ (vs : List StreamValue) (s : ℕ) (f : StreamValue → Verdict) (good : in_live (live_at vs s) f ≡ Ok tt) (i : ℕ) (is : i ≡ s) where
+  pub has_number : 1 ≤ i
+  has_number = let o = is_of vs s f good in omega (arith, o.some, is)
+
+  pub has_place : i - 1 < length vs
+  has_place = let o = is_of vs s f good in subst (λ n. n - 1 < length vs) (sym is) (slice_get_within vs (s - 1) o.value o.at)
+
+  module _ (old : StreamValue) (read : old ≡ slice_index_or vs (i - 1) old) where
+    same_value : old ≡ (is_of vs s f good).value
+    same_value = let o = is_of vs s f good in read ∙ get_or_from_slice_get vs (i - 1) o.value old (ap (λ n. slice_get vs (n - 1)) is ∙ o.at)
+
+    -- it is good of that stream
+    pub good_there : f old ≡ Ok tt
+    good_there = let o = is_of vs s f good in ap f same_value ∙ o.good
+
+    pub changed_there : (g : StreamValue → StreamValue) (new : StreamValue) → new ≡ g old → slice_set vs (i - 1) new ≡ changed_at (s - 1) g vs
+    changed_there g new e =
+        let o = is_of vs s f good in
+        ap (λ n. slice_set vs (n - 1) new) is
+        ∙ ap (slice_set vs (s - 1)) (e ∙ ap g same_value)
+        ∙ changed_get vs (s - 1) g o.value o.at
+
+    pub changed_if : {E : Type 0} (r : Result (Unit {0}) E) (g : StreamValue → StreamValue) (new : StreamValue) → OnOk r (new ≡ g old) → OnOk r (slice_set vs (i - 1) new ≡ changed_at (s - 1) g vs)
+    changed_if (Ok u) g new e = changed_there g new e
+    changed_if (Err x) g new e = tt
+
+    pub same_there : (new : StreamValue) → new ≡ old → slice_set vs (i - 1) new ≡ vs
+    same_there new e = ap (slice_set vs (i - 1)) (e ∙ read) ∙ set-get_or vs (i - 1) old
+
+-- ---- what a good entry tells of its stream
+
+pub agrees_so : (b : Bool) → agrees b ≡ Ok tt → b ≡ true
+agrees_so true h = refl
+agrees_so false h = absurd cc
+
+pub equal_so : (a b : ℕ) → (a == b) ≡ true → a ≡ b
+equal_so a b h = grind (arith, nat_tests)
+
+pub differ_so : (a b : ℕ) → (a == b) ≡ false → a ≢ b
+differ_so a b h = grind (arith, nat_tests)
+
+past : (r : Refusal) (b : Bool) (next : Verdict) → (if b then refused r else next) ≡ Ok tt → (b ≡ false) × (next ≡ Ok tt)
+past r true next h = absurd cc
+past r false next h = (refl, h)
+
+pub past_by : (o : Option Refusal) (next : Verdict) → refused_by o next ≡ Ok tt → (o ≡ None) × (next ≡ Ok tt)
+past_by (Some r) next h = absurd cc
+past_by None next h = (refl, h)
+
+both_left : (a b : Bool) → (a && b) ≡ true → a ≡ true
+both_left true b h = refl
+both_left false b h = absurd cc
+
+both_right : (a b : Bool) → (a && b) ≡ true → b ≡ true
+both_right true b h = h
+both_right false b h = absurd cc
+
+neither_right : (a b : Bool) → (a || b) ≡ false → b ≡ false
+neither_right true b h = absurd cc
+neither_right false b h = h
+
+-- it has the next number, which isn't the last
+abbrev pub Draws : StreamValue → ℕ → Type 0
+Draws v number = (number ≡ v.next) × (v.next ≢ last_number)
+
+pub put_draws : (v : StreamValue) (clock sh number hash bytes : ℕ) → put_verdict v clock sh number hash bytes ≡ Ok tt → Draws v number
+put_draws v clock sh number hash bytes h =
+    let q = past (refusal.Throttled (home_in v hash)) (v.enforced && is_throttled (puts_in v.records (home_in v hash)) clock bytes) _ h in
+    let p = past refusal.Spent (v.next == last_number) _ q.1 in
+    (sym (equal_so v.next number (both_right _ _ (agrees_so _ p.1))), differ_so v.next last_number p.0)
+
+pub split_draws : (v : StreamValue) (clock sh at : ℕ) (full : Bool) (number low high : ℕ) → split_verdict v clock sh at full number low high ≡ Ok tt → (split_refusal v.tree sh at ≡ None) × Draws v number
+split_draws v clock sh at full number low high h =
+    let p = past refusal.NoShard (not (is_listed_in (Some v) clock sh)) _ h in
+    let q = past_by (split_refusal v.tree sh at) _ p.1 in
+    let r = past refusal.Full full _ q.1 in
+    let t = past refusal.Spent (is_spent v 1) _ r.1 in
+    (q.0, (equal_so number v.next (both_left _ _ (agrees_so _ t.1)), differ_so v.next last_number (neither_right _ _ t.0)))
+
+pub merge_draws : (v : StreamValue) (clock sh other number child : ℕ) → merge_verdict v clock sh other number child ≡ Ok tt → (merge_refusal v.tree sh other ≡ None) × Draws v number
+merge_draws v clock sh other number child h =
+    let p = past refusal.NoShard (not (is_listed_in (Some v) clock sh && is_listed_in (Some v) clock other)) _ h in
+    let q = past_by (merge_refusal v.tree sh other) _ p.1 in
+    let t = past refusal.Spent (is_spent v 0) _ q.1 in
+    (q.0, (equal_so number v.next (both_left _ _ (agrees_so _ t.1)), differ_so v.next last_number (neither_right _ _ t.0)))

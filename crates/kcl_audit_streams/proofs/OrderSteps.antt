@@ -1,0 +1,69 @@
+-- The order of the records: what a put does to it, and which of them stand below a position.
+use Rattle.std.proofs.Common.{◌≡◌, ℕ, zero, suc, ◌+◌, ◌-◌, ◌<◌, ◌≤◌, Bool, true, false, List, [], ◌∷◌, ◌++◌, length, get_or, drop, take, refl, sym, ap, ◌∙◌, arith, ltb-true}
+use Rattle.std.specs.Prelude.{nat_lt}
+use Rattle.std.specs.List.{AllByRecursion}
+use Rattle.std.specs.List.Sorted.{IsPartitionPoint}
+use Rattle.std.proofs.lemmas.Bool.Decides.{nat_tests}
+use Rattle.std.proofs.lemmas.List.{length-drop, take_all}
+use Rattle.std.proofs.lemmas.List.Sorted.{IsNonDecreasingBy-push}
+use Rattle.kds_defs.specs.Records.{is_left}
+use Rattle.kcl_audit_streams.specs.declared.records.Sized.{Sized}
+use Rattle.kcl_audit_streams.specs.Order.{AreNumbered}
+use Rattle.kcl_audit_streams.specs.Standing.{is_in, logged}
+use Rattle.kcl_audit_streams.proofs.BatchSteps.{left_in}
+
+-- ---- puts
+
+abbrev AreUnder : ℕ → List Sized → Type 0
+AreUnder next rs = AllByRecursion (λ (r : Sized). r.seq < next) rs
+
+under_more : (next : ℕ) (rs : List Sized) → AreUnder next rs → AreUnder (next + 1) rs
+under_more next [] h = tt
+under_more next (r ∷ rs) h = let one : r.seq < next = h.0 in (omega arith, under_more next rs h.1)
+
+under_put : (next : ℕ) (rs : List Sized) (x : Sized) → AreUnder next rs → x.seq < next → AreUnder next (rs ++ x ∷ [])
+under_put next [] x h lt = (lt, tt)
+under_put next (r ∷ rs) x h lt = (h.0, under_put next rs x h.1 lt)
+
+under_at : (next : ℕ) (rs : List Sized) (i : ℕ) (d : Sized) → AreUnder next rs → i < length rs → (get_or rs i d).seq < next
+under_at next [] i d h lt = absurd (omega arith)
+under_at next (r ∷ rs) zero d h lt = h.0
+under_at next (r ∷ rs) (suc i) d h lt = under_at next rs i d h.1 (omega arith)
+
+-- so they stay where a number is drawn
+pub numbered_more : (next : ℕ) (rs : List Sized) → AreNumbered next rs → AreNumbered (next + 1) rs
+numbered_more next rs h = (h.0, under_more next rs h.1)
+
+-- and where a record takes it
+pub numbered_put : (next : ℕ) (rs : List Sized) (x : Sized) → x.seq ≡ next → AreNumbered next rs → AreNumbered (next + 1) (rs ++ x ∷ [])
+numbered_put next rs x is h =
+    let last : (d : Sized) → 0 < length rs → (get_or rs (length rs - 1) d).seq ≤ x.seq =
+    λ d some. (let one = under_at next rs (length rs - 1) d h.1 (omega arith) in omega (arith, one, is)) in
+    (IsNonDecreasingBy-push (λ (r : Sized). r.seq) rs x h.0 last, under_put (next + 1) rs x (under_more next rs h.1) (omega (arith, is)))
+
+-- ---- positions
+
+below_not_left : (floor position : ℕ) (r : Sized) → r.seq < position → is_left floor position (logged r) ≡ false
+below_not_left floor position r h = grind (arith, nat_tests)
+
+-- a record below the position isn't left
+past_one : (sh floor position : ℕ) (x : Sized) (xs : List Sized) (b : Bool) → is_in sh x ≡ b → x.seq < position → left_in sh floor position (x ∷ xs) ≡ left_in sh floor position xs
+past_one sh floor position x xs true e lt = rw (e, below_not_left floor position x lt) refl
+past_one sh floor position x xs false e lt = rw e refl
+
+-- where those of so many are below the position, those behind them are all that are left
+pub left_behind : (sh floor position : ℕ) (xs : List Sized) (i : ℕ) → ((k : ℕ) (d : Sized) → k < i → k < length xs → (get_or xs k d).seq < position)
+    → left_in sh floor position (drop i xs) ≡ left_in sh floor position xs
+left_behind sh floor position xs zero h = refl
+left_behind sh floor position [] (suc i) h = refl
+left_behind sh floor position (x ∷ xs) (suc i) h =
+    left_behind sh floor position xs i (λ k d low lt. h (suc k) d (omega arith) (omega arith))
+    ∙ sym (past_one sh floor position x xs (is_in sh x) refl (h 0 x (omega arith) (omega arith)))
+
+-- so it is of the records behind those whose numbers are below the position
+pub left_from : (sh floor position : ℕ) (xs : List Sized) (i : ℕ) → IsPartitionPoint (λ (y : Sized). nat_lt y.seq position ≡ true) (λ (y : Sized). nat_lt y.seq position ≡ false) xs i
+    → left_in sh floor position (take (length xs - i) (drop i xs)) ≡ left_in sh floor position xs
+left_from sh floor position xs i point =
+    let all : length (drop i xs) ≤ length xs - i = (let e = length-drop i xs in omega (arith, e)) in
+    ap (left_in sh floor position) (take_all (length xs - i) (drop i xs) all)
+    ∙ left_behind sh floor position xs i (λ k d low lt. ltb-true _ _ (point.0 k d (omega arith) low))

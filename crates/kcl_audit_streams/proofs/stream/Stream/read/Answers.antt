@@ -1,0 +1,14 @@
+use Rattle.std.proofs.Common.{◌-◌, ◌^◌}
+use Rattle.kds_defs.specs.declared.limits.TheConstants.{BATCH_BYTES}
+use Rattle.kcl_audit_streams.proofs.BatchSteps.{batch_below}
+use Rattle.kcl_audit_streams.proofs.stream.Stream.read.Goals as goal
+
+pub place_after_numbers-place-requires : goal.place_after_numbers-place-requires
+place_after_numbers-place-requires c =
+    let a = c.args in
+    rw (c.as_slice.ensures, c.in_ok-numbers.ensures, c.from_position-ahead.ensures a.shard c.floor-floor.result, c.deref.ensures.value) (batch_below (2 ^ 64 - 1) a.shard c.floor-floor.result a.position a.limit BATCH_BYTES c.self.inside.records.items c.self.invariant.1.0)
+
+pub returns-clause-small : goal.returns-clause-small
+returns-clause-small c =
+    let a = c.args in
+    rw (c.in_ok-numbers.ensures, c.from_position-ahead.ensures a.shard c.floor-floor.result, c.deref.ensures.value) (batch_below (2 ^ 64 - 1) a.shard c.floor-floor.result a.position a.limit BATCH_BYTES c.self.inside.records.items c.self.invariant.1.0)

@@ -1,0 +1,166 @@
+-- What is judged of an entry of a stream, and kept of a good one, by what is known of the streams.
+use Rattle.std.specs.Prelude.{ℕ, zero, suc, ◌+◌, ◌-◌, ◌*◌, max, Bool, true, false, ◌==◌, ◌&&◌, ◌||◌, not, nat_le, nat_lt, if◌then◌else◌, List, [], ◌∷◌, ◌++◌, length, slice_get, Option, Some, None, Ok, Err}
+use Rattle.std.specs.List.{filter}
+use Rattle.kds_defs.specs.declared.command.Origin.{Origin}
+use Rattle.kds_defs.specs.declared.command.Origin.TheVariants as origin
+use Rattle.kds_defs.specs.declared.entry.Entry.{Entry}
+use Rattle.kds_defs.specs.declared.entry.Entry.TheVariants as entry
+use Rattle.kds_defs.specs.declared.limits.TheConstants.{FIRST_HOURS, HOUR, LIVE_STREAMS, OPEN_SHARDS}
+use Rattle.kds_defs.specs.declared.reply.Refusal.{Refusal}
+use Rattle.kds_defs.specs.declared.reply.Refusal.TheVariants as refusal
+use Rattle.kds_defs.specs.Rates.{is_throttled}
+use Rattle.kds_defs.specs.Listings.{are_none, is_closed_at}
+use Rattle.kds_defs.specs.Records.{Logged, first_at, left_among, place_after}
+use Rattle.kds_defs.specs.Shards.{home_among, is_open, made_shards, merged_shards, split_shards}
+use Rattle.kds_defs.specs.StreamCommands.{last_number}
+use Rattle.kds_defs.specs.Streams.{floor_at, same_name}
+use Rattle.kds_tree.specs.Tree.{merge_refusal, split_refusal}
+use Rattle.kcl_audit_streams.specs.declared.records.Sized.{Sized}
+use Rattle.kcl_audit_streams.specs.declared.rule.Rule.TheVariants as rule
+use Rattle.kcl_audit_streams.specs.Standing.{StreamValue, floor_in, is_listed_in, live_at, puts_in, records_in}
+use Rattle.kcl_audit_streams.specs.Verdict.{Verdict}
+
+-- refused with this
+abbrev pub refused : Refusal → Verdict
+refused r = Err (rule.By r)
+
+-- the entry is the one that its command gives
+abbrev pub agrees : Bool → Verdict
+agrees same = if same then Ok tt else Err rule.Entry
+
+abbrev pub refused_by : Option Refusal → Verdict → Verdict
+refused_by (Some r) next = refused r
+refused_by None next = next
+
+-- ---- one stream, which is live
+
+-- the open shard that covers a hash
+abbrev pub home_in : StreamValue → ℕ → ℕ
+home_in v hash = home_among (filter is_open v.tree) hash
+
+-- a put of so many bytes at a clock
+abbrev pub put_verdict : StreamValue → ℕ → ℕ → ℕ → ℕ → ℕ → Verdict
+put_verdict v clock sh number hash bytes =
+    if v.enforced && is_throttled (puts_in v.records (home_in v hash)) clock bytes then refused (refusal.Throttled (home_in v hash)) else
+    if v.next == last_number then refused refusal.Spent else
+    agrees ((home_in v hash == sh) && (v.next == number))
+
+-- its numbers, or those of its shards, are used up
+abbrev pub is_spent : StreamValue → ℕ → Bool
+is_spent v more = nat_lt last_number (length v.tree + more) || v.next == last_number
+
+abbrev pub split_verdict : StreamValue → ℕ → ℕ → ℕ → Bool → ℕ → ℕ → ℕ → Verdict
+split_verdict v clock sh at full number low high =
+    if not (is_listed_in (Some v) clock sh) then refused refusal.NoShard else
+    refused_by (split_refusal v.tree sh at) (
+    if full then refused refusal.Full else
+    if is_spent v 1 then refused refusal.Spent else
+    agrees ((number == v.next) && ((low == length v.tree) && (high == length v.tree + 1))))
+
+abbrev pub merge_verdict : StreamValue → ℕ → ℕ → ℕ → ℕ → ℕ → Verdict
+merge_verdict v clock sh other number child =
+    if not (is_listed_in (Some v) clock sh && is_listed_in (Some v) clock other) then refused refusal.NoShard else
+    refused_by (merge_refusal v.tree sh other) (
+    if is_spent v 0 then refused refusal.Spent else
+    agrees ((number == v.next) && (child == length v.tree)))
+
+-- what is left at a clock of a shard from a position on
+abbrev pub left_in : StreamValue → ℕ → ℕ → ℕ → List Logged
+left_in v clock sh position = left_among (floor_in v clock) position (records_in v.records sh)
+
+-- the shard is closed, and nothing of it is left after a batch of these numbers
+abbrev pub is_end_in : StreamValue → ℕ → ℕ → ℕ → List ℕ → Bool
+is_end_in v clock sh position numbers = is_closed_at (slice_get v.tree sh) && are_none (left_in v clock sh (place_after position numbers))
+
+-- the position where reading of a shard begins from an origin at a clock
+abbrev pub position_in : StreamValue → ℕ → ℕ → Origin → ℕ
+position_in v clock sh origin.TrimHorizon = 0
+position_in v clock sh origin.Latest = v.next
+position_in v clock sh (origin.Time moment) = first_at (left_in v clock sh 0) moment v.next
+
+-- ---- all streams
+
+abbrev pub is_named : List StreamValue → List ℕ → Bool
+is_named [] name = false
+is_named (v ∷ vs) name = (v.live && same_name v.name name) || is_named vs name
+
+abbrev pub live_count : List StreamValue → ℕ
+live_count [] = 0
+live_count (v ∷ vs) = (if v.live then 1 else 0) + live_count vs
+
+abbrev pub open_in : List StreamValue → ℕ
+open_in [] = 0
+open_in (v ∷ vs) = (if v.live then length (filter is_open v.tree) else 0) + open_in vs
+
+-- with so many shards more than may be open are
+abbrev pub lacks_room : List StreamValue → ℕ → Bool
+lacks_room vs more = nat_lt OPEN_SHARDS (open_in vs + more)
+
+-- why a stream of this name can't be made, if it can't
+abbrev pub made_refusal : List StreamValue → List ℕ → ℕ → Option Refusal
+made_refusal vs name count =
+    if is_named vs name then Some refusal.StreamThere else
+    if nat_le LIVE_STREAMS (live_count vs) || lacks_room vs count then Some refusal.Full else
+    if length vs == last_number then Some refusal.Spent else
+    None
+
+abbrev pub made_verdict : List StreamValue → ℕ → List ℕ → ℕ → Verdict
+made_verdict vs s name count = refused_by (made_refusal vs name count) (agrees (s == length vs + 1))
+
+abbrev pub in_live : Option StreamValue → (StreamValue → Verdict) → Verdict
+in_live None next = refused refusal.NoStream
+in_live (Some v) next = next v
+
+-- an entry of a stream at a clock
+abbrev pub stream_verdict : List StreamValue → ℕ → Entry → Verdict
+stream_verdict vs clock (entry.Made s name count) = made_verdict vs s name count
+stream_verdict vs clock (entry.Gone s) = in_live (live_at vs s) (λ v. Ok tt)
+stream_verdict vs clock (entry.Put s sh number hash bytes key_bytes) =
+    in_live (live_at vs s) (λ v. put_verdict v clock sh number hash (bytes + key_bytes))
+stream_verdict vs clock (entry.Split s sh at number low high) = in_live (live_at vs s) (λ v. split_verdict v clock sh at (lacks_room vs 1) number low high)
+stream_verdict vs clock (entry.Merged s sh other number child) = in_live (live_at vs s) (λ v. merge_verdict v clock sh other number child)
+stream_verdict vs clock (entry.Kept s hours) = in_live (live_at vs s) (λ v. Ok tt)
+stream_verdict vs clock (entry.Enforced s on) = in_live (live_at vs s) (λ v. Ok tt)
+stream_verdict vs clock _ = Ok tt
+
+-- ---- what is kept of a good entry
+
+abbrev pub new_stream : List ℕ → ℕ → StreamValue
+new_stream name count = record { name = name; live = true; enforced = false; hours = FIRST_HOURS; floor = 0; next = 1; tree = made_shards count 1; records = [] }
+
+abbrev pub with_put : Sized → StreamValue → StreamValue
+with_put r v = record v { next = v.next + 1; records = v.records ++ r ∷ [] }
+
+abbrev pub with_split : ℕ → ℕ → ℕ → ℕ → StreamValue → StreamValue
+with_split clock sh at number v = record v { next = v.next + 1; tree = split_shards sh at (record { number = number; clock = clock }) (number + 1) v.tree }
+
+abbrev pub with_merge : ℕ → ℕ → ℕ → ℕ → StreamValue → StreamValue
+with_merge clock sh other number v = record v { next = v.next + 1; tree = merged_shards sh other (record { number = number; clock = clock }) (number + 1) v.tree }
+
+-- both retentions trim
+abbrev pub with_hours : ℕ → ℕ → StreamValue → StreamValue
+with_hours clock hours v = record v { hours = hours; floor = max (floor_in v clock) (floor_at clock (hours * HOUR)) }
+
+abbrev pub with_limits : Bool → StreamValue → StreamValue
+with_limits on v = record v { enforced = on }
+
+abbrev pub with_gone : StreamValue → StreamValue
+with_gone v = record v { live = false }
+
+-- the streams with the one at a place changed
+abbrev pub changed_at : ℕ → (StreamValue → StreamValue) → List StreamValue → List StreamValue
+changed_at n f [] = []
+changed_at zero f (v ∷ vs) = f v ∷ vs
+changed_at (suc n) f (v ∷ vs) = v ∷ changed_at n f vs
+
+-- the streams after a good entry of one at a clock
+abbrev pub streams_after : ℕ → Entry → List StreamValue → List StreamValue
+streams_after clock (entry.Made s name count) vs = vs ++ new_stream name count ∷ []
+streams_after clock (entry.Gone s) vs = changed_at (s - 1) with_gone vs
+streams_after clock (entry.Put s sh number hash bytes key_bytes) vs =
+    changed_at (s - 1) (with_put (record { shard = sh; seq = number; arrival = clock; bytes = bytes + key_bytes })) vs
+streams_after clock (entry.Split s sh at number low high) vs = changed_at (s - 1) (with_split clock sh at number) vs
+streams_after clock (entry.Merged s sh other number child) vs = changed_at (s - 1) (with_merge clock sh other number) vs
+streams_after clock (entry.Kept s hours) vs = changed_at (s - 1) (with_hours clock hours) vs
+streams_after clock (entry.Enforced s on) vs = changed_at (s - 1) (with_limits on) vs
+streams_after clock _ vs = vs

@@ -1,0 +1,127 @@
+-- Which journals the streams that a judge knows stand for.
+use Rattle.std.specs.Prelude.{ℕ, ◌≡◌, ◌+◌, ◌*◌, ◌<◌, ◌≤◌, ◌==◌, ◌&&◌, max, zero, suc, Bool, true, false, not, if◌then◌else◌, List, [], ◌∷◌, length, map, slice_get, Option, Some, None}
+use Rattle.std.specs.List.{filter}
+use Rattle.kds_base.specs.declared.lease_key.ShardRef.{ShardRef}
+use Rattle.kds_defs.specs.declared.limits.TheConstants.{HOUR}
+use Rattle.kds_defs.specs.Journal.{Journal}
+use Rattle.kds_defs.specs.Legal.{last_clock}
+use Rattle.kds_defs.specs.PutCommands.{is_enforced}
+use Rattle.kds_defs.specs.Rates.{SizedPut, puts}
+use Rattle.kds_defs.specs.Records.{Logged, next_number, records}
+use Rattle.kds_defs.specs.Shards.{ShardState, is_closed_below, shards}
+use Rattle.kds_defs.specs.Streams.{floor_at, floor_of_lines, hours, is_live, made_count, name_of, trim_floor, was_made}
+use Rattle.kcl_audit_streams.specs.declared.records.Sized.{Sized}
+
+-- ---- one stream
+
+-- what is kept of a stream that was made: its name, whether it is live and its limits on throughput are on, its
+-- retention in hours, below what it was trimmed at changes of that, its next number, its shards, and its records
+pub record StreamValue : Type 0 where
+  pub name : List ℕ
+  pub live : Bool
+  pub enforced : Bool
+  pub hours : ℕ
+  pub floor : ℕ
+  pub next : ℕ
+  pub tree : List ShardState
+  pub records : List Sized
+
+-- a record without its key and payload
+abbrev pub bare : Logged → Logged
+bare r = record r { key = []; payload = [] }
+
+abbrev pub logged : Sized → Logged
+logged r = record { seq = r.seq; arrival = r.arrival; bytes = r.bytes; key = []; payload = [] }
+
+abbrev pub is_in : ℕ → Sized → Bool
+is_in sh r = r.shard == sh
+
+-- the records of a shard
+abbrev pub records_in : List Sized → ℕ → List Logged
+records_in rs sh = map logged (filter (is_in sh) rs)
+
+-- these puts, the newest first, and those of a shard after them
+abbrev pub puts_from : List SizedPut → List Sized → ℕ → List SizedPut
+puts_from before [] sh = before
+puts_from before (r ∷ rs) sh =
+    puts_from (if is_in sh r then record { clock = r.arrival; bytes = r.bytes } ∷ before else before) rs sh
+
+-- the puts of a shard, the newest first
+abbrev pub puts_in : List Sized → ℕ → List SizedPut
+puts_in rs sh = puts_from [] rs sh
+
+-- one above the cut at a clock
+abbrev pub floor_in : StreamValue → ℕ → ℕ
+floor_in v clock = max v.floor (floor_at clock (v.hours * HOUR))
+
+-- the stream's readings of the journal are its fields
+pub record IsStream (log : Journal) (s : ℕ) (v : StreamValue) : Type 0 where
+  pub was : was_made log s ≡ true
+  pub named : name_of log s ≡ v.name
+  pub lives : is_live log s ≡ v.live
+  pub lasts : hours log s ≡ v.hours
+  pub trims : (c : ℕ) → last_clock log ≤ c → trim_floor log c s ≡ floor_in v c
+  pub draws : next_number log s ≡ v.next
+  pub shards_are : shards log s ≡ v.tree
+  pub records_are : (sh : ℕ) → map bare (records log s sh) ≡ records_in v.records sh
+  pub limited : is_enforced log s ≡ v.enforced
+  pub puts_are : (sh : ℕ) → puts log s sh ≡ puts_in v.records sh
+
+-- ---- all streams
+
+-- so are the readings of these, whose numbers go on from n
+abbrev pub AreStreams : Journal → ℕ → List StreamValue → Type 0
+AreStreams log n [] = Unit {0}
+AreStreams log n (v ∷ vs) = IsStream log n v × AreStreams log (n + 1) vs
+
+-- no line of the journal speaks of this stream
+pub record IsUnmade (log : Journal) (s : ℕ) : Type 0 where
+  pub unmade : was_made log s ≡ false
+  pub gone : is_live log s ≡ false
+  pub undrawn : next_number log s ≡ 1
+  pub no_floor : floor_of_lines log s ≡ 0
+  pub no_shards : shards log s ≡ []
+  pub no_records : (sh : ℕ) → records log s sh ≡ []
+  pub unlimited : is_enforced log s ≡ false
+  pub no_puts : (sh : ℕ) → puts log s sh ≡ []
+
+pub record ShowsAll (vs : List StreamValue) (log : Journal) : Type 0 where
+  pub made : made_count log ≡ length vs
+  pub streams : AreStreams log 1 vs
+  pub others : (s : ℕ) → length vs < s → IsUnmade log s
+  pub none : IsUnmade log 0
+
+-- the streams at a clock that isn't below the journal's
+pub record StreamsValue : Type 0 where
+  pub clock : ℕ
+  pub streams : List StreamValue
+
+pub record Shows (w : StreamsValue) (log : Journal) : Type 0 where
+  pub all : ShowsAll w.streams log
+  pub order : last_clock log ≤ w.clock
+
+-- ---- listed shards
+
+-- the stream of a number
+abbrev pub stream_at : List StreamValue → ℕ → Option StreamValue
+stream_at vs zero = None
+stream_at vs (suc n) = slice_get vs n
+
+abbrev pub if_live : Option StreamValue → Option StreamValue
+if_live None = None
+if_live (Some v) = if v.live then Some v else None
+
+-- the stream of a number, where it is live
+abbrev pub live_at : List StreamValue → ℕ → Option StreamValue
+live_at vs s = if_live (stream_at vs s)
+
+abbrev pub is_listed_of : ℕ → Option ShardState → Bool
+is_listed_of floor None = false
+is_listed_of floor (Some x) = not (is_closed_below floor x)
+
+abbrev pub is_listed_in : Option StreamValue → ℕ → ℕ → Bool
+is_listed_in None clock sh = false
+is_listed_in (Some v) clock sh = v.live && is_listed_of (floor_in v clock) (slice_get v.tree sh)
+
+abbrev pub lists : StreamsValue → ShardRef → Bool
+lists w key = is_listed_in (live_at w.streams key.stream) w.clock key.shard

@@ -1,0 +1,126 @@
+//! The records of a stream, as a judge keeps them.
+ghost use Rattle.std.specs.Prelude.{ℕ, ◌≡◌, ◌==◌, ◌&&◌, IfOk};
+ghost use Rattle.std.specs.List.Sorted.{IsNonDecreasingBy};
+ghost use Rattle.kds_defs.specs.Rates.{is_same_second, is_throttled, is_too_much};
+ghost use Rattle.kds_defs.specs.declared.limits.TheConstants.{BATCH_BYTES};
+ghost use Rattle.kds_defs.specs.Listings.{are_none};
+ghost use Rattle.kds_defs.specs.Records.{beginning, first_at, is_left, left_among, numbers_of};
+ghost use Rattle.kcl_audit_streams.specs.Standing.{logged, puts_in, records_in};
+
+use kds_base::{Items, Memory, Moment, Seq, ShardNo};
+use kds_defs::limits::{BATCH_BYTES, SECOND, SECOND_BYTES, SECOND_RECORDS};
+use std::alloc::Global;
+
+/// A record without its key and payload: its shard, its number, when it arrived, and the bytes of its payload and key.
+#[derive(Clone, Copy, Debug, PartialEq, Eq)]
+pub struct Sized {
+    pub shard: ShardNo,
+    pub seq: Seq,
+    pub arrival: Moment,
+    pub bytes: u64,
+}
+
+/// Whether a record is one of the shard, isn't trimmed, and lies at or above the position.
+fn is_left(item: &Sized, shard: ShardNo, floor: u64, position: u64) -> bool
+    ensures { result ≡ (item.now.shard == shard && is_left floor position (logged item.now)) }
+{
+    item.shard == shard && item.arrival.ms() >= floor && item.seq.0 >= position
+}
+
+/// The records from the first whose number is at or above the position on. Their numbers don't fall.
+pub fn from_position(records: &[Sized], position: u64) -> &[Sized]
+    requires { IsNonDecreasingBy (λ r. r.seq) records.now }
+    ensures { (shard floor : ℕ) → left_among floor position (records_in result.now shard) ≡ left_among floor position (records_in records.now shard) }
+{
+    let start = records.partition_point(|item| item.seq.0 < position);
+    &records[start..]
+}
+
+/// The numbers of a batch of a shard at a position (Kinesis API Reference, GetRecords).
+pub fn batch(
+    alloc: Global,
+    records: &[Sized],
+    shard: ShardNo,
+    floor: u64,
+    position: u64,
+    limit: u32,
+) -> Result<Items<Seq>, Memory>
+    ensures { IfOk result (λ ns. ns ≡ numbers_of (beginning limit BATCH_BYTES (left_among floor position (records_in records.now shard)))) }
+{
+    let mut numbers = Items::new(alloc);
+    let mut left = limit;
+    let mut room = BATCH_BYTES;
+    for item in records {
+        if !is_left(item, shard, floor, position) {
+            continue;
+        }
+        if left == 0 || item.bytes > room {
+            return Ok(numbers);
+        }
+        numbers.push(item.seq)?;
+        left -= 1;
+        room -= item.bytes;
+    }
+    Ok(numbers)
+}
+
+/// Whether no record of a shard is left at or above a position.
+pub fn none_left(records: &[Sized], shard: ShardNo, floor: u64, position: u64) -> bool
+    ensures { result ≡ are_none (left_among floor position (records_in records.now shard)) }
+{
+    for item in records {
+        if is_left(item, shard, floor, position) {
+            return false;
+        }
+    }
+    true
+}
+
+/// The number of the first record of a shard, of those that aren't trimmed, that arrived at or after a moment; and
+/// another number where there is none (Kinesis API Reference, GetShardIterator, AT_TIMESTAMP).
+pub fn first_since(
+    records: &[Sized],
+    shard: ShardNo,
+    floor: u64,
+    moment: Moment,
+    otherwise: u64,
+) -> u64
+    ensures { result ≡ first_at (left_among floor 0 (records_in records.now shard)) moment otherwise }
+{
+    for item in records {
+        if is_left(item, shard, floor, 0) && item.arrival >= moment {
+            return item.seq.0;
+        }
+    }
+    otherwise
+}
+
+/// Whether both moments lie in one second.
+fn is_same_second(one: Moment, other: Moment) -> bool
+    ensures { result ≡ is_same_second one other }
+{
+    one.ms() / SECOND == other.ms() / SECOND
+}
+
+/// Whether so many bytes more are too much for a second in which so many records and bytes were taken.
+fn is_too_much(records: u64, held: u64, bytes: u64) -> bool
+    ensures { result ≡ is_too_much records held bytes }
+{
+    records >= SECOND_RECORDS || (records > 0 && held.saturating_add(bytes) > SECOND_BYTES)
+}
+
+/// Whether a shard takes no record of so many payload and key bytes at a clock (Kinesis API Reference,
+/// ProvisionedThroughputExceededException).
+pub fn is_throttled(records: &[Sized], shard: ShardNo, clock: Moment, bytes: u64) -> bool
+    ensures { result ≡ is_throttled (puts_in records.now shard) clock bytes }
+{
+    let mut count = 0;
+    let mut held: u64 = 0;
+    for item in records {
+        if item.shard == shard && is_same_second(item.arrival, clock) {
+            count += 1;
+            held = held.saturating_add(item.bytes);
+        }
+    }
+    is_too_much(count, held, bytes)
+}

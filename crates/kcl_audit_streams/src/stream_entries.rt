@@ -1,0 +1,227 @@
+//! The entries of streams, judged and added.
+ghost use Rattle.std.specs.Prelude.{ℕ, Bool, ◌≡◌, ◌≤◌, ◌-◌, ◌∷◌, ◌++◌, [], None, Some, Ok, IfErr, IfOk, OnErr, OnOk};
+ghost use Rattle.kds_defs.specs.declared.limits.TheConstants.{MOST_SHARDS};
+ghost use Rattle.kds_defs.specs.declared.reply.Refusal.TheVariants as refusal;
+ghost use Rattle.kcl_audit_streams.specs.declared.rule.Rule.TheVariants as rule;
+ghost use Rattle.kcl_audit_streams.specs.Verdict.{IsFit};
+ghost use Rattle.kcl_audit_streams.specs.Judging.{changed_at, in_live, lacks_room, made_verdict, merge_verdict, new_stream, put_verdict, split_verdict, stream_verdict, streams_after, with_gone, with_hours, with_limits, with_merge, with_put, with_split};
+ghost use Rattle.kcl_audit_streams.specs.Standing.{live_at};
+
+use crate::rule::Rule;
+use crate::stream::{Stream, agrees, refused};
+use crate::streams::{lacks_room, live, made_refusal};
+use kds_base::{Memory, Moment, Name, Seq, ShardNo, StreamNo};
+use kds_defs::{Entry, Refusal};
+use std::alloc::Global;
+
+/// Whether the making of a stream is good.
+fn judge_made(streams: &[Stream], no: StreamNo, name: &Name, shards: u32) -> Result<(), Rule>
+    requires { shards ≤ MOST_SHARDS }
+    ensures { result ≡ made_verdict streams.now no name.now shards }
+{
+    match made_refusal(streams, name, shards) {
+        Some(refusal) => refused(refusal),
+        None => agrees(no.0 == streams.len() as u64 + 1),
+    }
+}
+
+/// The live stream of a number, or the rule that an entry of it breaks.
+fn in_stream(streams: &[Stream], no: StreamNo) -> Result<&Stream, Rule>
+    ensures some { IfOk result (λ x. live_at streams.now no ≡ Some x.now) }
+    ensures none { IfErr result (λ r. (r ≡ rule.By refusal.NoStream) × (live_at streams.now no ≡ None)) }
+{
+    match live(streams, no) {
+        Some(stream) => Ok(stream),
+        None => Err(Rule::By(Refusal::NoStream)),
+    }
+}
+
+/// Whether a split of a shard of a live stream is good at a clock.
+fn judge_split(
+    streams: &[Stream],
+    clock: Moment,
+    no: StreamNo,
+    shard: ShardNo,
+    at: u128,
+    seq: Seq,
+    low: ShardNo,
+    high: ShardNo,
+) -> Result<(), Rule>
+    ensures { result ≡ in_live (live_at streams.now no) (λ v. split_verdict v clock shard at (lacks_room streams.now 1) seq low high) }
+{
+    let stream = in_stream(streams, no)?;
+    stream.judge_split(clock, shard, at, lacks_room(streams, 1), seq, low, high)
+}
+
+/// Whether an entry of a stream is good at a clock.
+pub fn judge(streams: &[Stream], clock: Moment, what: &Entry) -> Result<(), Rule>
+    requires { IsFit what.now }
+    ensures { result ≡ stream_verdict streams.now clock what.now }
+{
+    match what {
+        Entry::Made {
+            stream,
+            name,
+            shards,
+        } => judge_made(streams, *stream, name, *shards),
+        Entry::Gone { stream } => in_stream(streams, *stream).map(|_| ()),
+        Entry::Put {
+            stream,
+            shard,
+            seq,
+            hash,
+            bytes,
+            key_bytes,
+        } => {
+            let size = *bytes + *key_bytes;
+            in_stream(streams, *stream)?.judge_put(clock, *shard, *seq, *hash, size)
+        }
+        Entry::Split {
+            stream,
+            shard,
+            at,
+            seq,
+            low,
+            high,
+        } => judge_split(streams, clock, *stream, *shard, *at, *seq, *low, *high),
+        Entry::Merged {
+            stream,
+            shard,
+            other,
+            seq,
+            child,
+        } => in_stream(streams, *stream)?.judge_merge(clock, *shard, *other, *seq, *child),
+        Entry::Kept { stream, hours: _ } => in_stream(streams, *stream).map(|_| ()),
+        Entry::Enforced { stream, on: _ } => in_stream(streams, *stream).map(|_| ()),
+        _ => Ok(()),
+    }
+}
+
+/// Adds a stream as it is made.
+fn add_made(alloc: Global, streams: &mut Vec<Stream>, name: Name, shards: u32) -> Result<(), Memory>
+    requires least { 1 ≤ shards }
+    requires most { shards ≤ MOST_SHARDS }
+    ensures ok { OnOk result (streams.new.items ≡ streams.old.items ++ new_stream name shards ∷ []) }
+    ensures err { OnErr result (streams.new.items ≡ streams.old.items) }
+{
+    let stream = Stream::new(alloc, name, shards)?;
+    streams.push(stream)?;
+    Ok(())
+}
+
+/// After the deletion of a live stream.
+fn add_gone(streams: &mut Vec<Stream>, no: StreamNo)
+    requires { in_live (live_at streams.old.items no) (λ v. Ok tt) ≡ Ok tt }
+    ensures { streams.new.items ≡ changed_at (no - 1) with_gone streams.old.items }
+{
+    streams[(no.0 - 1) as usize].add_gone();
+}
+
+/// After a change of the retention of a live stream.
+fn add_kept(streams: &mut Vec<Stream>, clock: Moment, no: StreamNo, hours: u32)
+    requires { in_live (live_at streams.old.items no) (λ v. Ok tt) ≡ Ok tt }
+    ensures { streams.new.items ≡ changed_at (no - 1) (with_hours clock hours) streams.old.items }
+{
+    streams[(no.0 - 1) as usize].add_kept(clock, hours);
+}
+
+/// After the limits of a live stream were turned on or off.
+fn add_limits(streams: &mut Vec<Stream>, no: StreamNo, on: bool)
+    requires { in_live (live_at streams.old.items no) (λ v. Ok tt) ≡ Ok tt }
+    ensures { streams.new.items ≡ changed_at (no - 1) (with_limits on) streams.old.items }
+{
+    streams[(no.0 - 1) as usize].add_limits(on);
+}
+
+/// After a good put.
+fn add_put(
+    streams: &mut Vec<Stream>,
+    clock: Moment,
+    no: StreamNo,
+    shard: ShardNo,
+    seq: Seq,
+    bytes: u64,
+) -> Result<(), Memory>
+    requires { (hash : ℕ) × (in_live (live_at streams.old.items no) (λ v. put_verdict v clock shard seq hash bytes) ≡ Ok tt) }
+    ensures ok { OnOk result (streams.new.items ≡ changed_at (no - 1) (with_put (record { shard = shard; seq = seq; arrival = clock; bytes = bytes })) streams.old.items) }
+    ensures err { OnErr result (streams.new.items ≡ streams.old.items) }
+{
+    streams[(no.0 - 1) as usize].add_put(clock, shard, seq, bytes)
+}
+
+/// After a good split.
+fn add_split(
+    streams: &mut Vec<Stream>,
+    clock: Moment,
+    no: StreamNo,
+    shard: ShardNo,
+    at: u128,
+    seq: Seq,
+) -> Result<(), Memory>
+    requires { (full : Bool) × ((low : ℕ) × ((high : ℕ) × (in_live (live_at streams.old.items no) (λ v. split_verdict v clock shard at full seq low high) ≡ Ok tt))) }
+    ensures ok { OnOk result (streams.new.items ≡ changed_at (no - 1) (with_split clock shard at seq) streams.old.items) }
+    ensures err { OnErr result (streams.new.items ≡ streams.old.items) }
+{
+    streams[(no.0 - 1) as usize].add_split(clock, shard, at, seq)
+}
+
+/// After a good merge.
+fn add_merge(
+    streams: &mut Vec<Stream>,
+    clock: Moment,
+    no: StreamNo,
+    shard: ShardNo,
+    other: ShardNo,
+    seq: Seq,
+) -> Result<(), Memory>
+    requires { (child : ℕ) × (in_live (live_at streams.old.items no) (λ v. merge_verdict v clock shard other seq child) ≡ Ok tt) }
+    ensures ok { OnOk result (streams.new.items ≡ changed_at (no - 1) (with_merge clock shard other seq) streams.old.items) }
+    ensures err { OnErr result (streams.new.items ≡ streams.old.items) }
+{
+    streams[(no.0 - 1) as usize].add_merge(clock, shard, other, seq)
+}
+
+/// Adds a good entry of a stream at a clock. After `Memory` the streams are as before.
+pub fn add(
+    alloc: Global,
+    streams: &mut Vec<Stream>,
+    clock: Moment,
+    what: Entry,
+) -> Result<(), Memory>
+    requires told { IsFit what }
+    requires good { stream_verdict streams.old.items clock what ≡ Ok tt }
+    ensures ok { OnOk result (streams.new.items ≡ streams_after clock what streams.old.items) }
+    ensures err { OnErr result (streams.new.items ≡ streams.old.items) }
+{
+    match what {
+        Entry::Made { name, shards, .. } => add_made(alloc, streams, name, shards)?,
+        Entry::Gone { stream } => add_gone(streams, stream),
+        Entry::Put {
+            stream,
+            shard,
+            seq,
+            hash: _,
+            bytes,
+            key_bytes,
+        } => add_put(streams, clock, stream, shard, seq, bytes + key_bytes)?,
+        Entry::Split {
+            stream,
+            shard,
+            at,
+            seq,
+            low: _,
+            high: _,
+        } => add_split(streams, clock, stream, shard, at, seq)?,
+        Entry::Merged {
+            stream,
+            shard,
+            other,
+            seq,
+            child: _,
+        } => add_merge(streams, clock, stream, shard, other, seq)?,
+        Entry::Kept { stream, hours } => add_kept(streams, clock, stream, hours),
+        Entry::Enforced { stream, on } => add_limits(streams, stream, on),
+        _ => (),
+    }
+    Ok(())
+}

@@ -1,0 +1,139 @@
+//! The streams, as a judge keeps them.
+ghost use Rattle.std.specs.Prelude.{◌≡◌, ◌≤◌, if◌then◌else◌, None, Some};
+ghost use Rattle.std.specs.Option.{option_map};
+ghost use Rattle.kds_defs.specs.declared.limits.TheConstants.{MOST_SHARDS, OPEN_SHARDS};
+ghost use Rattle.kcl_audit_streams.specs.Standing.{is_listed_in, live_at};
+ghost use Rattle.kcl_audit_streams.specs.Judging.{is_named, lacks_room, live_count, made_refusal};
+
+use crate::stream::Stream;
+use kcl_leases::Shards;
+use kds_base::{Moment, Name, ShardRef, StreamNo};
+use kds_defs::limits::{LIVE_STREAMS, OPEN_SHARDS};
+use kds_defs::{Origin, Refusal, Shard};
+use std::marker::Model;
+
+/// Every stream that was made, in the order of their numbers, which begin with 1, at a clock.
+#[derive(Drop)]
+pub struct Streams {
+    pub clock: Moment,
+    pub list: Vec<Stream>,
+}
+
+impl Model for Streams {
+    ghost use Rattle.kcl_audit_streams.specs.Standing.{StreamsValue};
+
+    ghost Value = { StreamsValue };
+
+    ghost view = { λ s. record { clock = s.clock; streams = s.list.items } };
+}
+
+/// The stream of a number, if it is live.
+pub fn live(streams: &[Stream], no: StreamNo) -> Option<&Stream>
+    ensures { option_map (λ x. x.now) result ≡ live_at streams.now no }
+{
+    let place = no.0.checked_sub(1)?;
+    if place < streams.len() as u64 && streams[place as usize].is_live() {
+        Some(&streams[place as usize])
+    } else {
+        None
+    }
+}
+
+/// Whether a live stream has the name.
+pub fn is_named(streams: &[Stream], name: &Name) -> bool
+    ensures { result ≡ is_named streams.now name.now }
+{
+    for stream in streams {
+        if stream.live && stream.name == *name {
+            return true;
+        }
+    }
+    false
+}
+
+/// How many streams are live.
+pub fn live_count(streams: &[Stream]) -> u64
+    ensures { result ≡ live_count streams.now }
+{
+    let mut count = 0;
+    for stream in streams {
+        if stream.live {
+            count += 1;
+        }
+    }
+    count
+}
+
+/// Whether fewer shards than this are left of those that may be open.
+pub fn lacks_room(streams: &[Stream], more: u64) -> bool
+    requires { more ≤ OPEN_SHARDS }
+    ensures { result ≡ lacks_room streams.now more }
+{
+    let mut open = more;
+    for stream in streams {
+        if stream.live {
+            open += stream.tree.open_count() as u64;
+        }
+        if open > OPEN_SHARDS {
+            return true;
+        }
+    }
+    open > OPEN_SHARDS
+}
+
+/// Why a stream of so many shards can't be made, if it can't.
+pub fn made_refusal(streams: &[Stream], name: &Name, shards: u32) -> Option<Refusal>
+    requires { shards ≤ MOST_SHARDS }
+    ensures { result ≡ made_refusal streams.now name.now shards }
+{
+    if is_named(streams, name) {
+        return Some(Refusal::StreamThere);
+    }
+    if live_count(streams) >= LIVE_STREAMS || lacks_room(streams, shards as u64) {
+        return Some(Refusal::Full);
+    }
+    if streams.len() as u64 == u64::MAX {
+        return Some(Refusal::Spent);
+    }
+    None
+}
+
+/// Whether the shard of a key is listed at a clock.
+fn is_listed(streams: &[Stream], clock: Moment, key: ShardRef) -> bool
+    ensures { result ≡ is_listed_in (live_at streams.now key.stream) clock key.shard }
+{
+    match live(streams, key.stream) {
+        Some(stream) => stream.is_listed(clock, key.shard),
+        None => false,
+    }
+}
+
+impl Shards for Streams {
+    ghost use Rattle.kcl_audit_streams.specs.Standing.{Shows, lists};
+
+    ghost clock = { λ s. s.clock };
+
+    ghost shows = { Shows };
+
+    ghost lists = { lists };
+
+    fn is_listed(&self, key: ShardRef) -> bool {
+        is_listed(&self.list, self.clock, key)
+    }
+
+    fn shard(&self, key: ShardRef) -> Option<&Shard> {
+        match live(&self.list, key.stream) {
+            Some(stream) => stream.shard(key.shard),
+            None => None,
+        }
+    }
+
+    fn position(&self, key: ShardRef, from: Origin) -> u64 {
+        match live(&self.list, key.stream) {
+            Some(stream) => stream.position(self.clock, key.shard, from),
+            None => unreachable!(),
+        }
+    }
+
+    fn lease_lines(&self) {}
+}

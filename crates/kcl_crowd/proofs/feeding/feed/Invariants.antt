@@ -1,9 +1,0 @@
-use Rattle.std.proofs.Common.{length}
-use Rattle.kcl_crowd.proofs.Feeds.{IsFeeding}
-use Rattle.kcl_crowd.proofs.feeding.feed.Given as goal
-
-abbrev pub invariant-loop-error : goal.invariant-loop-error
-invariant-loop-error g l = IsFeeding l.fn.generator l.generator l.fn.feeder l.feeder
-
-abbrev pub decreases-loop-error : goal.decreases-loop-error
-decreases-loop-error g l = length l.generator

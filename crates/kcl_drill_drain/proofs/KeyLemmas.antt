@@ -1,0 +1,251 @@
+-- The listed keys: each is of a made shard, none stands twice, the shards before one in its stream stand before it, and no
+-- shard is missing.
+use Rattle.std.proofs.Common.{◌≡◌, ℕ, zero, suc, ◌+◌, ◌<◌, ◌≤◌, Bool, true, false, List, [], ◌∷◌, ◌++◌, length, Some, refl, sym, ap, subst, ◌∙◌, arith, inl, inr}
+use Rattle.std.specs.Prelude.{◌==◌, ◌&&◌, ◌⊎◌, cond, not, slice_get, if◌then◌else◌}
+use Rattle.std.specs.List.{AllByRecursion, filter}
+use Rattle.std.proofs.lemmas.Bool.Decides.{nat_tests}
+use Rattle.kds_base.specs.declared.lease_key.ShardRef.{ShardRef}
+use Rattle.kds_defs.specs.Journal.{Journal}
+use Rattle.kds_defs.specs.Keys.{ref, same_key}
+use Rattle.kds_defs.specs.Listings.{listed_in, refs_of}
+use Rattle.kds_defs.specs.Shards.{ShardState, is_closed_below, listed_among, listed_shards, shard_at, shards}
+use Rattle.kds_defs.specs.Streams.{is_live, numbers_from, trim_floor}
+use Rattle.kds_defs.specs.Tiled.{AreNumbered}
+use Rattle.kcl_drill_drain.specs.Draining.{IsWhole}
+
+-- ---- places in joined lists
+
+Place : {A : Type 0} → List A → List A → ℕ → A → Type 0
+Place xs ys i x = ((i < length xs) × (slice_get xs i ≡ Some x)) ⊎ ((j : ℕ) × (i ≡ length xs + j) × (slice_get ys j ≡ Some x))
+
+place_next : {A : Type 0} (y x : A) (xs ys : List A) (i : ℕ) → Place xs ys i x → Place (y ∷ xs) ys (suc i) x
+unfolding Place
+place_next y x xs ys i (inl at) = inl (omega (arith, at.0), at.1)
+place_next y x xs ys i (inr at) = inr (at.0, omega (arith, at.1), at.2)
+
+place : {A : Type 0} (xs ys : List A) (i : ℕ) (x : A) → slice_get (xs ++ ys) i ≡ Some x → Place xs ys i x
+unfolding Place
+place [] ys i x is = inr (i, omega arith, is)
+place (y ∷ xs) ys zero x is = inl (omega arith, is)
+place (y ∷ xs) ys (suc i) x is = place_next y x xs ys i (place xs ys i x is)
+
+in_left : {A : Type 0} (xs ys : List A) (i : ℕ) (x : A) → slice_get xs i ≡ Some x → slice_get (xs ++ ys) i ≡ Some x
+in_left [] ys i x is = absurd cc
+in_left (y ∷ xs) ys zero x is = is
+in_left (y ∷ xs) ys (suc i) x is = in_left xs ys i x is
+
+in_right : {A : Type 0} (xs ys : List A) (j : ℕ) (x : A) → slice_get ys j ≡ Some x → (i : ℕ) × (i ≡ length xs + j) × (slice_get (xs ++ ys) i ≡ Some x)
+in_right [] ys j x is = (j, omega arith, is)
+in_right (y ∷ xs) ys j x is = let rest = in_right xs ys j x is in (suc rest.0, omega (arith, rest.1), rest.2)
+
+-- ---- the keys of one stream
+
+record IsRef (s n i : ℕ) (xs : List ShardState) (key : ShardRef) : Type 0 where
+  stream : key.stream ≡ s
+  shard : key.shard ≡ n + i
+  state : ShardState
+  there : slice_get xs i ≡ Some state
+
+same_some : {A : Type 0} (x y : A) → Some x ≡ Some y → x ≡ y
+same_some x y h = cc
+
+ref_next : (s n i : ℕ) (x : ShardState) (xs : List ShardState) (key : ShardRef) → IsRef s (n + 1) i xs key → IsRef s n (suc i) (x ∷ xs) key
+ref_next s n i x xs key at = record { stream = at.stream; shard = omega (arith, at.shard); state = at.state; there = at.there }
+
+ref_at : (s n i : ℕ) (xs : List ShardState) (key : ShardRef) → AreNumbered n xs → slice_get (refs_of s xs) i ≡ Some key → IsRef s n i xs key
+ref_at s n i [] key numbers is = absurd cc
+ref_at s n zero (x ∷ xs) key numbers is =
+    let e = same_some (ref s x.no) key is in
+    record { stream = ap (λ (k : ShardRef). k.stream) (sym e); shard = plus key.shard (ap (λ (k : ShardRef). k.shard) (sym e) ∙ numbers.0); state = x; there = refl }
+  where
+    plus : (m : ℕ) → m ≡ n → m ≡ n + 0
+    plus m is = omega (arith, is)
+ref_at s n (suc i) (x ∷ xs) key numbers is = ref_next s n i x xs key (ref_at s (n + 1) i xs key numbers.1 is)
+
+at_ref : (s n i : ℕ) (xs : List ShardState) (x : ShardState) → AreNumbered n xs → slice_get xs i ≡ Some x → slice_get (refs_of s xs) i ≡ Some (ref s (n + i))
+at_ref s n i [] x numbers is = absurd cc
+at_ref s n zero (y ∷ xs) x numbers is = let e : y.no ≡ n + 0 = omega (arith, numbers.0) in ap (λ m. Some (ref s m)) e
+at_ref s n (suc i) (y ∷ xs) x numbers is = let e : n + 1 + i ≡ n + suc i = omega arith in at_ref s (n + 1) i xs x numbers.1 is ∙ ap (λ m. Some (ref s m)) e
+
+length_refs : (s : ℕ) (xs : List ShardState) → length (refs_of s xs) ≡ length xs
+length_refs s [] = refl
+length_refs s (x ∷ xs) = ap suc (length_refs s xs)
+
+below_there : (p i : ℕ) (xs : List ShardState) (x : ShardState) → p < i → slice_get xs i ≡ Some x → (y : ShardState) × (slice_get xs p ≡ Some y)
+below_there p i [] x below is = absurd cc
+below_there p zero (y ∷ xs) x below is = absurd (omega (arith, below))
+below_there zero (suc i) (y ∷ xs) x below is = (y, refl)
+below_there (suc p) (suc i) (y ∷ xs) x below is = below_there p i xs x (omega (arith, below)) is
+
+-- ---- the keys of streams
+
+abbrev pub keys_in : Journal → List ℕ → List ShardRef
+keys_in log [] = []
+keys_in log (s ∷ ss) = refs_of s (shards log s) ++ keys_in log ss
+
+abbrev pub AreLive : Journal → List ℕ → Type 0
+AreLive log ss = AllByRecursion (λ s. is_live log s ≡ true) ss
+
+all_listed : (floor : ℕ) (xs : List ShardState) → AllByRecursion (λ (x : ShardState). is_closed_below floor x ≡ false) xs → listed_among floor xs ≡ xs
+all_listed floor [] are = refl
+all_listed floor (x ∷ xs) are =
+    ap (λ b. cond (not b) (x ∷ listed_among floor xs) (listed_among floor xs)) are.0 ∙ ap (λ ys. x ∷ ys) (all_listed floor xs are.1)
+
+pub listed_whole : (log : Journal) (c s : ℕ) → is_live log s ≡ true → IsWhole log c s → listed_shards log c s ≡ shards log s
+listed_whole log c s live whole =
+    ap (λ b. if b then listed_among (trim_floor log c s) (shards log s) else []) live ∙ all_listed (trim_floor log c s) (shards log s) whole.listed
+
+pub keys_same : (log : Journal) (c : ℕ) (ss : List ℕ) → ((s : ℕ) → is_live log s ≡ true → IsWhole log c s) → AreLive log ss → listed_in log c ss ≡ keys_in log ss
+keys_same log c [] whole live = refl
+keys_same log c (s ∷ ss) whole live =
+    ap (λ xs. refs_of s xs ++ listed_in log c ss) (listed_whole log c s live.0 (whole s live.0)) ∙ ap (λ ks. refs_of s (shards log s) ++ ks) (keys_same log c ss whole live.1)
+
+pub filtered : (p : ℕ → Bool) (ns : List ℕ) → AllByRecursion (λ n. p n ≡ true) (filter p ns)
+filtered p [] = tt
+filtered p (n ∷ ns) = either (p n) refl (filtered p ns)
+  where
+    either : (b : Bool) → p n ≡ b → AllByRecursion (λ n. p n ≡ true) (filter p ns) → AllByRecursion (λ n. p n ≡ true) (cond b (n ∷ filter p ns) (filter p ns))
+    either true is rest = (is, rest)
+    either false is rest = rest
+
+-- the numbers rise
+pub IsUp : ℕ → List ℕ → Type 0
+IsUp n [] = Unit {0}
+IsUp n (s ∷ ss) = (n ≤ s) × IsUp (s + 1) ss
+
+up_weaker : (n m : ℕ) (ss : List ℕ) → n ≤ m → IsUp m ss → IsUp n ss
+unfolding IsUp
+up_weaker n m [] le up = tt
+up_weaker n m (s ∷ ss) le up = (omega (arith, le, up.0), up.1)
+
+pub up_numbers : (p : ℕ → Bool) (n count : ℕ) → IsUp n (filter p (numbers_from n count))
+unfolding IsUp
+up_numbers p n zero = tt
+up_numbers p n (suc count) = either (p n) (up_numbers p (n + 1) count)
+  where
+    either : (b : Bool) → IsUp (n + 1) (filter p (numbers_from (n + 1) count)) → IsUp n (cond b (n ∷ filter p (numbers_from (n + 1) count)) (filter p (numbers_from (n + 1) count)))
+    either true rest = (omega arith, rest)
+    either false rest = up_weaker n (n + 1) (filter p (numbers_from (n + 1) count)) (omega arith) rest
+
+-- ---- a key among them
+
+pub record IsKeyOf (log : Journal) (key : ShardRef) : Type 0 where
+  pub live : is_live log key.stream ≡ true
+  pub state : ShardState
+  pub there : shard_at log key.stream key.shard ≡ Some state
+
+module _ (log : Journal) (numbered : (s : ℕ) → AreNumbered 0 (shards log s)) where
+  of_ref : (s i : ℕ) (key : ShardRef) → is_live log s ≡ true → IsRef s 0 i (shards log s) key → IsKeyOf log key
+  of_ref s i key live at =
+      let i_is : key.shard ≡ i = omega (arith, at.shard) in
+      record {
+        live = ap (is_live log) at.stream ∙ live;
+        state = at.state;
+        there = ap (λ t. shard_at log t key.shard) at.stream ∙ ap (shard_at log s) i_is ∙ at.there;
+      }
+
+  pub key_of_streams : (ss : List ℕ) (i : ℕ) (key : ShardRef) → AreLive log ss → slice_get (keys_in log ss) i ≡ Some key → IsKeyOf log key
+  unfolding Place
+  key_of_streams [] i key live is = absurd cc
+  key_of_streams (s ∷ ss) i key live is = either (λ j there. key_of_streams ss j key live.1 there) (place (refs_of s (shards log s)) (keys_in log ss) i key is)
+    where
+      either : ((j : ℕ) → slice_get (keys_in log ss) j ≡ Some key → IsKeyOf log key) → Place (refs_of s (shards log s)) (keys_in log ss) i key → IsKeyOf log key
+      either later (inl at) = of_ref s i key live.0 (ref_at s 0 i (shards log s) key (numbered s) at.1)
+      either later (inr at) = later at.0 at.2
+
+  from_streams : (ss : List ℕ) (n i : ℕ) (key : ShardRef) → IsUp n ss → slice_get (keys_in log ss) i ≡ Some key → n ≤ key.stream
+  unfolding IsUp Place
+  from_streams [] n i key up is = absurd cc
+  from_streams (s ∷ ss) n i key up is = either up.0 (λ j there. from_streams ss (s + 1) j key up.1 there) (place (refs_of s (shards log s)) (keys_in log ss) i key is)
+    where
+      either : n ≤ s → ((j : ℕ) → slice_get (keys_in log ss) j ≡ Some key → s + 1 ≤ key.stream) → Place (refs_of s (shards log s)) (keys_in log ss) i key → n ≤ key.stream
+      either le later (inl at) = let e = (ref_at s 0 i (shards log s) key (numbered s) at.1).stream in omega (arith, le, e)
+      either le later (inr at) = let m = later at.0 at.2 in omega (arith, le, m)
+
+  -- the shards before it in its stream stand before it
+  pub older_in : (ss : List ℕ) (i p : ℕ) (key : ShardRef) → p < key.shard → slice_get (keys_in log ss) i ≡ Some key → (j : ℕ) × (j < i) × (slice_get (keys_in log ss) j ≡ Some (ref key.stream p))
+  unfolding Place
+  older_in [] i p key below is = absurd cc
+  older_in (s ∷ ss) i p key below is = either (λ j there. older_in ss j p key below there) (place (refs_of s (shards log s)) (keys_in log ss) i key is)
+    where
+      either : ((k : ℕ) → slice_get (keys_in log ss) k ≡ Some key → (j : ℕ) × (j < k) × (slice_get (keys_in log ss) j ≡ Some (ref key.stream p))) → Place (refs_of s (shards log s)) (keys_in log ss) i key → (j : ℕ) × (j < i) × (slice_get (keys_in log (s ∷ ss)) j ≡ Some (ref key.stream p))
+      either later (inl at) =
+          let r = ref_at s 0 i (shards log s) key (numbered s) at.1 in
+          let below' : p < i = omega (arith, below, r.shard) in
+          let y = below_there p i (shards log s) r.state below' r.there in
+          let e : 0 + p ≡ p = omega arith in
+          let at_p = at_ref s 0 p (shards log s) y.0 (numbered s) y.1 ∙ ap (λ m. Some (ref s m)) e in
+          (p, below', in_left (refs_of s (shards log s)) (keys_in log ss) p (ref s p) at_p ∙ ap (λ t. Some (ref t p)) (sym r.stream))
+      either later (inr at) =
+          let rest = later at.0 at.2 in
+          let here = in_right (refs_of s (shards log s)) (keys_in log ss) rest.0 (ref key.stream p) rest.2 in
+          (here.0, omega (arith, here.1, at.1, rest.1), here.2)
+
+  -- no key stands twice
+  pub unlike_in : (ss : List ℕ) (n i j : ℕ) (a b : ShardRef) → IsUp n ss → i < j → slice_get (keys_in log ss) i ≡ Some a → slice_get (keys_in log ss) j ≡ Some b → (same_key a b ≡ false) × (same_key b a ≡ false)
+  unfolding IsUp Place
+  unlike_in [] n i j a b up below is is' = absurd cc
+  unlike_in (s ∷ ss) n i j a b up below is is' = either (λ p q lt there there'. unlike_in ss (s + 1) p q a b up.1 lt there there') (λ q there'. from_streams ss (s + 1) q b up.1 there') (place (refs_of s (shards log s)) (keys_in log ss) i a is) (place (refs_of s (shards log s)) (keys_in log ss) j b is')
+    where
+      other_shard : (p q m k : ℕ) → m ≡ 0 + p → k ≡ 0 + q → p < q → ((m == k) ≡ false) × ((k == m) ≡ false)
+      other_shard p q m k e e' lt = (grind (arith, nat_tests), grind (arith, nat_tests))
+
+      other_stream : (m k : ℕ) → m ≡ s → s + 1 ≤ k → ((m == k) ≡ false) × ((k == m) ≡ false)
+      other_stream m k e lt = (grind (arith, nat_tests), grind (arith, nat_tests))
+
+      and_false : (x y : Bool) → y ≡ false → (x && y) ≡ false
+      and_false true y e = e
+      and_false false y e = refl
+
+      false_and : (x y : Bool) → x ≡ false → (x && y) ≡ false
+      false_and x y e = ap (λ z. z && y) e
+
+      either : ((p q : ℕ) → p < q → slice_get (keys_in log ss) p ≡ Some a → slice_get (keys_in log ss) q ≡ Some b → (same_key a b ≡ false) × (same_key b a ≡ false)) → ((q : ℕ) → slice_get (keys_in log ss) q ≡ Some b → s + 1 ≤ b.stream) → Place (refs_of s (shards log s)) (keys_in log ss) i a → Place (refs_of s (shards log s)) (keys_in log ss) j b → (same_key a b ≡ false) × (same_key b a ≡ false)
+      either later high (inl at) (inl at') =
+          let e = other_shard i j a.shard b.shard (ref_at s 0 i (shards log s) a (numbered s) at.1).shard (ref_at s 0 j (shards log s) b (numbered s) at'.1).shard below in
+          (and_false (a.stream == b.stream) (a.shard == b.shard) e.0, and_false (b.stream == a.stream) (b.shard == a.shard) e.1)
+      either later high (inl at) (inr at') =
+          let e = other_stream a.stream b.stream (ref_at s 0 i (shards log s) a (numbered s) at.1).stream (high at'.0 at'.2) in
+          (false_and (a.stream == b.stream) (a.shard == b.shard) e.0, false_and (b.stream == a.stream) (b.shard == a.shard) e.1)
+      either later high (inr at) (inl at') = absurd (omega (arith, at.1, at'.0, below))
+      either later high (inr at) (inr at') = later at.0 at'.0 (omega (arith, at.1, at'.1, below)) at.2 at'.2
+
+  -- ---- no shard is missing
+
+  pub IsIn : ℕ → List ℕ → Type 0
+  IsIn s [] = ⊥
+  IsIn s (t ∷ ss) = (t ≡ s) ⊎ IsIn s ss
+
+  pub all_in : (ss : List ℕ) (s sh : ℕ) (x : ShardState) → IsIn s ss → slice_get (shards log s) sh ≡ Some x → (j : ℕ) × (slice_get (keys_in log ss) j ≡ Some (ref s sh))
+  unfolding IsIn
+  all_in [] s sh x among is = absurd among
+  all_in (t ∷ ss) s sh x (inl e) is =
+      let there = ap (λ u. slice_get (shards log u) sh) e ∙ is in
+      let m : 0 + sh ≡ sh = omega arith in
+      (sh, in_left (refs_of t (shards log t)) (keys_in log ss) sh (ref t sh) (at_ref t 0 sh (shards log t) x (numbered t) there ∙ ap (λ n. Some (ref t n)) m) ∙ ap (λ u. Some (ref u sh)) e)
+  all_in (t ∷ ss) s sh x (inr among) is =
+      let rest = all_in ss s sh x among is in
+      let here = in_right (refs_of t (shards log t)) (keys_in log ss) rest.0 (ref s sh) rest.1 in
+      (here.0, here.2)
+
+  pub in_numbers : (n count s : ℕ) → is_live log s ≡ true → n ≤ s → s < n + count → IsIn s (filter (is_live log) (numbers_from n count))
+  unfolding IsIn
+  in_numbers n zero s live le lt = absurd (omega (arith, le, lt))
+  in_numbers n (suc count) s live le lt = either (λ high. in_numbers (n + 1) count s live high (omega (arith, lt))) (n == s) refl
+    where
+      rest : List ℕ
+      rest = filter (is_live log) (numbers_from (n + 1) count)
+
+      skip : (b : Bool) → IsIn s rest → IsIn s (cond b (n ∷ rest) rest)
+      skip true among = inr among
+      skip false among = among
+
+      equal : (n == s) ≡ true → n ≡ s
+      equal h = grind (arith, nat_tests)
+
+      above : (n == s) ≡ false → n + 1 ≤ s
+      above h = grind (arith, nat_tests)
+
+      either : (n + 1 ≤ s → IsIn s rest) → (b : Bool) → (n == s) ≡ b → IsIn s (cond (is_live log n) (n ∷ rest) rest)
+      either later true same = let e = equal same in subst (λ d. IsIn s (cond d (n ∷ rest) rest)) (sym (ap (is_live log) e ∙ live)) (inl e)
+      either later false other = skip (is_live log n) (later (above other))

@@ -1,0 +1,164 @@
+-- A row is made, where there is none.
+use Rattle.std.proofs.Common.{◌≡◌, ℕ, ◌+◌, ◌<◌, ◌^◌, Bool, true, false, List, [], ◌∷◌, ◌++◌, length, zero, suc, Option, Some, None, refl, sym, ap, subst, ◌∙◌, arith, inl, inr}
+use Rattle.std.specs.Prelude.{◌⊎◌, ◌==◌, ◌&&◌, is_some, not, nat_lt, slice_get, if◌then◌else◌, Result}
+use Rattle.std.proofs.lemmas.Bool.Decides.{nat_tests}
+use Rattle.kds_base.specs.declared.lease_key.ShardRef.{ShardRef}
+use Rattle.kds_defs.specs.declared.command.Command.TheVariants as command
+use Rattle.kds_defs.specs.declared.command.Origin.TheVariants as origin
+use Rattle.kds_defs.specs.declared.command.Turn.{Turn}
+use Rattle.kds_defs.specs.declared.entry.Entry.TheVariants as entry
+use Rattle.kds_defs.specs.declared.reply.Refusal.{Refusal}
+use Rattle.kds_defs.specs.declared.reply.Refusal.TheVariants as refusal
+use Rattle.kds_defs.specs.declared.reply.Reply.{Reply}
+use Rattle.kds_defs.specs.declared.reply.Reply.TheVariants as reply
+use Rattle.kds_defs.specs.declared.reply.Row.{Row}
+use Rattle.kds_defs.specs.Decision.{Accepted, Refused}
+use Rattle.kds_defs.specs.Histories.{journal}
+use Rattle.kds_defs.specs.Journal.{Journal, Line, plain_line}
+use Rattle.kds_defs.specs.Keys.{is_listed_key, same_key}
+use Rattle.kds_defs.specs.LeaseCommands.{counting_origin, follows_parent, make_lease}
+use Rattle.kds_defs.specs.Leases.{made_row, row, rows}
+use Rattle.kds_defs.specs.Shards.{start_of}
+use Rattle.kds_defs.proofs.Decisions.{passed_if, refused_if}
+use Rattle.kcl_drill_summary.specs.Counting.{row_in}
+use Rattle.kcl_drill_summary.proofs.RowLookups.{row_found}
+use Rattle.kcl_drill_drain.specs.Draining.{IsFresh}
+use Rattle.kcl_drill_drain.specs.Keys.{AreDrainedTo, AreMade, HasRow}
+use Rattle.kcl_drill_drain.specs.Laws.{HasLaws}
+use Rattle.kcl_drill_drain.specs.Leased.{Leads, turn_of}
+use Rattle.kcl_drill_drain.specs.Standing.{IsSpot, Spot, clock_at}
+use Rattle.kcl_drill_drain.proofs.Leading.{Answered, IsOver, led, over, so_too}
+use Rattle.kcl_drill_drain.proofs.Overs.{same_shard}
+use Rattle.kcl_drill_drain.proofs.Spots.{listed}
+
+-- ---- at the start
+
+pub made_first : (h : List Turn) (keys : List ShardRef) (c : ℕ) → HasLaws h c → AreMade h keys (rows (journal h)) 0 (journal h)
+made_first h keys c laws = record {
+  fresh = laws.fresh;
+  kept = λ key r is. (r, sym (row_found (journal h) key) ∙ is);
+  made = λ j key below is. absurd (omega (arith, below));
+  few = laws.tenures;
+}
+
+pub below_length : {A : Type 0} (xs : List A) (j : ℕ) (x : A) → slice_get xs j ≡ Some x → j < length xs
+below_length [] j x is = absurd cc
+below_length (y ∷ xs) zero x is = omega arith
+below_length (y ∷ xs) (suc j) x is = let n = below_length xs j x is in omega (arith, n)
+
+-- once all are made, each waits
+pub all_wait : (h : List Turn) (keys : List ShardRef) (among : List Row) (log : Journal) → AreMade h keys among (length keys) log → AreDrainedTo h keys (rows log) 0 log
+all_wait h keys among log made = record {
+  done = λ j key below is. absurd (omega (arith, below));
+  waits = λ j key above is.
+      let f = made.made j key (below_length keys j key is) is in
+      record { now = f.0; there = f.1; seen = row_found log key ∙ f.1; fresh = made.fresh key f.0 f.1 };
+  few = omega (arith, made.few);
+}
+
+-- ---- one row
+
+module _ (w : Spot) (at : ℕ) (spot : IsSpot w at) (laws : HasLaws w.history (clock_at w at)) where
+  origin_is : (log : Journal) (key : ShardRef) → counting_origin log key origin.TrimHorizon ≡ origin.TrimHorizon
+  origin_is log key = either (follows_parent log key)
+    where
+      either : (b : Bool) → (if b then origin.TrimHorizon else origin.TrimHorizon) ≡ origin.TrimHorizon
+      either true = refl
+      either false = refl
+
+  same_here : (j : ℕ) (key : ShardRef) → j ≡ w.index → slice_get w.keys j ≡ Some key → key ≡ w.key
+  same_here j key e is = let a : Some key ≡ Some w.key = sym is ∙ ap (slice_get w.keys) e ∙ spot.here in cc (a)
+
+  up_to : (j i : ℕ) → j < i + 1 → (j < i) ⊎ (j ≡ i)
+  up_to j i below = either (nat_lt j i) refl
+    where
+      lt : nat_lt j i ≡ true → j < i
+      lt h = grind (arith, nat_tests)
+
+      eq : nat_lt j i ≡ false → j ≡ i
+      eq h = grind (arith, nat_tests)
+
+      either : (b : Bool) → nat_lt j i ≡ b → (j < i) ⊎ (j ≡ i)
+      either true is = inl (lt is)
+      either false is = inr (eq is)
+
+  made_by : (log : Journal) → ((j : ℕ) (key : ShardRef) → j < w.index → slice_get w.keys j ≡ Some key → HasRow log key) → HasRow log w.key → (j : ℕ) (key : ShardRef) → slice_get w.keys j ≡ Some key → (j < w.index) ⊎ (j ≡ w.index) → HasRow log key
+  made_by log before here j key is (inl below) = before j key below is
+  made_by log before here j key is (inr same) = subst (HasRow log) (sym (same_here j key same is)) here
+
+  -- where its row is there, one more is
+  pub one_made : (log : Journal) → AreMade w.history w.keys w.among w.index log → HasRow log w.key → AreMade w.history w.keys w.among (w.index + 1) log
+  one_made log made here = record {
+    fresh = made.fresh;
+    kept = made.kept;
+    made = λ j key below is. made_by log made.made here j key is (up_to j w.index below);
+    few = made.few;
+  }
+
+  has_row : (b : Bool) (x : Row) (o : Option Row) → (r : Row) → o ≡ Some r → (s : Row) × ((if b then Some x else o) ≡ Some s)
+  has_row true x o r is = (x, refl)
+  has_row false x o r is = (r, is)
+
+  fresh_by : (b : Bool) (x : Row) (key : ShardRef) (o : Option Row) → IsFresh w.history key x → ((r : Row) → o ≡ Some r → IsFresh w.history key r) → (r : Row) → (if b then Some x else o) ≡ Some r → IsFresh w.history key r
+  fresh_by true x key o new old r is = let e : x ≡ r = cc in subst (IsFresh w.history key) e new
+  fresh_by false x key o new old r is = old r is
+
+  same_self : (k : ShardRef) → same_key k k ≡ true
+  same_self k = ap (λ b. b && (k.shard == k.shard)) (same_is k.stream) ∙ same_is k.shard
+    where
+      same_is : (a : ℕ) → (a == a) ≡ true
+      same_is a = grind (arith, nat_tests)
+
+  new_line : ℕ → ℕ → Line
+  new_line c by = plain_line c by (entry.LeaseMade w.key origin.TrimHorizon)
+
+  with_new : (log : Journal) (by : ℕ) → IsOver w.history (clock_at w at) log → AreMade w.history w.keys w.among w.index log → AreMade w.history w.keys w.among w.index (new_line (clock_at w at) by ∷ log)
+  unfolding new_line
+  with_new log by is made = record {
+    fresh = λ key r there. fresh_by (same_key w.key key) (made_row log (clock_at w at) key origin.TrimHorizon) key (row log key)
+        (record { few = omega arith; start = ap start_of (same_shard w.history (clock_at w at) log is key.stream key.shard) }) (made.fresh key) r there;
+    kept = λ key r seen. let f = made.kept key r seen in has_row (same_key w.key key) (made_row log (clock_at w at) key origin.TrimHorizon) (row log key) f.0 f.1;
+    made = λ j key below at_j. let f = made.made j key below at_j in has_row (same_key w.key key) (made_row log (clock_at w at) key origin.TrimHorizon) (row log key) f.0 f.1;
+    few = made.few;
+  }
+
+  new_row_there : (log : Journal) (by : ℕ) → HasRow (new_line (clock_at w at) by ∷ log) w.key
+  unfolding new_line
+  new_row_there log by = (made_row log (clock_at w at) w.key origin.TrimHorizon, ap (λ b. if b then Some (made_row log (clock_at w at) w.key origin.TrimHorizon) else row log w.key) (same_self w.key))
+
+  made_led : (stands stands' : List Turn → Type 0) (by : ℕ) (a : Result Reply Refusal) (o : Option Row) → at < 2 ^ 62
+      → (l : Leads stands by at w.history (AreMade w.history w.keys w.among w.index)) → row (journal (l.more ++ w.history)) w.key ≡ o
+      → Answered stands stands' (turn_of by at (command.MakeLease w.key origin.TrimHorizon)) a
+      → Leads stands' by at w.history (AreMade w.history w.keys w.among (w.index + 1))
+  unfolding new_line
+  made_led stands stands' by a None below l is answers =
+      let now = journal (l.more ++ w.history) in
+      let c = clock_at w at in
+      let there = over stands by at w.history (AreMade w.history w.keys w.among w.index) laws l in
+      let decided : make_lease now c by w.key origin.TrimHorizon ≡ Accepted (new_line c by ∷ []) (reply.Leased origin.TrimHorizon) =
+      passed_if refusal.ShardGone (not (is_listed_key now c w.key)) _ (ap not (listed w at spot laws now there))
+      ∙ passed_if refusal.LeaseThere (is_some (row now w.key)) _ (ap is_some is)
+      ∙ ap (λ o. Accepted (plain_line c by (entry.LeaseMade w.key o) ∷ []) (reply.Leased o)) (origin_is now w.key) in
+      (led stands stands' by at w.history (command.MakeLease w.key origin.TrimHorizon) a (AreMade w.history w.keys w.among w.index) (AreMade w.history w.keys w.among (w.index + 1)) (Accepted (new_line c by ∷ []) (reply.Leased origin.TrimHorizon)) refl (below, tt) answers l decided
+      (one_made (new_line c by ∷ now) (with_new now by there l.so) (new_row_there now by))).1
+  made_led stands stands' by a (Some r) below l is answers =
+      let now = journal (l.more ++ w.history) in
+      let c = clock_at w at in
+      let there = over stands by at w.history (AreMade w.history w.keys w.among w.index) laws l in
+      let decided : make_lease now c by w.key origin.TrimHorizon ≡ Refused refusal.LeaseThere =
+      passed_if refusal.ShardGone (not (is_listed_key now c w.key)) _ (ap not (listed w at spot laws now there))
+      ∙ refused_if refusal.LeaseThere (is_some (row now w.key)) _ (ap is_some is) in
+      (led stands stands' by at w.history (command.MakeLease w.key origin.TrimHorizon) a (AreMade w.history w.keys w.among w.index) (AreMade w.history w.keys w.among (w.index + 1)) (Refused refusal.LeaseThere) refl (below, tt) answers l decided
+      (one_made now l.so (r, is))).1
+
+  pub makes : (stands stands' : List Turn → Type 0) (by : ℕ) (key : ShardRef) (a : Result Reply Refusal) → at < 2 ^ 62 → w.key ≡ key
+      → (l : Leads stands by at w.history (AreMade w.history w.keys w.among w.index))
+      → Answered stands stands' (turn_of by at (command.MakeLease key origin.TrimHorizon)) a
+      → Leads stands' by at w.history (AreMade w.history w.keys w.among (w.index + 1))
+  makes stands stands' by key a below same l answers =
+      made_led stands stands' by a (row (journal (l.more ++ w.history)) w.key) below l refl
+      (subst (λ k. Answered stands stands' (turn_of by at (command.MakeLease k origin.TrimHorizon)) a) (sym same) answers)
+
+  -- one that was seen is there
+  pub seen_made : (stands : List Turn → Type 0) (by : ℕ) (r : Row) → row_in w.among w.key ≡ Some r → Leads stands by at w.history (AreMade w.history w.keys w.among w.index) → Leads stands by at w.history (AreMade w.history w.keys w.among (w.index + 1))
+  seen_made stands by r seen l = so_too stands by at w.history (AreMade w.history w.keys w.among w.index) (AreMade w.history w.keys w.among (w.index + 1)) l (λ made. one_made (journal (l.more ++ w.history)) made (made.kept w.key r seen))

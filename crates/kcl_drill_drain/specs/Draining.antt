@@ -1,0 +1,77 @@
+-- Which rows can be drained, and what draining leaves of a row.
+use Rattle.std.specs.Prelude.{ℕ, ◌≡◌, ◌<◌, ◌≤◌, ◌^◌, max, true, false, if◌then◌else◌, List, length, Option, Some}
+use Rattle.std.specs.List.{AllByRecursion}
+use Rattle.std.specs.Option.{option_map}
+use Rattle.kds_base.specs.declared.lease_key.Checkpoint.{Checkpoint}
+use Rattle.kds_base.specs.declared.lease_key.Checkpoint.TheVariants.{TrimHorizon, At, ShardEnd}
+use Rattle.kds_base.specs.declared.lease_key.ShardRef.{ShardRef}
+use Rattle.kds_defs.specs.declared.command.Command.{Command}
+use Rattle.kds_defs.specs.declared.command.Command.TheVariants as command
+use Rattle.kds_defs.specs.declared.command.Origin.TheVariants as origin
+use Rattle.kds_defs.specs.declared.command.Turn.{Turn}
+use Rattle.kds_defs.specs.declared.reply.Row.{Row}
+use Rattle.kds_defs.specs.Histories.{clock, journal}
+use Rattle.kds_defs.specs.Journal.{Journal}
+use Rattle.kds_defs.specs.Lawful.{IsHistory}
+use Rattle.kds_defs.specs.Leases.{row, origin_of}
+use Rattle.kds_defs.specs.Listings.{is_closed_at}
+use Rattle.kds_defs.specs.Records.{Logged, left_from, records}
+use Rattle.kds_defs.specs.Shards.{ShardState, is_closed_below, shard_at, shards, start_of}
+use Rattle.kds_defs.specs.Streams.{is_live, trim_floor}
+use Rattle.kcl_drill.specs.Summed.{last_checkpoint}
+use Rattle.kcl_laws.specs.Recorded.{HasFrom}
+use Rattle.kcl_drill_summary.specs.Counting.{AreAbove}
+
+-- nothing of the stream is trimmed, and none of its shards is expired
+pub record IsWhole (log : Journal) (c s : ℕ) : Type 0 where
+  pub above : (sh : ℕ) → AreAbove (trim_floor log c s) (records log s sh)
+  pub listed : AllByRecursion (λ (x : ShardState). is_closed_below (trim_floor log c s) x ≡ false) (shards log s)
+
+-- the history is of fewer than 2^32 turns; at the clock after the moment nothing of a live stream is trimmed or expired; and
+-- each row that is there begins at the trim horizon
+pub record CanDrain (h : List Turn) (at : ℕ) : Type 0 where
+  pub lawful : IsHistory h
+  pub few : length h < 2 ^ 32
+  pub whole : (s : ℕ) → is_live (journal h) s ≡ true → IsWhole (journal h) (max (clock h) at) s
+  pub horizon : (key : ShardRef) (r : Row) → row (journal h) key ≡ Some r → origin_of (journal h) key ≡ Some origin.TrimHorizon
+
+-- a row that it makes begins at the trim horizon; and so it is of each command of a history
+abbrev pub BeginsAtHorizon : Command → Type 0
+BeginsAtHorizon (command.MakeLease key from) = from ≡ origin.TrimHorizon
+BeginsAtHorizon _ = Unit {0}
+
+abbrev pub AreFromHorizon : List Turn → Type 0
+AreFromHorizon h = AllByRecursion (λ turn. BeginsAtHorizon turn.what) h
+
+-- ---- the shard of a key
+
+abbrev pub shard_of : Journal → ShardRef → Option ShardState
+shard_of log key = shard_at log key.stream key.shard
+
+abbrev pub records_of : Journal → ShardRef → List Logged
+records_of log key = records log key.stream key.shard
+
+abbrev pub left_of : Journal → ℕ → ShardRef → ℕ → List Logged
+left_of log c key place = left_from log c key.stream key.shard place
+
+-- ---- its row
+
+-- where a row may stand: at the trim horizon, with the shard's starting number as its floor; at a number that a record
+-- reaches; at the end of a closed shard
+abbrev pub IsStart : Option ShardState → List Logged → ℕ → Checkpoint → Type 0
+IsStart x rs floor TrimHorizon = floor ≡ start_of x
+IsStart x rs floor (At q) = HasFrom q rs
+IsStart x rs floor ShardEnd = is_closed_at x ≡ true
+
+-- the row was not drained yet
+pub record IsFresh (h : List Turn) (key : ShardRef) (r : Row) : Type 0 where
+  pub few : r.counter ≤ length h
+  pub start : IsStart (shard_of (journal h) key) (records_of (journal h) key) r.floor r.checkpoint
+
+-- the checkpoint of a shard that was read to its end
+abbrev pub final_of : Journal → ShardRef → Checkpoint
+final_of log key = if is_closed_at (shard_of log key) then ShardEnd else last_checkpoint (records_of log key)
+
+-- the row is there, and reads it
+abbrev pub IsDone : List Turn → ShardRef → Option Row → Type 0
+IsDone h key o = option_map (λ r. r.checkpoint) o ≡ Some (final_of (journal h) key)

@@ -1,0 +1,127 @@
+-- How far the draining of one row has come.
+use Rattle.std.specs.Prelude.{ℕ, ◌≡◌, ◌+◌, ◌<◌, ◌≤◌, ◌^◌, max, Bool, false, List, [], ◌∷◌, length, map, slice_get, Option, Some, None}
+use Rattle.kds_base.specs.declared.lease_key.ShardRef.{ShardRef}
+use Rattle.kds_defs.specs.declared.command.Target.TheVariants as target
+use Rattle.kds_defs.specs.declared.command.Turn.{Turn}
+use Rattle.kds_defs.specs.declared.reply.Reply.{Reply}
+use Rattle.kds_defs.specs.declared.reply.Reply.TheVariants as reply
+use Rattle.kds_defs.specs.declared.reply.Row.{Row}
+use Rattle.kds_defs.specs.Histories.{clock, journal}
+use Rattle.kds_defs.specs.Journal.{Journal}
+use Rattle.kds_defs.specs.RowWrites.{least}
+use Rattle.kds_defs.specs.Leases.{ReadDone, is_end, row, taken_count}
+use Rattle.kds_defs.specs.Listings.{ends_at}
+use Rattle.kds_defs.specs.Records.{Logged, batch, numbers_of, place_after, stored}
+use Rattle.kds_defs.specs.Shards.{start_of}
+use Rattle.kcl_defs.specs.Consumers.{first_place, last_number_in}
+use Rattle.kcl_drill.specs.Summed.{last_checkpoint}
+use Rattle.kcl_drill_laws.specs.Holding.{Holding, Holds, after_give, after_mark, after_read, taken_line}
+use Rattle.kcl_drill_drain.specs.declared.held.Held.{Held}
+use Rattle.kcl_drill_drain.specs.declared.held.TheConstants.{READ}
+use Rattle.kcl_drill_drain.specs.Draining.{CanDrain, IsDone, IsFresh, left_of, records_of, shard_of}
+use Rattle.kcl_drill_drain.specs.Keys.{AreDrainedTo, Waits, listed_keys}
+use Rattle.kcl_drill_drain.specs.Leased.{Leads}
+
+-- a key among the listed ones, in the history before, with the rows that were seen
+pub record Spot : Type 0 where
+  pub history : List Turn
+  pub keys : List ShardRef
+  pub among : List Row
+  pub index : ℕ
+  pub key : ShardRef
+
+-- the history can be drained, and the key stands there
+pub record IsSpot (w : Spot) (at : ℕ) : Type 0 where
+  pub can : CanDrain w.history at
+  pub listed : w.keys ≡ listed_keys w.history at
+  pub here : slice_get w.keys w.index ≡ Some w.key
+  pub few : w.index < 2 ^ 63
+
+abbrev pub clock_at : Spot → ℕ → ℕ
+clock_at w at = max (clock w.history) at
+
+-- the rows of the keys before are drained, and those of the keys behind wait
+pub record OthersWait (w : Spot) (log : Journal) : Type 0 where
+  pub done : (j : ℕ) (key : ShardRef) → j < w.index → slice_get w.keys j ≡ Some key → IsDone w.history key (row log key)
+  pub waits : (j : ℕ) (key : ShardRef) → w.index < j → slice_get w.keys j ≡ Some key → Waits w.history w.among log key
+  pub few : taken_count log ≤ length w.history + (w.index + 1)
+
+-- the row of the key was taken by the newest line
+pub record IsTaken (w : Spot) (by : ℕ) (r : Row) (held : Held) (log : Journal) : Type 0 where
+  pub before : Journal
+  pub clock : ℕ
+  pub is : log ≡ taken_line before clock by w.key r 1 ∷ before
+  pub there : row before w.key ≡ Some r
+  pub drained : AreDrainedTo w.history w.keys w.among w.index before
+  pub number : held.tenure ≡ taken_count before + 1
+  pub counter : held.counter ≡ r.counter + 1
+  pub place : held.place ≡ first_place r.checkpoint
+  pub fresh : IsFresh w.history w.key r
+
+-- a tenure of the key has come so far
+pub record Stands (w : Spot) (by : ℕ) (x : Holding) (log : Journal) : Type 0 where
+  pub others : OthersWait w log
+  pub holds : Holds log x
+  pub own : x.by ≡ by
+  pub of_key : x.key ≡ w.key
+
+-- all that it read is given; where nothing is left, its row's checkpoint is at the last record; a mark at a record that is
+-- left is above the least one; and there are counters for all that is left
+pub record IsReady (w : Spot) (at : ℕ) (x : Holding) : Type 0 where
+  pub none_waits : x.waiting ≡ []
+  pub given : x.done ≡ x.place
+  pub going : is_end x.checkpoint ≡ false
+  pub settled : left_of (journal w.history) (clock_at w at) w.key x.place ≡ [] → x.checkpoint ≡ last_checkpoint (records_of (journal w.history) w.key)
+  pub low : least x.checkpoint x.floor ≤ max x.place (start_of (shard_of (journal w.history) w.key))
+  pub budget : x.counter + length (left_of (journal w.history) (clock_at w at) w.key x.place) ≤ length w.history + 1 + length (records_of (journal w.history) w.key)
+
+-- its number, its place and its row's counter are known
+pub record IsHeld (x : Holding) (held : Held) : Type 0 where
+  pub tenure : x.tenure ≡ held.tenure
+  pub place : x.place ≡ held.place
+  pub counter : x.counter ≡ held.counter
+
+-- a machine leads to a tenure that can read on
+pub record ReadsOn (stands : List Turn → Type 0) (w : Spot) (by at : ℕ) (held : Held) : Type 0 where
+  pub now : Holding
+  pub leads : Leads stands by at w.history (Stands w by now)
+  pub ready : IsReady w at now
+  pub is : IsHeld now held
+
+-- the row of the key is drained as well
+abbrev pub IsDrainedHere : (List Turn → Type 0) → Spot → ℕ → ℕ → Type 0
+IsDrainedHere stands w by at = Leads stands by at w.history (AreDrainedTo w.history w.keys w.among (w.index + 1))
+
+-- ---- one read: its batch, where it ends, and whether the shard ends there
+
+abbrev pub batch_at : Spot → ℕ → Holding → List Logged
+batch_at w at x = batch (journal w.history) (clock_at w at) w.key.stream w.key.shard x.place READ
+
+abbrev pub reach_at : Spot → ℕ → Holding → ℕ
+reach_at w at x = place_after x.place (numbers_of (batch_at w at x))
+
+abbrev pub ended_at : Spot → ℕ → Holding → Bool
+ended_at w at x = ends_at (journal w.history) (clock_at w at) w.key.stream w.key.shard (reach_at w at x)
+
+abbrev pub read_at : Spot → ℕ → Holding → ReadDone
+read_at w at x = record { numbers = numbers_of (batch_at w at x); ended = ended_at w at x }
+
+abbrev pub last_at : Spot → ℕ → Holding → Option ℕ
+last_at w at x = last_number_in (map stored (batch_at w at x))
+
+abbrev pub reply_at : Spot → ℕ → Holding → Reply
+reply_at w at x = reply.Read (map stored (batch_at w at x)) (reach_at w at x) (ended_at w at x)
+
+-- the tenure after the read, after it was given, and after the mark at its last record
+abbrev pub read_then : Spot → ℕ → Holding → Holding
+read_then w at x = after_read x (read_at w at x)
+
+abbrev pub given_then : Spot → ℕ → Holding → Holding
+given_then w at x = after_give (read_then w at x) (read_at w at x) []
+
+abbrev pub marked_at : Option ℕ → Holding → Holding
+marked_at None x = x
+marked_at (Some q) x = after_mark x (target.At q)
+
+abbrev pub marked_then : Spot → ℕ → Holding → Holding
+marked_then w at x = marked_at (last_at w at x) (given_then w at x)

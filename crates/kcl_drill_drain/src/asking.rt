@@ -1,0 +1,26 @@
+//! A turn on leases.
+ghost use Rattle.std.specs.Prelude.{◌≡◌, ◌<◌, ◌^◌, List, false};
+ghost use Rattle.kds_defs.specs.declared.command.Turn.{Turn as Asked};
+ghost use Rattle.kds_defs.specs.Kinds.{is_service};
+ghost use Rattle.kds_defs.specs.Lawful.{IsLawfulCommand};
+ghost use Rattle.kcl_drill_drain.specs.Leased.{Answers, HasLeased, turn_of};
+
+use kds_base::{Memory, Moment};
+use kds_defs::{Answer, Command, Machine, Turn};
+
+/// Asks the machine a command on leases. Whatever comes of it, the machine has answered such turns alone.
+pub fn ask<M: Machine>(
+    machine: &mut M,
+    by: u32,
+    at: Moment,
+    what: Command,
+) -> Result<Answer, Memory>
+    requires leases { is_service what ≡ false }
+    requires lawful { IsLawfulCommand what }
+    ensures ok { Answers (M.stands_for machine.old) (M.stands_for machine.new) (turn_of by at what) result }
+    ensures moment { at < 2 ^ 62 }
+    ensures leased { (h : List Asked) → HasLeased (M.stands_for machine.old) by at h → HasLeased (M.stands_for machine.new) by at h }
+{
+    let _ms = at.ms();
+    machine.apply(Turn { by, at, what })
+}

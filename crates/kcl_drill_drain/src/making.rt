@@ -1,0 +1,47 @@
+//! Rows, made where there are none.
+ghost use Rattle.std.specs.Prelude.{◌≡◌, List};
+ghost use Rattle.kds_defs.specs.declared.command.Turn.{Turn as Asked};
+ghost use Rattle.kcl_drill_drain.specs.Leased.{HasLeased};
+ghost use Rattle.kcl_drill_drain.specs.Steps.{MakesKeys, MakesRow};
+
+use crate::asking::ask;
+use crate::laws::drain_laws;
+use crate::rows::row_among;
+use kds_base::{Memory, Moment, ShardRef};
+use kds_defs::{Command, Machine, Origin, Row};
+
+/// Makes the row of a key, where none was seen. It begins at the trim horizon.
+fn make_row<M: Machine>(
+    machine: &mut M,
+    by: u32,
+    at: Moment,
+    key: ShardRef,
+    seen: Option<Row>,
+) -> Result<(), Memory>
+    ensures ok { MakesRow (M.stands_for machine.old) (M.stands_for machine.new) by at key seen result }
+    ensures leased { (h : List Asked) → HasLeased (M.stands_for machine.old) by at h → HasLeased (M.stands_for machine.new) by at h }
+{
+    drain_laws();
+    if seen.is_none() {
+        let from = Origin::TrimHorizon;
+        let _answer = ask(machine, by, at, Command::MakeLease { key, from })?;
+    }
+    Ok(())
+}
+
+/// Makes the rows of these keys that are not among those that were seen.
+pub fn make_keys<M: Machine>(
+    machine: &mut M,
+    by: u32,
+    at: Moment,
+    keys: &[ShardRef],
+    among: &[Row],
+) -> Result<(), Memory>
+    ensures ok { MakesKeys (M.stands_for machine.old) (M.stands_for machine.new) by at keys.now among.now result }
+    ensures leased { (h : List Asked) → HasLeased (M.stands_for machine.old) by at h → HasLeased (M.stands_for machine.new) by at h }
+{
+    for key in keys {
+        make_row(machine, by, at, *key, row_among(among, key))?;
+    }
+    Ok(())
+}

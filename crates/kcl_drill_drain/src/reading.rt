@@ -1,0 +1,165 @@
+//! One shard, read to its end.
+ghost use Rattle.std.specs.Prelude.{ℕ, ◌≡◌, ◌<◌, Bool, List, Some, Ok, IfOk, IfSome};
+ghost use Rattle.kds_defs.specs.declared.command.Turn.{Turn as Asked};
+ghost use Rattle.kds_defs.specs.declared.reply.Reply.TheVariants as reply;
+ghost use Rattle.kds_defs.specs.declared.reply.Stored.{Stored};
+ghost use Rattle.kcl_defs.specs.Consumers.{last_number_in};
+ghost use Rattle.kcl_drill_drain.specs.Leased.{HasLeased};
+ghost use Rattle.kcl_drill_drain.specs.Steps.{Delivers, MarksLast, ReadsToEnd, Settles, StepsOn};
+
+use crate::held::Held;
+use crate::laws::drain_laws;
+use crate::turns::{give, mark, read};
+use kcl_consumer::{Ask, Processor};
+use kcl_proc::Tally;
+use kds_base::{Memory, Moment, Seq};
+use kds_defs::{Answer, Machine, Reply, Stored, Target};
+
+/// What a read brought: the number of its last record, the place after it, and whether the shard ends there.
+#[derive(Clone, Copy)]
+pub struct Fetch {
+    pub last: Option<Seq>,
+    pub reach: u64,
+    pub ended: bool,
+}
+
+/// The number of the last record.
+fn last_in(batch: &[Stored]) -> Option<Seq>
+    ensures { result ≡ last_number_in batch.now }
+{
+    match batch.last() {
+        Some(r) => Some(r.seq),
+        None => None,
+    }
+}
+
+/// Hands a batch that isn't empty to the processor, which asks for a mark at its last record.
+fn process(tally: &mut Tally, batch: &[Stored]) -> Result<Option<Seq>, Memory>
+    ensures { IfOk result (λ last. last ≡ last_number_in batch.now) }
+{
+    if batch.is_empty() {
+        return Ok(last_in(batch));
+    }
+    match tally.process_records(batch)? {
+        Ask::Last => Ok(last_in(batch)),
+        _ => Ok(None),
+    }
+}
+
+/// Hands the batch of an answer to the processor.
+fn process_answer(tally: &mut Tally, answer: &Answer) -> Result<Option<Fetch>, Memory>
+    ensures { (batch : List Stored) (place : ℕ) (ended : Bool) → answer.now ≡ Ok (reply.Read batch place ended)
+        → IfOk result (λ f. f ≡ Some (record { last = last_number_in batch; reach = place; ended = ended })) }
+{
+    match answer {
+        Ok(Reply::Read { batch, reach, end }) => {
+            let last = process(tally, batch.as_slice())?;
+            Ok(Some(Fetch {
+                last,
+                reach: *reach,
+                ended: *end,
+            }))
+        }
+        _ => Ok(None),
+    }
+}
+
+/// Marks the row at the last record of the batch, and tells its counter.
+fn mark_last<M: Machine>(
+    machine: &mut M,
+    by: u32,
+    at: Moment,
+    held: &Held,
+    last: Option<Seq>,
+) -> Result<u64, Memory>
+    ensures ok { MarksLast (M.stands_for machine.old) (M.stands_for machine.new) by at held.now last result }
+    ensures leased { (h : List Asked) → HasLeased (M.stands_for machine.old) by at h → HasLeased (M.stands_for machine.new) by at h }
+{
+    drain_laws();
+    match last {
+        Some(q) => mark(machine, by, at, held, Target::At(q)),
+        None => Ok(held.counter),
+    }
+}
+
+/// Marks the end of the shard, where the read ended it. Reading goes on only above the place before, so that it ends over
+/// any machine.
+fn settle<M: Machine>(
+    machine: &mut M,
+    by: u32,
+    at: Moment,
+    place: u64,
+    held: Held,
+    ended: bool,
+) -> Result<Option<Held>, Memory>
+    ensures ok { Settles (M.stands_for machine.old) (M.stands_for machine.new) by at place held ended result }
+    ensures leased { (h : List Asked) → HasLeased (M.stands_for machine.old) by at h → HasLeased (M.stands_for machine.new) by at h }
+    ensures rises { IfOk result (λ o. IfSome o (λ next. place < next.place)) }
+{
+    drain_laws();
+    if ended {
+        mark(machine, by, at, &held, Target::End)?;
+        Ok(None)
+    } else if held.place > place {
+        Ok(Some(held))
+    } else {
+        Ok(None)
+    }
+}
+
+/// Gives what was read, and marks it.
+fn deliver<M: Machine>(
+    machine: &mut M,
+    by: u32,
+    at: Moment,
+    held: &Held,
+    fetch: &Fetch,
+) -> Result<Option<Held>, Memory>
+    ensures ok { Delivers (M.stands_for machine.old) (M.stands_for machine.new) by at held.now fetch.now result }
+    ensures leased { (h : List Asked) → HasLeased (M.stands_for machine.old) by at h → HasLeased (M.stands_for machine.new) by at h }
+    ensures rises { IfOk result (λ o. IfSome o (λ next. held.now.place < next.place)) }
+{
+    drain_laws();
+    give(machine, by, at, held)?;
+    let counter = mark_last(machine, by, at, held, fetch.last)?;
+    let next = Held {
+        tenure: held.tenure,
+        place: fetch.reach,
+        counter,
+    };
+    settle(machine, by, at, held.place, next, fetch.ended)
+}
+
+/// One read: its batch is processed, given and marked.
+fn step<M: Machine>(
+    machine: &mut M,
+    by: u32,
+    at: Moment,
+    held: &Held,
+    tally: &mut Tally,
+) -> Result<Option<Held>, Memory>
+    ensures ok { StepsOn (M.stands_for machine.old) (M.stands_for machine.new) by at held.now result }
+    ensures leased { (h : List Asked) → HasLeased (M.stands_for machine.old) by at h → HasLeased (M.stands_for machine.new) by at h }
+    ensures rises { IfOk result (λ o. IfSome o (λ next. held.now.place < next.place)) }
+{
+    let answer = read(machine, by, at, held)?;
+    match process_answer(tally, &answer)? {
+        Some(fetch) => deliver(machine, by, at, held, &fetch),
+        None => Ok(None),
+    }
+}
+
+/// Reads the shard of a tenure to its end.
+pub fn read_on<M: Machine>(machine: &mut M, by: u32, at: Moment, from: Held) -> Result<(), Memory>
+    ensures ok { ReadsToEnd (M.stands_for machine.old) (M.stands_for machine.new) by at from result }
+    ensures leased { (h : List Asked) → HasLeased (M.stands_for machine.old) by at h → HasLeased (M.stands_for machine.new) by at h }
+{
+    let mut tally = Tally::new();
+    let mut held = from;
+    loop {
+        match step(machine, by, at, &held, &mut tally)? {
+            Some(next) => held = next,
+            None => return Ok(()),
+        }
+    }
+}

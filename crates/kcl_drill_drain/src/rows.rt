@@ -1,0 +1,88 @@
+//! Rows, brought to the end of their shards one after another.
+ghost use Rattle.std.specs.Prelude.{◌≡◌, List};
+ghost use Rattle.kds_defs.specs.declared.command.Turn.{Turn as Asked};
+ghost use Rattle.kds_defs.specs.Keys.{same_key};
+ghost use Rattle.kcl_drill_summary.specs.Counting.{row_in};
+ghost use Rattle.kcl_drill_drain.specs.Leased.{HasLeased};
+ghost use Rattle.kcl_drill_drain.specs.Steps.{DrainsKeys, DrainsRow, DrainsTaken};
+
+use crate::laws::drain_laws;
+use crate::reading::read_on;
+use crate::turns::{open, take};
+use kds_base::{Memory, Moment, ShardRef};
+use kds_defs::{Machine, Row};
+
+/// The row is that of the key.
+fn is_of(row: &Row, key: &ShardRef) -> bool
+    ensures { result ≡ same_key row.now.key key.now }
+{
+    row.key.stream == key.stream && row.key.shard == key.shard
+}
+
+/// The first row of the key.
+pub fn row_among(rows: &[Row], key: &ShardRef) -> Option<Row>
+    ensures { result ≡ row_in rows.now key.now }
+{
+    rows.iter().copied().find(|row| is_of(row, key))
+}
+
+/// Takes a row at its counter, and reads its shard to the end.
+fn drain_taken<M: Machine>(
+    machine: &mut M,
+    by: u32,
+    at: Moment,
+    key: ShardRef,
+    counter: u64,
+) -> Result<(), Memory>
+    ensures ok { DrainsTaken (M.stands_for machine.old) (M.stands_for machine.new) by at key counter result }
+    ensures leased { (h : List Asked) → HasLeased (M.stands_for machine.old) by at h → HasLeased (M.stands_for machine.new) by at h }
+{
+    match take(machine, by, at, key, counter)? {
+        Some(held) => {
+            open(machine, by, at, &held)?;
+            read_on(machine, by, at, held)
+        }
+        None => Ok(()),
+    }
+}
+
+/// Drains the row of a key, unless it is at the end of its shard.
+fn drain_row<M: Machine>(
+    machine: &mut M,
+    by: u32,
+    at: Moment,
+    key: ShardRef,
+    row: Option<Row>,
+) -> Result<(), Memory>
+    ensures ok { DrainsRow (M.stands_for machine.old) (M.stands_for machine.new) by at key row result }
+    ensures leased { (h : List Asked) → HasLeased (M.stands_for machine.old) by at h → HasLeased (M.stands_for machine.new) by at h }
+{
+    drain_laws();
+    match row {
+        Some(row) => {
+            if row.checkpoint.is_end() {
+                Ok(())
+            } else {
+                drain_taken(machine, by, at, key, row.counter)
+            }
+        }
+        None => Ok(()),
+    }
+}
+
+/// Drains the rows of these keys, in their order. Parents come before their children.
+pub fn drain_keys<M: Machine>(
+    machine: &mut M,
+    by: u32,
+    at: Moment,
+    keys: &[ShardRef],
+    among: &[Row],
+) -> Result<(), Memory>
+    ensures ok { DrainsKeys (M.stands_for machine.old) (M.stands_for machine.new) by at keys.now among.now result }
+    ensures leased { (h : List Asked) → HasLeased (M.stands_for machine.old) by at h → HasLeased (M.stands_for machine.new) by at h }
+{
+    for key in keys {
+        drain_row(machine, by, at, *key, row_among(among, key))?;
+    }
+    Ok(())
+}

@@ -1,0 +1,198 @@
+-- How far a tenure has come after each of its lines.
+use Rattle.std.proofs.Common.{◌≡◌, ℕ, ◌+◌, ◌≤◌, true, List, [], ◌∷◌, ◌++◌, drop, length, take, zero, suc, Option, Some, refl, ap, ◌∙◌, arith}
+use Rattle.std.specs.Prelude.{◌==◌, ◌&&◌, if◌then◌else◌}
+use Rattle.std.specs.Option.{option_map}
+use Rattle.std.proofs.lemmas.Bool.Decides.{nat_tests}
+use Rattle.kds_base.specs.declared.lease_key.ShardRef.{ShardRef}
+use Rattle.kds_defs.specs.declared.command.Target.{Target}
+use Rattle.kds_defs.specs.declared.reply.Row.{Row}
+use Rattle.kds_defs.specs.Journal.{Journal}
+use Rattle.kds_defs.specs.Keys.{same_key}
+use Rattle.kds_defs.specs.Leases.{TenureState, ReadDone, checkpoint_in, delivered, given_reads, is_key, key_of, last_ended, marked_row, new_tenure, place_after_reads, place_of, row, taken_count, taken_row, tenure, with_given, with_opened, with_read}
+use Rattle.kds_defs.specs.Records.{place_after}
+use Rattle.kcl_drill_laws.specs.Holding.{Holding, Holds, after_give, after_mark, after_read, begun_from, given_line, marked_line, opened_line, read_line, taken_line}
+
+same_is : (a : ℕ) → (a == a) ≡ true
+same_is a = grind (arith, nat_tests)
+
+same_key_is : (key : ShardRef) → same_key key key ≡ true
+same_key_is key = ap (λ b. b && (key.shard == key.shard)) (same_is key.stream) ∙ same_is key.shard
+
+-- ---- lists of reads
+
+places_append : (p : ℕ) (rs : List ReadDone) (r : ReadDone) → place_after_reads p (rs ++ r ∷ []) ≡ place_after (place_after_reads p rs) r.numbers
+places_append p [] r = refl
+places_append p (q ∷ rs) r = places_append (place_after p q.numbers) rs r
+
+one_longer : (rs : List ReadDone) (r : ReadDone) → length (rs ++ r ∷ []) ≡ length rs + 1
+one_longer [] r = refl
+one_longer (q ∷ rs) r = let n = one_longer rs r in omega (arith, n)
+
+last_one : (rs : List ReadDone) (r : ReadDone) → last_ended (rs ++ r ∷ []) ≡ r.ended
+last_one [] r = refl
+last_one (q ∷ []) r = refl
+last_one (q ∷ s ∷ rs) r = last_one (s ∷ rs) r
+
+-- the first of so many stay the first, and those after them gain one
+take_stays : (n : ℕ) (rs : List ReadDone) (r : ReadDone) → n ≤ length rs → take n (rs ++ r ∷ []) ≡ take n rs
+take_stays zero [] r le = refl
+take_stays zero (q ∷ rs) r le = refl
+take_stays (suc n) [] r le = absurd (omega (arith, le))
+take_stays (suc n) (q ∷ rs) r le = ap (λ qs. q ∷ qs) (take_stays n rs r (omega (arith, le)))
+
+drop_gains : (n : ℕ) (rs : List ReadDone) (r : ReadDone) → n ≤ length rs → drop n (rs ++ r ∷ []) ≡ drop n rs ++ r ∷ []
+drop_gains zero [] r le = refl
+drop_gains zero (q ∷ rs) r le = refl
+drop_gains (suc n) [] r le = absurd (omega (arith, le))
+drop_gains (suc n) (q ∷ rs) r le = drop_gains n rs r (omega (arith, le))
+
+-- one more of them is the first of those after
+take_more : (n : ℕ) (rs : List ReadDone) (r : ReadDone) (rest : List ReadDone) → drop n rs ≡ r ∷ rest → take (suc n) rs ≡ take n rs ++ r ∷ []
+take_more zero [] r rest is = absurd cc
+take_more zero (q ∷ rs) r rest is = let e : q ≡ r = cc in first q r rs e
+  where
+    none : (rs : List ReadDone) → take 0 rs ≡ []
+    none [] = refl
+    none (x ∷ rs) = refl
+
+    first : (q r : ReadDone) (rs : List ReadDone) → q ≡ r → take 1 (q ∷ rs) ≡ take 0 (q ∷ rs) ++ r ∷ []
+    first q r rs e = ap (λ xs. q ∷ xs) (none rs) ∙ ap (λ x. x ∷ []) e
+take_more (suc n) [] r rest is = absurd cc
+take_more (suc n) (q ∷ rs) r rest is = ap (λ qs. q ∷ qs) (take_more n rs r rest is)
+
+drop_more : (n : ℕ) (rs : List ReadDone) (r : ReadDone) (rest : List ReadDone) → drop n rs ≡ r ∷ rest → drop (suc n) rs ≡ rest
+drop_more zero [] r rest is = absurd cc
+drop_more zero (q ∷ rs) r rest is = let e : rs ≡ rest = cc in none rs ∙ e
+  where
+    none : (rs : List ReadDone) → drop 0 rs ≡ rs
+    none [] = refl
+    none (x ∷ rs) = refl
+drop_more (suc n) [] r rest is = absurd cc
+drop_more (suc n) (q ∷ rs) r rest is = drop_more n rs r rest is
+
+some_more : (n : ℕ) (rs : List ReadDone) (r : ReadDone) (rest : List ReadDone) → drop n rs ≡ r ∷ rest → suc n ≤ length rs
+some_more zero [] r rest is = absurd cc
+some_more zero (q ∷ rs) r rest is = omega arith
+some_more (suc n) [] r rest is = absurd cc
+some_more (suc n) (q ∷ rs) r rest is = let e = some_more n rs r rest is in omega (arith, e)
+
+-- ---- the given reads after one more is given
+
+pub one_more_given : (T : TenureState) (r : ReadDone) (rest : List ReadDone) → drop T.given T.reads ≡ r ∷ rest → given_reads (with_given T) ≡ given_reads T ++ r ∷ []
+one_more_given T r rest is =
+    let e : T.given + 1 ≡ suc T.given = omega arith in
+    ap (λ n. take n T.reads) e ∙ take_more T.given T.reads r rest is
+
+pub given_place : (T : TenureState) (r : ReadDone) (rest : List ReadDone) → drop T.given T.reads ≡ r ∷ rest → delivered (with_given T) ≡ place_after (delivered T) r.numbers
+given_place T r rest is = ap (place_after_reads (place_of T.start)) (one_more_given T r rest is) ∙ places_append (place_of T.start) (given_reads T) r
+
+-- ---- a taking and an opening
+
+pub begun_tenure : (log : Journal) (c by owner : ℕ) (key : ShardRef) (r : Row) → row log key ≡ Some r → tenure (taken_line log c by key r owner ∷ log) (taken_count log + 1) ≡ Some (new_tenure by key r.checkpoint)
+begun_tenure log c by owner key r there =
+    ap (λ b. if b then Some (new_tenure by key (checkpoint_in (row log key))) else tenure log (taken_count log + 1)) (same_is (taken_count log + 1))
+    ∙ ap (λ k. Some (new_tenure by key k)) (ap checkpoint_in there)
+
+pub begun_row : (log : Journal) (c by owner : ℕ) (key : ShardRef) (r : Row) → row log key ≡ Some r → row (taken_line log c by key r owner ∷ log) key ≡ Some (taken_row (taken_count log + 1) owner r)
+begun_row log c by owner key r there =
+    ap (λ b. if b then option_map (taken_row (taken_count log + 1) owner) (row log key) else row log key) (same_key_is key)
+    ∙ ap (option_map (taken_row (taken_count log + 1) owner)) there
+
+told : (t : ℕ) (o : Option TenureState) (T : TenureState) (f : TenureState → TenureState) → o ≡ Some T → (if t == t then option_map f o else o) ≡ Some (f T)
+told t o T f is = ap (λ b. if b then option_map f o else o) (same_is t) ∙ ap (option_map f) is
+
+none_dropped : (rs : List ReadDone) → rs ≡ [] → drop 0 rs ≡ []
+none_dropped [] is = refl
+none_dropped (r ∷ rs) is = absurd cc
+
+pub begun_holds : (log : Journal) (c d by owner : ℕ) (key : ShardRef) (r : Row) → row log key ≡ Some r → Holds (opened_line log d by ∷ taken_line log c by key r owner ∷ log) (begun_from log by key r)
+begun_holds log c d by owner key r there =
+    let t = taken_count log + 1 in
+    let now = taken_line log c by key r owner ∷ log in
+    record {
+      tenure = record {
+        state = with_opened (new_tenure by key r.checkpoint);
+        begun = told t (tenure now t) (new_tenure by key r.checkpoint) with_opened (begun_tenure log c by owner key r there);
+        took = ap (λ b. if b then Some key else key_of log t) (same_is t);
+        own = refl;
+        of_key = refl;
+        opened = refl;
+        up_to = refl;
+        given_to = refl;
+        some = omega arith;
+        waits = refl;
+        last = refl;
+      };
+      row = record {
+        now = taken_row t owner r;
+        there = begun_row log c by owner key r there;
+        of_tenure = refl;
+        counted = refl;
+        checkpoint = refl;
+        floor = refl;
+      };
+    }
+
+-- ---- a read, a giving, a mark
+
+pub read_holds : (log : Journal) (c limit : ℕ) (x : Holding) (r : ReadDone) → Holds log x → Holds (read_line c x limit r ∷ log) (after_read x r)
+read_holds log c limit x r holds =
+    let has = holds.tenure in
+    let held = holds.row in
+    let T = has.state in
+    record {
+      tenure = record {
+        state = with_read r.numbers r.ended T;
+        begun = told x.tenure (tenure log x.tenure) T (with_read r.numbers r.ended) has.begun;
+        took = has.took;
+        own = has.own;
+        of_key = has.of_key;
+        opened = has.opened;
+        up_to = places_append (place_of T.start) T.reads r ∙ ap (λ p. place_after p r.numbers) has.up_to;
+        given_to = ap (place_after_reads (place_of T.start)) (take_stays T.given T.reads r has.some) ∙ has.given_to;
+        some = omega (arith, has.some, one_longer T.reads r);
+        waits = drop_gains T.given T.reads r has.some ∙ ap (λ qs. qs ++ r ∷ []) has.waits;
+        last = ap last_ended (take_stays T.given T.reads r has.some) ∙ has.last;
+      };
+      row = record { now = held.now; there = held.there; of_tenure = held.of_tenure; counted = held.counted; checkpoint = held.checkpoint; floor = held.floor };
+    }
+
+pub give_holds : (log : Journal) (c : ℕ) (x : Holding) (r : ReadDone) (rest : List ReadDone) → Holds log x → x.waiting ≡ r ∷ rest → Holds (given_line c x ∷ log) (after_give x r rest)
+give_holds log c x r rest holds first =
+    let has = holds.tenure in
+    let held = holds.row in
+    let T = has.state in
+    let is = has.waits ∙ first in
+    let e : T.given + 1 ≡ suc T.given = omega arith in
+    record {
+      tenure = record {
+        state = with_given T;
+        begun = told x.tenure (tenure log x.tenure) T with_given has.begun;
+        took = has.took;
+        own = has.own;
+        of_key = has.of_key;
+        opened = has.opened;
+        up_to = has.up_to;
+        given_to = given_place T r rest is ∙ ap (λ p. place_after p r.numbers) has.given_to;
+        some = let n = some_more T.given T.reads r rest is in omega (arith, n);
+        waits = ap (λ n. drop n T.reads) e ∙ drop_more T.given T.reads r rest is;
+        last = ap last_ended (one_more_given T r rest is) ∙ last_one (given_reads T) r;
+      };
+      row = record { now = held.now; there = held.there; of_tenure = held.of_tenure; counted = held.counted; checkpoint = held.checkpoint; floor = held.floor };
+    }
+
+pub mark_holds : (log : Journal) (c : ℕ) (x : Holding) (to : Target) → Holds log x → Holds (marked_line c x to ∷ log) (after_mark x to)
+mark_holds log c x to holds =
+    let has = holds.tenure in
+    let held = holds.row in
+    record {
+      tenure = record { state = has.state; begun = has.begun; took = has.took; own = has.own; of_key = has.of_key; opened = has.opened; up_to = has.up_to; given_to = has.given_to; some = has.some; waits = has.waits; last = has.last };
+      row = record {
+        now = marked_row to held.now;
+        there = ap (λ b. if b then option_map (marked_row to) (row log x.key) else row log x.key) (ap (λ o. is_key o x.key) has.took ∙ same_key_is x.key) ∙ ap (option_map (marked_row to)) held.there;
+        of_tenure = held.of_tenure;
+        counted = ap (λ m. m + 1) held.counted;
+        checkpoint = refl;
+        floor = held.floor;
+      };
+    }

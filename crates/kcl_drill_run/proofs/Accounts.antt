@@ -1,0 +1,65 @@
+-- The accounts of the workers of a drill.
+use Rattle.std.proofs.Common.{◌≡◌, ℕ, zero, suc, ◌+◌, ◌<◌, ◌≤◌, Bool, cond, List, [], ◌∷◌, ◌++◌, length, map, refl, ap, ◌∙◌, arith, eq-eqb}
+use Rattle.std.specs.Prelude.{flat_map}
+use Rattle.std.specs.List.{All, AllByRecursion}
+use mathlib.Core.Logic.{dite}
+use native.Mathlib.Decide.{ℕ_discrete}
+use Rattle.kds_turn.specs.declared.view.Account.{Account}
+use Rattle.kds_turn.specs.Known.{account, has, times}
+use Rattle.kds_turn.specs.Passes.{Place, Standing}
+use Rattle.kcl_closed.specs.Closed.{all_accounts}
+use Rattle.kcl_live.specs.declared.crew.Member.{Member}
+use Rattle.kcl_drill_run.specs.Running.{HavePasses, account_in, accounts_in}
+
+-- the numbers of the accounts are those from this one on
+abbrev pub CountFrom : ℕ → List Account → Type 0
+CountFrom from [] = Unit {0}
+CountFrom from (a ∷ xs) = (a.by ≡ from) × CountFrom (from + 1) xs
+
+module _ {M P F G : Type 0} (hall : Place) where
+  -- no other pass was joined into a worker's
+  pub each_alone : (from : ℕ) (ms : List (Member M P F G)) → HavePasses hall from ms → flat_map accounts_in ms ≡ map account_in ms
+  each_alone from [] are = refl
+  each_alone from (m ∷ ms) are =
+      ap (λ (xs : List Account). (account m.pass.by m.pass.own ∷ xs) ++ flat_map accounts_in ms) are.0.alone
+      ∙ ap (λ (xs : List Account). account m.pass.by m.pass.own ∷ xs) (each_alone (from + 1) ms are.1)
+
+  pub counted : (from : ℕ) (ms : List (Member M P F G)) → HavePasses hall from ms → CountFrom from (map account_in ms)
+  counted from [] are = tt
+  counted from (m ∷ ms) are = (are.0.by, counted (from + 1) ms are.1)
+
+  pub all_there : (from : ℕ) (ms : List (Member M P F G)) → HavePasses hall from ms → All (λ m. m.pass.hall ≡ hall.id) ms
+  all_there from [] are k d below = absurd (omega (arith, below))
+  all_there from (m ∷ ms) are zero d below = are.0.at
+  all_there from (m ∷ ms) are (suc k) d below = all_there (from + 1) ms are.1 k d (omega (arith, below))
+
+module _ {M P F G : Type 0} where
+  pub count_accounts : (ms : List (Member M P F G)) → length (map account_in ms) ≡ length ms
+  count_accounts [] = refl
+  count_accounts (m ∷ ms) = ap suc (count_accounts ms)
+
+  pub of_accounts : (Q : Account → Type 0) (ms : List (Member M P F G)) → AllByRecursion (λ m. Q (account_in m)) ms → AllByRecursion Q (map account_in ms)
+  of_accounts Q [] of = tt
+  of_accounts Q (m ∷ ms) of = (of.0, of_accounts Q ms of.1)
+
+-- ---- each number is there
+
+has_one : (n : ℕ) (a : Account) → a.by ≡ n → has n a ≡ 1
+has_one n a e = ap (λ (b : Bool). cond b 1 0) (eq-eqb a.by n e)
+
+has_some : (from n : ℕ) (xs : List Account) → CountFrom from xs → from ≤ n → n < from + length xs → 0 < times n xs
+has_some from n [] are least most = absurd (omega (arith, least, most))
+has_some from n (a ∷ xs) are least most =
+    dite (ℕ_discrete from n)
+    (λ is. let one = has_one n a (are.0 ∙ is) in omega (arith, one))
+    (λ ne. let more = has_some (from + 1) n xs are.1 (omega (arith, least, ne)) (omega (arith, most)) in omega (arith, more))
+
+-- the numbers 1, 2 and those of the workers
+pub has_each : (root feeder : Standing) (xs : List Account) → root.by ≡ 1 → feeder.by ≡ 2 → CountFrom 3 xs
+    → (n : ℕ) → 0 < n → n ≤ length xs + 2 → 0 < times n (all_accounts root feeder xs)
+has_each root feeder xs first second are n least most =
+    dite (ℕ_discrete 1 n)
+    (λ is. let one = has_one n (account root.by root.own) (first ∙ is) in omega (arith, one))
+    (λ not1. dite (ℕ_discrete 2 n)
+    (λ is. let one = has_one n (account feeder.by feeder.own) (second ∙ is) in omega (arith, one))
+    (λ not2. let more = has_some 3 n xs are (omega (arith, least, not1, not2)) (omega (arith, most)) in omega (arith, more)))

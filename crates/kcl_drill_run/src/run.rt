@@ -1,0 +1,81 @@
+//! The run of a drill.
+ghost use Rattle.std.specs.Prelude.{◌≡◌, ◌≤◌, IfOk};
+ghost use Rattle.kds_ends.specs.Causes.{Rose};
+ghost use Rattle.kcl_drill.specs.declared.limits.TheConstants.{MOST_RECORDS, MOST_WORKERS};
+ghost use Rattle.kcl_drill.specs.Summed.{drill_text};
+ghost use Rattle.kcl_drill_run.specs.Running.{HasDrilled};
+ghost use Rattle.kcl_drill_run.specs.Told.{DrillTells};
+
+use crate::closing::close;
+use crate::participants::assemble;
+use crate::threads::run_threads;
+use kcl_drained::drained_text;
+use kcl_world::World;
+use kds_base::{Memory, Octets};
+use kds_ends::{Sink, Status, write_all};
+use kds_turn::TurnErr;
+use std::alloc::Global;
+use std::sync::Wait;
+use std::thread::Threads;
+
+/// The machine after a drill of so many workers, whose hall was closed. Memory: want of memory for the hall, for a command
+/// of the generator, or for a worker.
+fn drill<R: Threads + Wait + Sync>(
+    rt: &R,
+    alloc: Global,
+    number: u64,
+    workers: u32,
+    records: u64,
+) -> Result<World, Memory>
+    requires within { (1 ≤ workers) × (workers ≤ MOST_WORKERS) × (records ≤ MOST_RECORDS) }
+    ensures { IfOk result (HasDrilled number records) }
+{
+    let (hall, mut participants) = assemble(alloc, workers)?;
+    let ran = run_threads(rt, alloc, &hall, &mut participants, number, records);
+    // However they ended, the hall is closed and its history counted: it is too short for `Spent`.
+    let world = close(hall, participants);
+    match ran {
+        Ok(()) => Ok(world),
+        Err(TurnErr::Memory) => Err(Memory),
+        Err(TurnErr::Spent) => unreachable!(),
+    }
+}
+
+/// The summary after a drill, once each shard was read to its end. Memory: want of memory.
+fn find_text<R: Threads + Wait + Sync>(
+    rt: &R,
+    alloc: Global,
+    number: u64,
+    workers: u32,
+    records: u64,
+) -> Result<Octets, Memory>
+    requires within { (1 ≤ workers) × (workers ≤ MOST_WORKERS) × (records ≤ MOST_RECORDS) }
+    ensures { IfOk result (λ text. text ≡ drill_text number records) }
+{
+    let mut world = drill(rt, alloc, number, workers, records)?;
+    drained_text(alloc, &mut world)
+}
+
+/// Runs a drill of a number with so many workers and records, and writes its summary: the same text at each run, whatever
+/// the number of workers is and however the threads ran. Done: the text was written. Write: the sink failed. Memory:
+/// want of memory, before anything was written. It may wait for its threads.
+pub fn run_drill<R: Threads + Wait + Sync, K: Sink>(
+    rt: &R,
+    alloc: Global,
+    number: u64,
+    workers: u32,
+    records: u64,
+    out: &mut K,
+) -> Status
+    requires within { (1 ≤ workers) × (workers ≤ MOST_WORKERS) × (records ≤ MOST_RECORDS) }
+    ensures told { DrillTells result number records (K.held out.old) (K.held out.new) }
+    ensures write { result ≡ Status.Write → Rose (K.faults out.old) (K.faults out.new) }
+{
+    match find_text(rt, alloc, number, workers, records) {
+        Ok(text) => match write_all(out, text.as_slice()) {
+            Ok(()) => Status::Done,
+            Err(_) => Status::Write,
+        },
+        Err(_) => Status::Memory,
+    }
+}

@@ -1,0 +1,63 @@
+//! The threads of a drill.
+ghost use Rattle.std.specs.Prelude.{◌≡◌, ◌≤◌, IfErr, OnOk};
+ghost use Rattle.kds_turn.specs.declared.pass.TurnErr.TheVariants as failed;
+ghost use Rattle.kcl_drill.specs.declared.limits.TheConstants.{MOST_RECORDS};
+ghost use Rattle.kcl_drill_run.specs.Ends.{AllEnded, SomeFailed};
+ghost use Rattle.kcl_drill_run.specs.Participants.{AreDealt};
+ghost use Rattle.kcl_drill_run.specs.Running.{AreFull, HaveFailed, HaveRun, HaveStopped};
+
+use crate::participants::{DrillMember, Participants};
+use kcl_closed::horizon;
+use kcl_drill_threads::crowd;
+use kcl_world::World;
+use kds_turn::{Hall, TurnErr};
+use std::alloc::Global;
+use std::sync::Wait;
+use std::thread::Threads;
+
+/// How the first worker ended that didn't run to its end, if there is one.
+fn first_error(members: &[DrillMember]) -> Result<(), TurnErr>
+    ensures ok { OnOk result (AllEnded members.now) }
+    ensures err { IfErr result (λ e. SomeFailed e members.now) }
+{
+    for member in members {
+        match member.outcome {
+            Ok(()) => {}
+            Err(error) => return Err(error),
+        }
+    }
+    Ok(())
+}
+
+/// Runs the threads of a drill: the root's command, and then the feeder's beside the workers. Memory: want of memory for a
+/// command of the generator, for its turn, or for a worker. Spent: the hall's history is full.
+pub fn run_threads<R: Threads + Wait + Sync>(
+    rt: &R,
+    alloc: Global,
+    hall: &Hall<World>,
+    participants: &mut Participants,
+    number: u64,
+    records: u64,
+) -> Result<(), TurnErr>
+    requires dealt { AreDealt hall.now participants.old }
+    requires few { records ≤ MOST_RECORDS }
+    ensures stopped { HaveStopped hall.now number records participants.new }
+    ensures ran { OnOk result (HaveRun hall.now number records participants.new) }
+    ensures err { IfErr result (HaveFailed participants.old participants.new) }
+    ensures full { IfErr result (λ e. e ≡ failed.Spent → AreFull participants.new) }
+{
+    horizon();
+    match crowd(
+        rt,
+        alloc,
+        hall,
+        &mut participants.root,
+        &mut participants.feeder,
+        participants.members.as_mut_slice(),
+        number,
+        records,
+    ) {
+        Ok(()) => first_error(participants.members.as_slice()),
+        Err(error) => Err(error),
+    }
+}

@@ -1,0 +1,141 @@
+-- What is left of rising records after a batch.
+use Rattle.std.proofs.Common.{◌≡◌, ℕ, zero, suc, ◌+◌, ◌-◌, ◌<◌, ◌≤◌, Bool, true, false, List, [], ◌∷◌, ◌++◌, length, map, refl, sym, ap, ◌∙◌, arith}
+use Rattle.std.specs.Prelude.{not, nat_le, nat_lt, ◌&&◌, cond, if◌then◌else◌}
+use Rattle.std.specs.List.{AllByRecursion, filter}
+use Rattle.std.proofs.lemmas.Bool.Decides.{nat_tests}
+use Rattle.kds_defs.specs.Records.{Logged, beginning, left_among, logged, numbers_of, place_after, stored}
+use Rattle.kcl_laws.specs.Recorded.{IsSized}
+use Rattle.kcl_drill_summary.specs.Counting.{AreAbove}
+use Rattle.kcl_drill.specs.Summed.{bytes_of}
+
+abbrev pub AreSized : List Logged → Type 0
+AreSized rs = AllByRecursion IsSized rs
+
+-- the numbers rise from p on
+abbrev pub IsUp : ℕ → List Logged → Type 0
+IsUp p [] = Unit {0}
+IsUp p (r ∷ rs) = (p ≤ r.seq) × IsUp (r.seq + 1) rs
+
+-- the records from a number on
+abbrev pub from : ℕ → List Logged → List Logged
+from p rs = filter (λ (r : Logged). nat_le p r.seq) rs
+
+le_so : (p n : ℕ) → nat_le p n ≡ true → p ≤ n
+le_so p n is = grind (arith, nat_tests)
+
+so_le : (p n : ℕ) → p ≤ n → nat_le p n ≡ true
+so_le p n is = grind (arith, nat_tests)
+
+not_le : (p n : ℕ) → n < p → nat_le p n ≡ false
+not_le p n is = grind (arith, nat_tests)
+
+lt_so : (p n : ℕ) → nat_le p n ≡ false → n < p
+lt_so p n is = grind (arith, nat_tests)
+
+pub up_weaker : (p m : ℕ) (rs : List Logged) → p ≤ m → IsUp m rs → IsUp p rs
+up_weaker p m [] le up = tt
+up_weaker p m (r ∷ rs) le up = (omega (arith, le, up.0), up.1)
+
+up_kept : (p m : ℕ) (rs : List Logged) → IsUp m rs → IsUp m (from p rs)
+up_kept p m [] up = tt
+up_kept p m (r ∷ rs) up = either (nat_le p r.seq) (up_kept p (r.seq + 1) rs up.1)
+  where
+    either : (b : Bool) → IsUp (r.seq + 1) (from p rs) → IsUp m (cond b (r ∷ from p rs) (from p rs))
+    either true rest = (up.0, rest)
+    either false rest = up_weaker m (r.seq + 1) (from p rs) (omega (arith, up.0)) rest
+
+up_head : (p : ℕ) (r : Logged) (rs : List Logged) (b : Bool) → nat_le p r.seq ≡ b → IsUp (r.seq + 1) rs → IsUp p (from p rs) → IsUp p (cond b (r ∷ from p rs) (from p rs))
+up_head p r rs true is up rest = (le_so p r.seq is, up_kept p (r.seq + 1) rs up)
+up_head p r rs false is up rest = rest
+
+pub up_from : (p m : ℕ) (rs : List Logged) → IsUp m rs → IsUp p (from p rs)
+up_from p m [] up = tt
+up_from p m (r ∷ rs) up = up_head p r rs (nat_le p r.seq) refl up.1 (up_from p (r.seq + 1) rs up.1)
+
+pub all_from : (p : ℕ) (rs : List Logged) → IsUp p rs → from p rs ≡ rs
+all_from p [] up = refl
+all_from p (r ∷ rs) up =
+    ap (λ b. cond b (r ∷ from p rs) (from p rs)) (so_le p r.seq up.0)
+    ∙ ap (λ xs. r ∷ xs) (all_from p rs (up_weaker p (r.seq + 1) rs (omega (arith, up.0)) up.1))
+
+pub place_up : (limit room p : ℕ) (rs : List Logged) → IsUp p rs → p ≤ place_after p (numbers_of (beginning limit room rs))
+place_up zero room p rs up = omega arith
+place_up (suc limit) room p [] up = omega arith
+place_up (suc limit) room p (r ∷ rs) up = either (nat_le r.bytes room) (place_up limit (room - r.bytes) (r.seq + 1) rs up.1)
+  where
+    either : (b : Bool) → r.seq + 1 ≤ place_after (r.seq + 1) (numbers_of (beginning limit (room - r.bytes) rs)) → p ≤ place_after p (numbers_of (if b then r ∷ beginning limit (room - r.bytes) rs else []))
+    either true rest = omega (arith, up.0, rest)
+    either false rest = omega arith
+
+part_head : (p : ℕ) (r : Logged) (rs bs : List Logged) (b : Bool) → p ≤ r.seq → IsUp (r.seq + 1) rs → r.seq + 1 ≤ place_after (r.seq + 1) (numbers_of bs) → rs ≡ bs ++ from (place_after (r.seq + 1) (numbers_of bs)) rs
+    → r ∷ rs ≡ (if b then r ∷ bs else []) ++ from (place_after p (numbers_of (if b then r ∷ bs else []))) (r ∷ rs)
+part_head p r rs bs true le up above rest =
+    let place = place_after (r.seq + 1) (numbers_of bs) in
+    ap (λ xs. r ∷ xs) rest
+    ∙ ap (λ b. r ∷ (bs ++ cond b (r ∷ from place rs) (from place rs))) (sym (not_le place r.seq (omega (arith, above))))
+part_head p r rs bs false le up above rest = sym (all_from p (r ∷ rs) (le, up))
+
+-- a batch, and those from the place after it on, are all
+pub parts : (limit room p : ℕ) (rs : List Logged) → IsUp p rs → rs ≡ beginning limit room rs ++ from (place_after p (numbers_of (beginning limit room rs))) rs
+parts zero room p rs up = sym (all_from p rs up)
+parts (suc limit) room p [] up = refl
+parts (suc limit) room p (r ∷ rs) up =
+    part_head p r rs (beginning limit (room - r.bytes) rs) (nat_le r.bytes room) up.0 up.1
+    (place_up limit (room - r.bytes) (r.seq + 1) rs up.1) (parts limit (room - r.bytes) (r.seq + 1) rs up.1)
+
+twice_head : (p place : ℕ) (r : Logged) (rs : List Logged) → p ≤ place → (b d : Bool) → nat_le p r.seq ≡ b → nat_le place r.seq ≡ d → from place (from p rs) ≡ from place rs
+    → from place (cond b (r ∷ from p rs) (from p rs)) ≡ cond d (r ∷ from place rs) (from place rs)
+twice_head p place r rs le true true is at so = ap (λ b. cond b (r ∷ from place (from p rs)) (from place (from p rs))) at ∙ ap (λ xs. r ∷ xs) so
+twice_head p place r rs le true false is at so = ap (λ b. cond b (r ∷ from place (from p rs)) (from place (from p rs))) at ∙ so
+twice_head p place r rs le false true is at so = absurd (omega (arith, le, le_so place r.seq at, lt_so p r.seq is))
+twice_head p place r rs le false false is at so = so
+
+pub from_twice : (p place : ℕ) (rs : List Logged) → p ≤ place → from place (from p rs) ≡ from place rs
+from_twice p place [] le = refl
+from_twice p place (r ∷ rs) le = twice_head p place r rs le (nat_le p r.seq) (nat_le place r.seq) refl refl (from_twice p place rs le)
+
+-- where nothing of them is trimmed, those that are left are those from a number on
+pub left_all : (floor p : ℕ) (rs : List Logged) → AreAbove floor rs → left_among floor p rs ≡ from p rs
+left_all floor p [] are = refl
+left_all floor p (r ∷ rs) are =
+    ap (λ b. cond (not b && nat_le p r.seq) (r ∷ left_among floor p rs) (left_among floor p rs)) are.0
+    ∙ ap (λ xs. cond (nat_le p r.seq) (r ∷ xs) xs) (left_all floor p rs are.1)
+
+-- ---- where a read comes no further, nothing is left
+
+pub sized_from : (p : ℕ) (rs : List Logged) → AreSized rs → AreSized (from p rs)
+sized_from p [] are = tt
+sized_from p (r ∷ rs) are = either (nat_le p r.seq) (sized_from p rs are.1)
+  where
+    either : (b : Bool) → AreSized (from p rs) → AreSized (cond b (r ∷ from p rs) (from p rs))
+    either true rest = (are.0, rest)
+    either false rest = rest
+
+pub stuck : (limit p : ℕ) (rs : List Logged) → IsUp p rs → AreSized rs → nat_lt p (place_after p (numbers_of (beginning (suc limit) 10485760 rs))) ≡ false → rs ≡ []
+stuck limit p [] up are is = refl
+stuck limit p (r ∷ rs) up are is = absurd (either (nat_le r.bytes 10485760) (so_le r.bytes 10485760 (omega (arith, are.0.1))) is)
+  where
+    either : (b : Bool) → b ≡ true → nat_lt p (place_after p (numbers_of (if b then r ∷ beginning limit (10485760 - r.bytes) rs else []))) ≡ false → ⊥
+    either false fits h = absurd cc
+    either true fits h = no p (place_after (r.seq + 1) (numbers_of (beginning limit (10485760 - r.bytes) rs))) (omega (arith, up.0, place_up limit (10485760 - r.bytes) (r.seq + 1) rs up.1)) h
+      where
+        no : (p q : ℕ) → p < q → nat_lt p q ≡ false → ⊥
+        no p q below h = grind (arith, nat_tests)
+
+-- ---- counts
+
+pub bytes_append : (xs ys : List Logged) → bytes_of (xs ++ ys) ≡ bytes_of xs + bytes_of ys
+bytes_append [] ys = omega arith
+bytes_append (x ∷ xs) ys = let n = bytes_append xs ys in omega (arith, n)
+
+pub length_append : (xs ys : List Logged) → length (xs ++ ys) ≡ length xs + length ys
+length_append [] ys = omega arith
+length_append (x ∷ xs) ys = let n = length_append xs ys in omega (arith, n)
+
+pub length_stored : (rs : List Logged) → length (map stored rs) ≡ length rs
+length_stored [] = refl
+length_stored (r ∷ rs) = let n = length_stored rs in omega (arith, n)
+
+pub bytes_stored : (rs : List Logged) → bytes_of (map logged (map stored rs)) ≡ bytes_of rs
+bytes_stored [] = refl
+bytes_stored (r ∷ rs) = let n = bytes_stored rs in omega (arith, n)

@@ -1,0 +1,88 @@
+-- Turns that only read leave the journal, and are answered as if nothing were read before them.
+use Rattle.std.proofs.Common.{◌≡◌, ℕ, Bool, true, false, List, [], ◌∷◌, ◌++◌, Option, Some, None, refl, ap, ◌∙◌, arith}
+use Rattle.std.specs.Prelude.{max, Result, Ok, Err, IfOk, OnErr}
+use Rattle.kds_defs.specs.declared.command.Command.{Command}
+use Rattle.kds_defs.specs.declared.command.Command.TheVariants as command
+use Rattle.kds_defs.specs.declared.command.Turn.{Turn}
+use Rattle.kds_defs.specs.declared.command.Start.{Start}
+use Rattle.kds_defs.specs.declared.reply.Iter.{Iter}
+use Rattle.kds_defs.specs.declared.reply.Refusal.{Refusal}
+use Rattle.kds_defs.specs.Decision.{Decision, Accepted, refuse◌if◌else◌, with◌or◌then◌}
+use Rattle.kds_defs.specs.Listings.{get_iterator, get_records}
+use Rattle.kds_defs.specs.declared.reply.Reply.{Reply}
+use Rattle.kds_defs.specs.Histories.{answer, answer_of, clock, decide, journal, lines_of}
+use Rattle.kds_defs.specs.Journal.{Journal, with_lines}
+use Rattle.kcl_drill_summary.specs.Reading.{AreReads, HasRead, is_reading}
+
+-- nothing is added
+IsIdle : Decision → Type 0
+IsIdle d = lines_of d ≡ []
+
+idle : (r : Reply) → IsIdle (Accepted [] r)
+unfolding IsIdle
+idle r = refl
+
+idle_lines : (d : Decision) → IsIdle d → lines_of d ≡ []
+unfolding IsIdle
+idle_lines d is = is
+
+idle_if : (r : Refusal) (b : Bool) (d : Decision) → IsIdle d → IsIdle (refuse r if b else d)
+unfolding refuse◌if◌else◌ IsIdle
+idle_if r true d so = refl
+idle_if r false d so = so
+
+idle_with : {A : Type 0} (o : Option A) (r : Refusal) (d : A → Decision) → ((x : A) → IsIdle (d x)) → IsIdle (with o or r then d)
+unfolding with◌or◌then◌ IsIdle
+idle_with None r d so = refl
+idle_with (Some x) r d so = so x
+
+iterator_idle : (log : Journal) (c s sh : ℕ) (from : Start) → IsIdle (get_iterator log c s sh from)
+iterator_idle log c s sh from = idle_if _ _ _ (idle_with _ _ _ (λ x. idle_if _ _ _ (idle _)))
+
+records_idle : (log : Journal) (c : ℕ) (iter : Iter) (limit : ℕ) → IsIdle (get_records log c iter limit)
+records_idle log c iter limit = idle_if _ _ _ (idle_if _ _ _ (idle_if _ _ _ (idle _)))
+
+reads_idle : (log : Journal) (c by : ℕ) (what : Command) → is_reading what ≡ true → IsIdle (decide log c by what)
+reads_idle log c by command.Survey is = idle _
+reads_idle log c by (command.GetIterator name sh from) is = idle_with _ _ _ (λ s. iterator_idle log c s sh from)
+reads_idle log c by (command.Records iter limit) is = records_idle log c iter limit
+reads_idle log c by _ is = absurd cc
+
+no_lines : (log : Journal) (c by : ℕ) (what : Command) → is_reading what ≡ true → lines_of (decide log c by what) ≡ []
+no_lines log c by what is = idle_lines (decide log c by what) (reads_idle log c by what is)
+
+clocks : (m c at now : ℕ) → at ≡ now → max c now ≡ max m now → max (max c at) now ≡ max m now
+clocks m c at now is so = omega (arith, is, so)
+
+pub leaves : (by at : ℕ) (more h : List Turn) → AreReads by at more → (journal (more ++ h) ≡ journal h) × (max (clock (more ++ h)) at ≡ max (clock h) at)
+leaves by at [] h are = (refl, refl)
+leaves by at (turn ∷ more) h are =
+    let rest = leaves by at more h are.1 in
+    let none = no_lines (journal (more ++ h)) (clock (turn ∷ (more ++ h))) turn.by turn.what are.0.2 in (
+      ap (λ ls. with_lines ls (journal (more ++ h))) none ∙ rest.0,
+      clocks (clock h) (clock (more ++ h)) turn.at at are.0.1 rest.1,
+    )
+
+abbrev pub turn_of : ℕ → ℕ → Command → Turn
+turn_of by at what = record { by = by; at = at; what = what }
+
+pub answer_is : (by at : ℕ) (more h : List Turn) (what : Command) → AreReads by at more → answer (more ++ h) (turn_of by at what) ≡ answer_of (decide (journal h) (max (clock h) at) by what)
+answer_is by at more h what are =
+    let l = leaves by at more h are in
+    ap (λ log. answer_of (decide log (max (clock (more ++ h)) at) by what)) l.0
+    ∙ ap (λ c. answer_of (decide (journal h) c by what)) l.1
+
+pub asked : {E : Type 0} (stands : List Turn → Type 0) (stands' : List Turn → Type 0) (by at : ℕ) (h : List Turn) (what : Command) (r : Result (Result Reply Refusal) E) → (has : HasRead stands by at h)
+    → IfOk r (λ a. (a ≡ answer (has.more ++ h) (turn_of by at what)) × stands' (turn_of by at what ∷ (has.more ++ h)))
+    → IfOk r (λ a. a ≡ answer_of (decide (journal h) (max (clock h) at) by what))
+asked stands stands' by at h what (Ok a) has is = is.0 ∙ answer_is by at has.more h what has.are
+asked stands stands' by at h what (Err e) has is = tt
+
+-- whatever came of it, the machine has read
+pub has_read : {E : Type 0} (stands : List Turn → Type 0) (stands' : List Turn → Type 0) (by at : ℕ) (h : List Turn) (what : Command) (r : Result (Result Reply Refusal) E) → is_reading what ≡ true → (has : HasRead stands by at h)
+    → IfOk r (λ a. (a ≡ answer (has.more ++ h) (turn_of by at what)) × stands' (turn_of by at what ∷ (has.more ++ h)))
+    → OnErr r (stands' (has.more ++ h))
+    → HasRead stands' by at h
+has_read stands stands' by at h what (Ok a) reads has is kept =
+    record { more = turn_of by at what ∷ has.more; stands_now = is.1; are = ((refl, refl, reads), has.are) }
+has_read stands stands' by at h what (Err e) reads has is kept = record { more = has.more; stands_now = kept; are = has.are }

@@ -1,0 +1,77 @@
+//! The summary of a drill.
+ghost use Rattle.std.specs.Prelude.{ℕ, ◌≡◌, ◌++◌, List, max, Ok, IfOk, OnOk, OnErr};
+ghost use Rattle.kds_base.specs.declared.lease_key.ShardRef.{ShardRef};
+ghost use Rattle.kds_defs.specs.declared.command.Turn.{Turn as Asked};
+ghost use Rattle.kds_defs.specs.declared.reply.Reply.TheVariants as reply;
+ghost use Rattle.kds_defs.specs.declared.reply.Row.{Row};
+ghost use Rattle.kds_defs.specs.Histories.{clock, journal};
+ghost use Rattle.kds_defs.specs.Leases.{rows};
+ghost use Rattle.kcl_drill.specs.Summed.{summary_text};
+ghost use Rattle.kcl_drill_summary.specs.Counting.{CanSum};
+ghost use Rattle.kcl_drill_summary.specs.Summing.{CanTell, IsTold};
+ghost use Rattle.kcl_drill_summary.specs.Reading.{HasRead};
+
+use crate::asking::ask;
+use crate::summing::{ShardSum, sum_shards};
+use crate::text::text_of;
+use kcl_laws::{shard_records, step};
+use kds_base::{Memory, Moment, Octets};
+use kds_defs::{Answer, Command, Machine, Reply};
+use std::alloc::Global;
+
+/// What is told of each shard of the drill's stream in a survey.
+fn sum_survey<M: Machine>(
+    alloc: Global,
+    machine: &mut M,
+    by: u32,
+    at: Moment,
+    survey: &Answer,
+) -> Result<Vec<ShardSum>, Memory>
+    ensures ok { (h : List Asked) (s : ℕ) (keys : List ShardRef) (among : List Row) → survey.now ≡ Ok (reply.Survey keys among)
+        → CanTell (M.stands_for machine.old) by at h s keys among → IfOk result (λ sums. IsTold (journal h) s keys sums.items) }
+    ensures read { (h : List Asked) → HasRead (M.stands_for machine.old) by at h → HasRead (M.stands_for machine.new) by at h }
+{
+    match survey {
+        Ok(Reply::Survey { shards, rows }) => {
+            sum_shards(alloc, machine, by, at, shards.as_slice(), rows.as_slice())
+        }
+        _ => Ok(Vec::new(alloc)),
+    }
+}
+
+/// The text of the summary.
+fn find_text<M: Machine>(
+    alloc: Global,
+    machine: &mut M,
+    by: u32,
+    at: Moment,
+) -> Result<Octets, Memory>
+    ensures text { (h : List Asked) → HasRead (M.stands_for machine.old) by at h → CanSum h (max (clock h) at)
+        → IfOk result (λ t. t ≡ summary_text (journal h) (max (clock h) at)) }
+    ensures read { (h : List Asked) → HasRead (M.stands_for machine.old) by at h → HasRead (M.stands_for machine.new) by at h }
+{
+    step();
+    shard_records();
+    let answer = ask(machine, by, at, Command::Survey)?;
+    let sums = sum_survey(alloc, machine, by, at, &answer)?;
+    text_of(alloc, sums.as_slice())
+}
+
+/// Adds the summary of a drill: a line for each listed shard of its stream, and then the records and the payload bytes
+/// of all. It is read from the machine by turns of an actor at a moment, which leave the journal as it is. After want of
+/// memory the text is as before.
+pub fn summary<M: Machine>(
+    alloc: Global,
+    machine: &mut M,
+    by: u32,
+    at: Moment,
+    to: &mut Octets,
+) -> Result<(), Memory>
+    ensures text { (h : List Asked) → HasRead (M.stands_for machine.old) by at h → CanSum h (max (clock h) at)
+        → OnOk result (to.new ≡ to.old ++ summary_text (journal h) (max (clock h) at)) }
+    ensures err { OnErr result (to.new ≡ to.old) }
+    ensures read { (h : List Asked) → HasRead (M.stands_for machine.old) by at h → HasRead (M.stands_for machine.new) by at h }
+{
+    let text = find_text(alloc, machine, by, at)?;
+    to.extend(text.as_slice())
+}

@@ -1,0 +1,179 @@
+-- The turns of a root and of a feeder.
+use Rattle.std.proofs.Common.{◌≡◌, ◌⊎◌, inl, inr, ℕ, ◌<◌, Bool, true, false, List, [], ◌∷◌, ◌++◌, length, refl, sym, ap, subst, ◌∙◌, arith, append_assoc, Result, Ok, Err}
+use Rattle.std.specs.Prelude.{take, drop, IfErr, OnErr, OnOk}
+use Rattle.kds_defs.specs.declared.command.Command.{Command}
+use Rattle.kds_defs.specs.declared.command.Turn.{Turn}
+use Rattle.kds_turn.specs.declared.pass.TurnErr.{TurnErr}
+use Rattle.kds_turn.specs.Known.{Continues, turns_by}
+use Rattle.kds_turn.specs.Passes.{Standing}
+use Rattle.kcl_drill.specs.Generated.{generated}
+use Rattle.kcl_drill_threads.specs.Asking.{Asks, HasAsked, HasBegun, IsAskErr, IsKept, turn_of}
+use Rattle.kcl_drill_threads.specs.Feeding.{Feeds, HasFed, HasFedSoFar, IsAfter, IsAtOwn, IsCrowdErr, IsFeedErr}
+use Rattle.kcl_drill_threads.proofs.Passing.{asked_all, asked_more, asked_same, begun_by, continues_all, kept_all, kept_same, none_before, none_before_one}
+
+-- ---- the root
+
+-- its turn is the first command, and what it has seen begins with it
+pub record HasMadeFirst (coming left : List Command) (p : Standing) : Type 0 where
+  pub asked : HasAsked (take 1 coming) p
+  pub left_are : left ≡ drop 1 coming
+  pub older : List Turn
+  pub seen : p.seen ≡ p.own ++ older
+
+pub made_first : (more : Bool) (coming left : List Command) (a b : Standing) → a.own ≡ [] → IsKept a b → Asks more coming left a b → HasMadeFirst coming left b
+made_first true coming left a b new kept (what, first, answer, is) =
+    let own : b.own ≡ turn_of a.by what ∷ [] = is.own ∙ ap (λ ts. turn_of a.by what ∷ ts) new in
+    record {
+      asked = subst (λ cs. HasAsked (take 1 cs) b) (sym first) (asked_more [] what a b kept.by new is.own);
+      left_are = ap (drop 1) (sym first);
+      older = is.place;
+      seen = is.seen ∙ ap (λ ts. ts ++ is.place) (sym own);
+    }
+made_first false coming left a b new kept (first, none, same) =
+    let own : b.own ≡ [] = ap (λ (p : Standing). p.own) same ∙ new in
+    record {
+      asked = subst (λ cs. HasAsked (take 1 cs) b) (sym first) own;
+      left_are = none ∙ ap (drop 1) (sym first);
+      older = b.seen;
+      seen = ap (λ ts. ts ++ b.seen) (sym own);
+    }
+
+-- a feeder that learned of it
+pub learned : (root feeder : Standing) (older : List Turn) → root.seen ≡ root.own ++ older → Continues feeder.seen root.seen → feeder.own ≡ [] → IsAfter root feeder
+learned root feeder older seen later none =
+    record {
+      newer = later.0;
+      older = older;
+      around = later.1 ∙ ap (λ ts. later.0 ++ ts) seen;
+      none = λ some. absurd (omega (arith, some, ap length none));
+    }
+
+-- ---- the feeder
+
+pub record IsFeeding (all left : List Command) (before now : Standing) : Type 0 where
+  pub kept : IsKept before now
+  pub made : List Command
+  pub parts : all ≡ made ++ left
+  pub asked : HasAsked made now
+  pub none : 0 < length now.own → turns_by now.by before.seen ≡ []
+  pub last : (now.own ≡ []) ⊎ IsAtOwn now
+
+pub feeding_first : (all : List Command) (p : Standing) → p.own ≡ [] → IsFeeding all all p p
+feeding_first all p new =
+    record {
+      kept = kept_same p;
+      made = [];
+      parts = refl;
+      asked = new;
+      none = λ some. absurd (omega (arith, some, ap length new));
+      last = inl new;
+    }
+
+none_at_first : (coming left : List Command) (before a b : Standing) → IsKept before a → IsKept a b → a.own ≡ [] → Asks true coming left a b → turns_by b.by before.seen ≡ []
+none_at_first coming left before a b kept next new (what, first, answer, is) =
+    let turn = turn_of a.by what in
+    let one : turns_by b.by (turn ∷ is.place) ≡ turn ∷ [] = ap (turns_by b.by) (sym is.seen) ∙ is.all_own ∙ is.own ∙ ap (λ ts. turn ∷ ts) new in
+    let none = none_before_one b.by turn is.place (sym next.by) one in
+    none_before b.by is.place before.seen (continues_all is.place a.seen before.seen is.later kept.seen) none
+
+none_still : (before a b : Standing) → b.by ≡ a.by → IsAtOwn a → (0 < length a.own → turns_by a.by before.seen ≡ []) → turns_by b.by before.seen ≡ []
+none_still before a b by at none =
+    ap (λ n. turns_by n before.seen) by ∙ none (omega (arith, ap length at.own))
+
+none_by : (coming left : List Command) (before a b : Standing) → IsKept before a → IsKept a b → (a.own ≡ []) ⊎ IsAtOwn a → (0 < length a.own → turns_by a.by before.seen ≡ []) → Asks true coming left a b → turns_by b.by before.seen ≡ []
+none_by coming left before a b kept next (inl new) none asks = none_at_first coming left before a b kept next new asks
+none_by coming left before a b kept next (inr at) none asks = none_still before a b next.by at none
+
+pub feeding_more : (all coming left : List Command) (before a b : Standing) → IsFeeding all coming before a → IsKept a b → Asks true coming left a b → IsFeeding all left before b
+feeding_more all coming left before a b inv next (what, first, answer, is) =
+    record {
+      kept = kept_all before a b inv.kept next;
+      made = inv.made ++ what ∷ [];
+      parts = inv.parts ∙ ap (λ cs. inv.made ++ cs) first ∙ sym (append_assoc inv.made (what ∷ []) left);
+      asked = asked_more inv.made what a b next.by inv.asked is.own;
+      none = λ _. none_by coming left before a b inv.kept next inv.last inv.none (what, first, answer, is);
+      last = inr (record { last = turn_of a.by what; place = is.place; before = a.own; seen = is.seen; own = is.own });
+    }
+
+-- the end, where no command is left
+pub fed_all : (all coming left : List Command) (before a b : Standing) → IsFeeding all coming before a → IsKept a b → Asks false coming left a b → HasAsked all b
+fed_all all coming left before a b inv next (first, none, same) =
+    asked_same all a b next.by (ap (λ (p : Standing). p.own) same) (asked_all inv.made all a (inv.parts ∙ ap (λ cs. inv.made ++ cs) first) inv.asked)
+
+-- an error
+pub fed_some : (all coming : List Command) (before a b : Standing) → IsFeeding all coming before a → IsKept a b → b.own ≡ a.own → HasBegun all b
+fed_some all coming before a b inv next own = begun_by inv.made coming all b inv.parts (asked_same inv.made a b next.by own inv.asked)
+
+pub none_after : (all coming : List Command) (before a b : Standing) → IsFeeding all coming before a → IsKept a b → b.own ≡ a.own → 0 < length b.own → turns_by b.by before.seen ≡ []
+none_after all coming before a b inv next own some =
+    ap (λ n. turns_by n before.seen) next.by ∙ inv.none (omega (arith, some, ap length own))
+
+pub feed_err : (all coming : List Command) (before a b : Standing) (e : TurnErr) → IsFeeding all coming before a → IsAskErr a b e → IsFeedErr b e
+feed_err all coming before a b e inv (inl (is, same)) = inl (is, subst (λ (p : Standing). (p.own ≡ []) ⊎ IsAtOwn p) (sym same) inv.last)
+feed_err all coming before a b e inv (inr is) = inr is
+
+-- what is then said of the whole
+
+pub feeds_all : (all coming left : List Command) (before a b : Standing) → IsFeeding all coming before a → IsKept a b → Asks false coming left a b → Feeds {A = Unit {0}} all before b (Ok tt)
+feeds_all all coming left before a b inv next asks =
+    record {
+      kept = kept_all before a b inv.kept next;
+      asked = fed_all all coming left before a b inv next asks;
+      begun = tt;
+      none = none_after all coming before a b inv next (ap (λ (p : Standing). p.own) asks.2);
+      err = tt;
+    }
+
+pub feeds_some : (all coming : List Command) (before a b : Standing) (e : TurnErr) → IsFeeding all coming before a → IsKept a b → b.own ≡ a.own → IsAskErr a b e → Feeds {A = Unit {0}} all before b (Err e)
+feeds_some all coming before a b e inv next own is =
+    record {
+      kept = kept_all before a b inv.kept next;
+      asked = tt;
+      begun = fed_some all coming before a b inv next own;
+      none = none_after all coming before a b inv next own;
+      err = feed_err all coming before a b e inv is;
+    }
+
+-- ---- both
+
+pub after_feeding : (root mid feeder : Standing) → IsAfter root mid → IsKept mid feeder → (0 < length feeder.own → turns_by feeder.by mid.seen ≡ []) → IsAfter root feeder
+after_feeding root mid feeder is kept none =
+    record {
+      newer = kept.seen.0 ++ is.newer;
+      older = is.older;
+      around = kept.seen.1 ∙ ap (λ ts. kept.seen.0 ++ ts) is.around ∙ sym (append_assoc kept.seen.0 is.newer (root.own ++ is.older));
+      none = λ some. none_before feeder.by mid.seen is.older (is.newer ++ root.own, is.around ∙ sym (append_assoc is.newer root.own is.older)) (none some);
+    }
+
+pub has_fed : {A : Type 0} (number records : ℕ) (gen left : List Command) (root mid feeder : Standing) (result : Result A TurnErr) → gen ≡ generated number records → HasAsked (take 1 gen) root → left ≡ drop 1 gen → IsAfter root mid → Feeds left mid feeder result → OnOk result (HasFed number records root feeder)
+has_fed number records gen left root mid feeder (Err e) is asked rest after feeds = tt
+has_fed number records gen left root mid feeder (Ok a) is asked rest after feeds =
+    record {
+      of_root = subst (λ cs. HasAsked (take 1 cs) root) is asked;
+      of_feeder = subst (λ cs. HasAsked cs feeder) (rest ∙ ap (drop 1) is) feeds.asked;
+      after = after_feeding root mid feeder after feeds.kept feeds.none;
+    }
+
+pub has_fed_so_far : {A : Type 0} (number records : ℕ) (gen left : List Command) (root mid feeder : Standing) (result : Result A TurnErr) → gen ≡ generated number records → HasAsked (take 1 gen) root → left ≡ drop 1 gen → IsAfter root mid → Feeds left mid feeder result → OnErr result (HasFedSoFar number records root feeder)
+has_fed_so_far number records gen left root mid feeder (Ok a) is asked rest after feeds = tt
+has_fed_so_far number records gen left root mid feeder (Err e) is asked rest after feeds =
+    record {
+      of_root = (1, subst (λ cs. HasAsked (take 1 cs) root) is asked);
+      of_feeder = subst (λ cs. HasBegun cs feeder) (rest ∙ ap (drop 1) is) feeds.begun;
+      after = λ some. after_feeding root mid feeder after feeds.kept feeds.none;
+    }
+
+pub none_fed : (number records : ℕ) (root feeder : Standing) → root.own ≡ [] → feeder.own ≡ [] → HasFedSoFar number records root feeder
+none_fed number records root feeder first second =
+    record {
+      of_root = (0, first);
+      of_feeder = (0, second);
+      after = λ some. absurd (omega (arith, some, ap length second));
+    }
+
+pub crowd_err : {A : Type 0} (number records : ℕ) (gen left : List Command) (before root mid feeder : Standing) (result : Result A TurnErr) → gen ≡ generated number records → HasAsked (take 1 gen) root → Feeds left mid feeder result → IfErr result (IsCrowdErr before root feeder)
+crowd_err number records gen left before root mid feeder (Ok a) is asked feeds = tt
+crowd_err number records gen left before root mid feeder (Err e) is asked feeds =
+    let first : HasAsked (take 1 (generated number records)) root = subst (λ cs. HasAsked (take 1 cs) root) is asked in
+    let one : length root.own ≡ 1 = ap length first in
+    inr (omega (arith, one), feeds.err)

@@ -1,0 +1,71 @@
+-- Passes that take commands one after another.
+use Rattle.std.proofs.Common.{◌≡◌, ℕ, ◌+◌, true, List, [], ◌∷◌, ◌++◌, length, map, refl, sym, ap, ◌∙◌, arith, append_assoc, length-append}
+use Rattle.std.specs.Prelude.{◌==◌, cond, take}
+use Rattle.std.proofs.lemmas.Bool.Decides.{nat_tests}
+use Rattle.std.proofs.lemmas.List.{append-nil, reverse-append}
+use Rattle.std.proofs.lemmas.List.Elements.{filter-append}
+use Rattle.std.proofs.Math.Seq.{take-append_seam}
+use Rattle.kds_defs.specs.declared.command.Command.{Command}
+use Rattle.kds_defs.specs.declared.command.Turn.{Turn}
+use Rattle.kds_turn.specs.Known.{Continues, is_by, turns_by}
+use Rattle.kds_turn.specs.Passes.{Standing}
+use Rattle.kcl_drill_threads.specs.Asking.{HasAsked, HasBegun, IsKept, turn_of, turns_of}
+
+-- ---- lists of turns that go on with one another
+
+pub continues_all : (a b c : List Turn) → Continues a b → Continues b c → Continues a c
+continues_all a b c p q = (p.0 ++ q.0, p.1 ∙ (ap (λ l. p.0 ++ l) q.1 ∙ sym (append_assoc p.0 q.0 c)))
+
+no_length : (l : List Turn) → length l ≡ 0 → l ≡ []
+no_length [] e = refl
+no_length (x ∷ l) e = absurd (omega (arith, e))
+
+-- an actor without turns had none before
+pub none_before : (n : ℕ) (h seen : List Turn) → Continues h seen → turns_by n h ≡ [] → turns_by n seen ≡ []
+none_before n h seen c none =
+    let cut : turns_by n h ≡ turns_by n c.0 ++ turns_by n seen = ap (turns_by n) c.1 ∙ filter-append (is_by n) c.0 seen in
+    let total : length (turns_by n c.0 ++ turns_by n seen) ≡ 0 = ap length (sym cut ∙ none) in
+    no_length (turns_by n seen) (omega (arith, total, length-append (turns_by n c.0) (turns_by n seen)))
+
+is_self : (n m : ℕ) → n ≡ m → (n == m) ≡ true
+is_self n m e = grind (arith, nat_tests)
+
+-- before an actor's only turn it has none
+pub none_before_one : (n : ℕ) (turn : Turn) (place : List Turn) → turn.by ≡ n → turns_by n (turn ∷ place) ≡ turn ∷ [] → turns_by n place ≡ []
+none_before_one n turn place by one =
+    let two : turn ∷ turns_by n place ≡ turn ∷ [] = sym (ap (λ b. cond b (turn ∷ turns_by n place) (turns_by n place)) (is_self turn.by n by)) ∙ one in
+    let count = ap length two in
+    no_length (turns_by n place) (omega (arith, count))
+
+-- ---- passes that were kept
+
+pub kept_same : (p : Standing) → IsKept p p
+kept_same p = record { hall = refl; by = refl; joined = refl; seen = ([], refl) }
+
+pub kept_all : (a b c : Standing) → IsKept a b → IsKept b c → IsKept a c
+kept_all a b c p q =
+    record {
+      hall = q.hall ∙ p.hall;
+      by = q.by ∙ p.by;
+      joined = q.joined ∙ p.joined;
+      seen = continues_all c.seen b.seen a.seen q.seen p.seen;
+    }
+
+-- ---- commands that were asked
+
+pub asked_more : (made : List Command) (what : Command) (a b : Standing) → b.by ≡ a.by → HasAsked made a → b.own ≡ turn_of a.by what ∷ a.own → HasAsked (made ++ what ∷ []) b
+asked_more made what a b by has own =
+    own
+    ∙ ap (λ ts. turn_of a.by what ∷ ts) has
+    ∙ ap (map (turn_of a.by)) (sym (reverse-append made (what ∷ [])))
+    ∙ ap (λ n. turns_of n (made ++ what ∷ [])) (sym by)
+
+pub asked_same : (made : List Command) (a b : Standing) → b.by ≡ a.by → b.own ≡ a.own → HasAsked made a → HasAsked made b
+asked_same made a b by own has = own ∙ has ∙ ap (λ n. turns_of n made) (sym by)
+
+pub asked_all : (made all : List Command) (p : Standing) → all ≡ made ++ [] → HasAsked made p → HasAsked all p
+asked_all made all p e has = has ∙ ap (turns_of p.by) (sym (e ∙ append-nil made))
+
+pub begun_by : (made left all : List Command) (p : Standing) → all ≡ made ++ left → HasAsked made p → HasBegun all p
+begun_by made left all p e has =
+    (length made, has ∙ ap (turns_of p.by) (sym (ap (take (length made)) e ∙ take-append_seam made left)))

@@ -1,0 +1,54 @@
+-- What the root and the feeder of a drill have done. Each list of turns has the newest turn first.
+use Rattle.std.specs.Prelude.{◌≡◌, ◌⊎◌, ℕ, ◌<◌, List, [], ◌∷◌, ◌++◌, length, take, drop, Result, IfErr, OnErr, OnOk}
+use Rattle.kds_defs.specs.declared.command.Command.{Command}
+use Rattle.kds_defs.specs.declared.command.Turn.{Turn}
+use Rattle.kds_turn.specs.declared.pass.TurnErr.{TurnErr}
+use Rattle.kds_turn.specs.declared.pass.TurnErr.TheVariants as failed
+use Rattle.kds_turn.specs.Known.{turns_by}
+use Rattle.kds_turn.specs.Passes.{Standing}
+use Rattle.kcl_drill.specs.Generated.{generated}
+use Rattle.kcl_drill_threads.specs.Asking.{HasAsked, HasBegun, IsAskErr, IsKept, IsTurnErr}
+
+-- In what the feeder has seen, the root's turns stand before all of the feeder's.
+pub record IsAfter (root feeder : Standing) : Type 0 where
+  pub newer : List Turn
+  pub older : List Turn
+  pub around : feeder.seen ≡ newer ++ (root.own ++ older)
+  pub none : 0 < length feeder.own → turns_by feeder.by older ≡ []
+
+-- the root made the generator's first command, and then the feeder the others in their order
+pub record HasFed (number records : ℕ) (root feeder : Standing) : Type 0 where
+  pub of_root : HasAsked (take 1 (generated number records)) root
+  pub of_feeder : HasAsked (drop 1 (generated number records)) feeder
+  pub after : IsAfter root feeder
+
+-- they made the first of these commands
+pub record HasFedSoFar (number records : ℕ) (root feeder : Standing) : Type 0 where
+  pub of_root : HasBegun (take 1 (generated number records)) root
+  pub of_feeder : HasBegun (drop 1 (generated number records)) feeder
+  pub after : 0 < length feeder.own → IsAfter root feeder
+
+-- the pass has seen no turn since its own last one
+pub record IsAtOwn (p : Standing) : Type 0 where
+  pub last : Turn
+  pub place : List Turn
+  pub before : List Turn
+  pub seen : p.seen ≡ last ∷ place
+  pub own : p.own ≡ last ∷ before
+
+-- why the feeder left off: the generator's want of memory, before its first turn or right after one, or the error of a turn
+abbrev pub IsFeedErr : Standing → TurnErr → Type 0
+IsFeedErr p e = ((e ≡ failed.Memory) × ((p.own ≡ []) ⊎ IsAtOwn p)) ⊎ IsTurnErr p e
+
+-- From these commands to come, the feeder made all, or after an error the first of them; and where it made one, it had none
+-- in what it had seen before.
+pub record Feeds {A : Type 0} (coming : List Command) (before after : Standing) (result : Result A TurnErr) : Type 0 where
+  pub kept : IsKept before after
+  pub asked : OnOk result (HasAsked coming after)
+  pub begun : OnErr result (HasBegun coming after)
+  pub none : 0 < length after.own → turns_by after.by before.seen ≡ []
+  pub err : IfErr result (IsFeedErr after)
+
+-- why a crowd left off: by what befell the root, or the feeder after the root's turn
+abbrev pub IsCrowdErr : Standing → Standing → Standing → TurnErr → Type 0
+IsCrowdErr before root feeder e = ((feeder.own ≡ []) × (root.own ≡ []) × IsAskErr before root e) ⊎ ((0 < length root.own) × IsFeedErr feeder e)

@@ -1,9 +1,0 @@
-use Rattle.kcl_judge.proofs.GoodLines.{ok_good}
-use Rattle.kcl_judge.proofs.Verdicts.{good_ok}
-use Rattle.kcl_judge.proofs.laws.exact.Goals as goal
-
-pub returns-clause-good : goal.returns-clause-good
-returns-clause-good c = good_ok
-
-pub returns-clause-ok : goal.returns-clause-ok
-returns-clause-ok c = ok_good

@@ -1,9 +1,0 @@
-use Rattle.std.proofs.Common.{◌≡◌, drop, false, take}
-use Rattle.std.specs.List.{AllByRecursion}
-use Rattle.kcl_round.specs.Lists.{due_in, is_due}
-use Rattle.kcl_round.proofs.consumers.first_due.Given as goal
-
--- no processor before the place must be called
-abbrev pub invariant-loop-i : goal.invariant-loop-i
-invariant-loop-i g l =
-    AllByRecursion (λ c. is_due c ≡ false) (take l.i l.consumers) × (due_in (drop l.i l.consumers) ≡ due_in l.consumers)

@@ -1,6 +1,0 @@
-use Rattle.std.proofs.Common.{◌≡◌, drop}
-use Rattle.kcl_round.specs.Lists.{giving_in}
-use Rattle.kcl_round.proofs.consumers.first_giving.Given as goal
-
-abbrev pub invariant-loop-c : goal.invariant-loop-c
-invariant-loop-c g l = giving_in (drop l.c-index l.consumers) ≡ giving_in l.consumers

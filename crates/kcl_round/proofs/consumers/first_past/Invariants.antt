@@ -1,6 +1,0 @@
-use Rattle.std.proofs.Common.{◌≡◌, drop}
-use Rattle.kcl_round.specs.Lists.{past_in}
-use Rattle.kcl_round.proofs.consumers.first_past.Given as goal
-
-abbrev pub invariant-loop-c : goal.invariant-loop-c
-invariant-loop-c g l = past_in l.fn.place (drop l.c-index l.consumers) ≡ past_in l.fn.place l.consumers

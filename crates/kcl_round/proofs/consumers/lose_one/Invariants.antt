@@ -1,8 +1,0 @@
-use Rattle.std.proofs.Common.{◌≡◌, ◌++◌, drop, take}
-use Rattle.kcl_defs.specs.Workers.{same_id}
-use Rattle.kcl_round.specs.Changes.{lost_among}
-use Rattle.kcl_round.proofs.consumers.lose_one.Given as goal
-
-abbrev pub invariant-loop-c : goal.invariant-loop-c
-invariant-loop-c g l =
-    l.c-items ≡ lost_among (λ i. same_id i l.fn.id) (take l.c-index l.fn.consumers.items) ++ drop l.c-index l.fn.consumers.items

@@ -1,7 +1,0 @@
-use Rattle.std.proofs.Common.{◌≡◌, ◌++◌, drop, take}
-use Rattle.kcl_round.specs.Changes.{with_consumer}
-use Rattle.kcl_round.proofs.consumers.place_among.Given as goal
-
-abbrev pub invariant-loop-i : goal.invariant-loop-i
-invariant-loop-i g l =
-    take l.i l.fn.consumers ++ with_consumer l.fn.c (drop l.i l.fn.consumers) ≡ with_consumer l.fn.c l.fn.consumers

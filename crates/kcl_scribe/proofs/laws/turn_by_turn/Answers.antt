@@ -1,5 +1,0 @@
-use Rattle.kcl_scribe.proofs.Adding.{grows, text_grows}
-use Rattle.kcl_scribe.proofs.laws.turn_by_turn.Goals as goal
-
-pub returns : goal.returns
-returns c = record { lines = grows; text = text_grows }

@@ -1,0 +1,94 @@
+//! Fields of a line, and the numbers, workers and keys in them.
+ghost use Rattle.std.specs.Prelude.{◌≡◌, ◌∷◌, option_map};
+ghost use Rattle.kcl_script_fields.specs.Fields.{parted, field as field_of, two, moment_of, number, from_one_to, count_of, worker_of, key_of};
+
+use kds_base::{Moment, ShardNo, ShardRef, StreamNo, WorkerNo, read_u64};
+use memchr::memchr;
+
+/// The part before the first such byte, and what follows that byte.
+pub fn part(text: &[u8], sep: u8) -> Option<(&[u8], &[u8])>
+    ensures { option_map (λ p. (p.0.now, p.1.now)) result ≡ parted sep text.now }
+{
+    match memchr(sep, text) {
+        Some(at) => {
+            let (front, _) = text.split_at(at);
+            let (_, back) = text.split_at(at + 1);
+            Some((front, back))
+        }
+        None => None,
+    }
+}
+
+/// The part before the first space, and what follows that space.
+pub fn field(text: &[u8]) -> Option<(&[u8], &[u8])>
+    ensures { option_map (λ p. (p.0.now, p.1.now)) result ≡ field_of text.now }
+{
+    part(text, b' ')
+}
+
+/// A moment in milliseconds.
+pub fn moment(text: &[u8]) -> Option<Moment>
+    ensures { result ≡ moment_of text.now }
+{
+    Moment::new(read_u64(text)?)
+}
+
+fn from_one(n: u64, most: u32) -> Option<u32>
+    ensures { result ≡ from_one_to most n }
+{
+    if 1 <= n && n <= most as u64 {
+        Some(n as u32)
+    } else {
+        None
+    }
+}
+
+/// A number from 1 to the greatest.
+pub fn count(text: &[u8], most: u32) -> Option<u32>
+    ensures { result ≡ count_of most text.now }
+{
+    from_one(read_u64(text)?, most)
+}
+
+/// Two numbers, which such a byte parts.
+#[tactic(auto, unfolding(crate::specs::Fields::two))]
+pub fn two_numbers(text: &[u8], sep: u8) -> Option<(u64, u64)>
+    ensures { result ≡ two sep number number text.now }
+{
+    let (front, back) = part(text, sep)?;
+    let first = read_u64(front)?;
+    let second = read_u64(back)?;
+    Some((first, second))
+}
+
+/// A worker: `w` and its number, from 1.
+pub fn worker(text: &[u8]) -> Option<WorkerNo>
+    ensures { result ≡ worker_of text.now }
+{
+    match text.split_first() {
+        Some((b, digits)) => numbered(*b, digits),
+        None => None,
+    }
+}
+
+fn numbered(letter: u8, digits: &[u8]) -> Option<WorkerNo>
+    ensures { result ≡ worker_of (letter ∷ digits.now) }
+{
+    if letter == b'w' {
+        let number = count(digits, u32::MAX)?;
+        Some(WorkerNo(number))
+    } else {
+        None
+    }
+}
+
+/// A key: STREAM/SHARD.
+pub fn key(text: &[u8]) -> Option<ShardRef>
+    ensures { result ≡ key_of text.now }
+{
+    let (stream, shard) = two_numbers(text, b'/')?;
+    Some(ShardRef {
+        stream: StreamNo(stream),
+        shard: ShardNo(shard),
+    })
+}

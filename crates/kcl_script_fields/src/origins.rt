@@ -1,0 +1,30 @@
+//! Where reading begins.
+ghost use Rattle.std.specs.Prelude.{◌≡◌};
+ghost use Rattle.kcl_script_fields.specs.Origins.{time_of, origin_of};
+
+use crate::fields::{field, moment};
+use kds_defs::Origin;
+
+/// The moment of `time M`.
+fn time(text: &[u8]) -> Option<Origin>
+    ensures { result ≡ time_of text.now }
+{
+    let (word, rest) = field(text)?;
+    if word == b"time".as_slice() {
+        let at = moment(rest)?;
+        Some(Origin::Time(at))
+    } else {
+        None
+    }
+}
+
+/// Where reading begins: `latest` or `time M`.
+pub fn origin(text: &[u8]) -> Option<Origin>
+    ensures { result ≡ origin_of text.now }
+{
+    if text == b"latest".as_slice() {
+        Some(Origin::Latest)
+    } else {
+        time(text)
+    }
+}

@@ -1,0 +1,86 @@
+-- What a scribe knows of a journal after the making of a stream.
+use Rattle.std.proofs.Common.{◌≡◌, ℕ, zero, suc, ◌+◌, ◌^◌, ◌/◌, ◌≤◌, List, [], ◌∷◌, ◌++◌, length, Bool, true, false, refl, sym, ap, ◌∙◌, arith, inl, inr, subst}
+use Rattle.std.proofs.lemmas.Bool.{cases_Bool, eqb-true}
+use Rattle.std.proofs.lemmas.Bool.Decides.{nat_tests}
+use Rattle.std.proofs.lemmas.List.Elements.{filter-append}
+use Rattle.std.specs.List.{AllByRecursion, filter}
+use Rattle.std.specs.Prelude.{◌==◌, ◌||◌}
+use Rattle.kds_base.specs.Span.{Span, uniform, uniform_from}
+use Rattle.kds_defs.specs.declared.entry.Entry.TheVariants as entry
+use Rattle.kds_defs.specs.Journal.{Journal, Line, plain_line}
+use Rattle.kds_defs.specs.Records.{next_number}
+use Rattle.kds_defs.specs.Shards.{first_shards, made_shards}
+use Rattle.kds_defs.specs.Streams.{is_live, live_streams, made_count, numbers_from}
+use Rattle.kcl_sim_scribe.specs.Known.{IsKnown, Known, Knows, new_known}
+use Rattle.kcl_sim_scribe.proofs.Lists.{all_but, all_push, both_all, map_push, one_more, same_kept, unmapped, up_to}
+use Rattle.kcl_sim_scribe.proofs.Readings.{live_below, no_of}
+
+length_first : (n start : ℕ) (ranges : List Span) → length (first_shards n start ranges) ≡ length ranges
+length_first n start [] = refl
+length_first n start (r ∷ rs) = ap suc (length_first (n + 1) start rs)
+
+length_uniform : (width start n : ℕ) → length (uniform_from width start n) ≡ n
+length_uniform width start zero = refl
+length_uniform width start (suc zero) = refl
+length_uniform width start (suc (suc n)) = ap suc (length_uniform width (start + width) (suc n))
+
+length_made : (count start : ℕ) → length (made_shards count start) ≡ count
+length_made count start = length_first 0 start (uniform count) ∙ length_uniform (2 ^ 128 / count) 0 count
+
+above : (m n : ℕ) → n ≤ m → (m + 1 == n) ≡ false
+above m n below = elim (cases_Bool (m + 1 == n)) [
+  | inl same ↦ let e : m + 1 ≡ n = eqb-true (m + 1) n same in absurd (omega (arith, e, below))
+  | inr other ↦ other
+]
+
+itself : (n : ℕ) → (n == n) ≡ true
+itself n = grind (arith, nat_tests)
+
+module _ (log : Journal) (c by count : ℕ) (name : List ℕ) where
+  abbrev line : Line
+  line = plain_line c by (entry.Made (made_count log + 1) name count)
+
+  old_tests : (m : ℕ) (ns : List ℕ) → AllByRecursion (λ s. s ≤ m) ns → AllByRecursion (λ s. ((m + 1 == s) || is_live log s) ≡ is_live log s) ns
+  old_tests m [] all = tt
+  old_tests m (n ∷ ns) all = (rw (above m n all.0) refl, old_tests m ns all.1)
+
+  live_made : live_streams (line ∷ log) ≡ live_streams log ++ (made_count log + 1) ∷ []
+  live_made =
+      let m = made_count log in
+      let p : ℕ → Bool = λ s. (m + 1 == s) || is_live log s in
+      let next : m + 1 ≡ suc m = omega arith in
+      let last : 1 + m ≡ m + 1 = omega arith in
+      let new : filter p ((m + 1) ∷ []) ≡ (m + 1) ∷ [] = rw (itself (m + 1)) refl in
+      ap (λ n. filter p (numbers_from 1 n)) next
+      ∙ ap (filter p) (one_more 1 m ∙ ap (λ n. numbers_from 1 m ++ n ∷ []) last)
+      ∙ filter-append p (numbers_from 1 m) ((m + 1) ∷ [])
+      ∙ (λ i. same_kept p (is_live log) (numbers_from 1 m) (old_tests m (numbers_from 1 m) (up_to 1 m m (omega arith))) i ++ new i)
+
+  old_known : (v : Known) → (v.no ≤ made_count log) × IsKnown log v → IsKnown (line ∷ log) v
+  old_known v k =
+      let other = above (made_count log) v.no k.0 in
+      record {
+        named = rw other k.1.named;
+        next = omega (arith, k.1.next);
+        many = rw other k.1.many;
+        left = k.1.left;
+      }
+
+  pub knows_made : (vs : List Known) → 1 ≤ count → Knows log (made_count log) vs → Knows (line ∷ log) (made_count log + 1) (vs ++ new_known (made_count log + 1) name count ∷ [])
+  knows_made vs some k =
+      let m = made_count log in
+      let below = unmapped (λ s. s ≤ m) no_of vs (subst (λ ns. AllByRecursion (λ s. s ≤ m) ns) k.live (live_below log)) in
+      let old = all_but (λ (v : Known). (v.no ≤ m) × IsKnown log v) (IsKnown (line ∷ log)) vs old_known (both_all (λ (v : Known). v.no ≤ m) (IsKnown log) vs below k.known) in
+      let fresh : next_number log (m + 1) ≡ 1 = k.unmade (m + 1) (omega arith) in
+      let is_new : IsKnown (line ∷ log) (new_known (m + 1) name count) = record {
+        named = rw (itself (m + 1)) refl;
+        next = omega (arith, fresh);
+        many = rw (itself (m + 1)) (length_made count _ ∙ omega (arith, some));
+        left = omega arith;
+      } in
+      record {
+        made_is = refl;
+        live = live_made ∙ ap (λ ns. ns ++ (m + 1) ∷ []) k.live ∙ sym (map_push no_of vs (new_known (m + 1) name count));
+        known = all_push (IsKnown (line ∷ log)) vs (new_known (m + 1) name count) old is_new;
+        unmade = λ s above. let before = k.unmade s (omega (arith, above)) in omega (arith, before);
+      }

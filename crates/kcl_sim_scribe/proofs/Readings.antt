@@ -1,0 +1,309 @@
+-- What a scribe knows of a journal, after a line of it other than the making of a stream.
+use Rattle.std.proofs.Common.{◌≡◌, ℕ, ◌+◌, ◌<◌, ◌≤◌, List, [], ◌∷◌, length, map, Bool, true, false, Option, Some, refl, sym, ap, ◌∙◌, arith, inl, inr, subst, length-append}
+use Rattle.std.proofs.lemmas.Bool.{cases_Bool, eqb-true}
+use Rattle.std.specs.List.{AllByRecursion, filter, find}
+use Rattle.std.specs.Prelude.{◌==◌, ◌&&◌, not, option_map, if◌then◌else◌}
+use Rattle.kds_defs.specs.declared.entry.Entry.{Entry}
+use Rattle.kds_defs.specs.declared.entry.Entry.TheVariants as entry
+use Rattle.kds_defs.specs.Journal.{Journal, Line, with_lines}
+use Rattle.kds_defs.specs.Records.{draws, next_number}
+use Rattle.kds_defs.specs.Shards.{ShardState, Closing, closing_of, merged_shards, shards, shards_after, split_shards, with_closed}
+use Rattle.kds_defs.specs.StreamCommands.{last_number}
+use Rattle.kds_defs.specs.Streams.{is_live, is_live_after, live_streams, made_count, made_count_after, name_of, name_of_after, numbers_from, same_name, stream_named}
+use Rattle.kds_defs.proofs.Numbers.{length-closed}
+use Rattle.kcl_sim_scribe.specs.Known.{IsKnown, Known, Knows, changed, changed_by, is_gone, known_as, renumbered}
+use Rattle.kcl_sim_scribe.proofs.Lists.{all_kept, both_tests, kept, mapped, same_kept, up_to}
+
+abbrev pub no_of : Known → ℕ
+no_of v = v.no
+
+-- ---- the stream of a name
+
+pick : (b : Bool) (v : Known) (x : Option ℕ) (y : Option Known) → x ≡ option_map no_of y → (if b then Some v.no else x) ≡ option_map no_of (if b then Some v else y)
+pick true v x y h = refl
+pick false v x y h = h
+
+named_among : (log : Journal) (name : List ℕ) (vs : List Known) → AllByRecursion (IsKnown log) vs
+    → find (λ s. same_name (name_of log s) name) (map no_of vs) ≡ option_map no_of (known_as name vs)
+named_among log name [] all = refl
+named_among log name (v ∷ vs) all =
+    let test : same_name (name_of log v.no) name ≡ same_name v.name name = ap (λ n. same_name n name) all.0.named in
+    elim (cases_Bool (same_name v.name name)) [
+      | inl here ↦ let too : same_name (name_of log v.no) name ≡ true = test ∙ here in rw (too, here) refl
+      | inr there ↦ let out : same_name (name_of log v.no) name ≡ false = test ∙ there in rw (out, there) (named_among log name vs all.1)
+    ]
+
+pub named_is : (log : Journal) (made : ℕ) (vs : List Known) (name : List ℕ) → Knows log made vs → stream_named log name ≡ option_map no_of (known_as name vs)
+named_is log made vs name k = ap (find (λ s. same_name (name_of log s) name)) k.live ∙ named_among log name vs k.known
+
+-- a live stream was made
+pub live_below : (log : Journal) → AllByRecursion (λ s. s ≤ made_count log) (live_streams log)
+live_below log = kept (λ s. s ≤ made_count log) (is_live log) (numbers_from 1 (made_count log)) (up_to 1 (made_count log) (made_count log) (omega arith))
+
+-- ---- lines
+
+-- the line draws the next number of a stream that was made, and its children come after the stream's shards
+abbrev pub Fits : Journal → Entry → Type 0
+Fits log (entry.Made s name count) = ⊥
+Fits log (entry.Put s sh number hash bytes key_bytes) = (s ≤ made_count log) × ((number ≡ next_number log s) × (number < last_number))
+Fits log (entry.Split s sh at number low high) =
+    (s ≤ made_count log) × (((number ≡ next_number log s) × (number < last_number)) × (high ≡ length (shards log s) + 1))
+Fits log (entry.Merged s sh other number child) =
+    (s ≤ made_count log) × (((number ≡ next_number log s) × (number < last_number)) × (child ≡ length (shards log s)))
+Fits log _ = Unit {0}
+
+abbrev pub FitAll : Journal → List Line → Type 0
+FitAll log [] = Unit {0}
+FitAll log (line ∷ lines) = Fits log line.what × FitAll (line ∷ log) lines
+
+made_same : (log : Journal) (e : Entry) (n : ℕ) → Fits log e → made_count_after e n ≡ n
+made_same log (entry.Made s name count) n f = absurd f
+made_same log (entry.Gone s) n f = refl
+made_same log (entry.Put s sh q hash bytes key_bytes) n f = refl
+made_same log (entry.Split s sh at q low high) n f = refl
+made_same log (entry.Merged s sh other q child) n f = refl
+made_same log (entry.Kept s hours) n f = refl
+made_same log (entry.Enforced s on) n f = refl
+made_same log (entry.LeaseMade key from) n f = refl
+made_same log (entry.Taken key t c owner) n f = refl
+made_same log (entry.Renewed t c) n f = refl
+made_same log (entry.Freed t c) n f = refl
+made_same log (entry.Opened t) n f = refl
+made_same log (entry.Read t limit ended ns) n f = refl
+made_same log (entry.Given t) n f = refl
+made_same log (entry.Marked t c to) n f = refl
+made_same log (entry.LeaseCut key c) n f = refl
+
+name_same : (log : Journal) (e : Entry) (n : ℕ) (name : List ℕ) → Fits log e → name_of_after e n name ≡ name
+name_same log (entry.Made s name' count) n name f = absurd f
+name_same log (entry.Gone s) n name f = refl
+name_same log (entry.Put s sh q hash bytes key_bytes) n name f = refl
+name_same log (entry.Split s sh at q low high) n name f = refl
+name_same log (entry.Merged s sh other q child) n name f = refl
+name_same log (entry.Kept s hours) n name f = refl
+name_same log (entry.Enforced s on) n name f = refl
+name_same log (entry.LeaseMade key from) n name f = refl
+name_same log (entry.Taken key t c owner) n name f = refl
+name_same log (entry.Renewed t c) n name f = refl
+name_same log (entry.Freed t c) n name f = refl
+name_same log (entry.Opened t) n name f = refl
+name_same log (entry.Read t limit ended ns) n name f = refl
+name_same log (entry.Given t) n name f = refl
+name_same log (entry.Marked t c to) n name f = refl
+name_same log (entry.LeaseCut key c) n name f = refl
+
+lives : (log : Journal) (e : Entry) (n : ℕ) (b : Bool) → Fits log e → is_live_after e n b ≡ (not (is_gone e n) && b)
+lives log (entry.Made s name' count) n b f = absurd f
+lives log (entry.Gone s) n b f = refl
+lives log (entry.Put s sh q hash bytes key_bytes) n b f = refl
+lives log (entry.Split s sh at q low high) n b f = refl
+lives log (entry.Merged s sh other q child) n b f = refl
+lives log (entry.Kept s hours) n b f = refl
+lives log (entry.Enforced s on) n b f = refl
+lives log (entry.LeaseMade key from) n b f = refl
+lives log (entry.Taken key t c owner) n b f = refl
+lives log (entry.Renewed t c) n b f = refl
+lives log (entry.Freed t c) n b f = refl
+lives log (entry.Opened t) n b f = refl
+lives log (entry.Read t limit ended ns) n b f = refl
+lives log (entry.Given t) n b f = refl
+lives log (entry.Marked t c to) n b f = refl
+lives log (entry.LeaseCut key c) n b f = refl
+
+-- ---- what a line draws
+
+other_stream : (s n m : ℕ) → s ≤ m → m < n → (s == n) ≡ false
+other_stream s n m a b = elim (cases_Bool (s == n)) [
+  | inl same ↦ let e : s ≡ n = eqb-true s n same in absurd (omega (arith, e, a, b))
+  | inr other ↦ other
+]
+
+none_drawn : (log : Journal) (e : Entry) (n : ℕ) → Fits log e → made_count log < n → draws e n ≡ 0
+none_drawn log (entry.Made s name' count) n f h = absurd f
+none_drawn log (entry.Gone s) n f h = refl
+none_drawn log (entry.Put s sh q hash bytes key_bytes) n f h = rw (other_stream s n (made_count log) f.0 h) refl
+none_drawn log (entry.Split s sh at q low high) n f h = rw (other_stream s n (made_count log) f.0 h) refl
+none_drawn log (entry.Merged s sh other q child) n f h = rw (other_stream s n (made_count log) f.0 h) refl
+none_drawn log (entry.Kept s hours) n f h = refl
+none_drawn log (entry.Enforced s on) n f h = refl
+none_drawn log (entry.LeaseMade key from) n f h = refl
+none_drawn log (entry.Taken key t c owner) n f h = refl
+none_drawn log (entry.Renewed t c) n f h = refl
+none_drawn log (entry.Freed t c) n f h = refl
+none_drawn log (entry.Opened t) n f h = refl
+none_drawn log (entry.Read t limit ended ns) n f h = refl
+none_drawn log (entry.Given t) n f h = refl
+none_drawn log (entry.Marked t c to) n f h = refl
+none_drawn log (entry.LeaseCut key c) n f h = refl
+
+-- ---- a stream that is known
+
+length_split : (sh at start : ℕ) (closing : Closing) (xs : List ShardState) → length (split_shards sh at closing start xs) ≡ length xs + 2
+length_split sh at start closing xs = length-append (with_closed sh closing xs) _ ∙ ap (λ n. n + 2) (length-closed sh closing xs)
+
+length_merged : (sh other start : ℕ) (closing : Closing) (xs : List ShardState) → length (merged_shards sh other closing start xs) ≡ length xs + 1
+length_merged sh other start closing xs =
+    length-append (with_closed other closing (with_closed sh closing xs)) _ ∙ ap (λ n. n + 1) (length-closed other closing (with_closed sh closing xs) ∙ length-closed sh closing xs)
+
+-- what an entry leaves of a stream's readings
+record Kept (log : Journal) (line : Line) (e : Entry) (v w : Known) : Type 0 where
+  same : w.no ≡ v.no
+  name : w.name ≡ v.name
+  next : draws e v.no + next_number log v.no ≡ w.drawn + 1
+  many : (start : ℕ) → length (shards_after line e v.no start (shards log v.no)) ≡ w.shard + 1
+  left : w.drawn < last_number
+
+as_before : (log : Journal) (line : Line) (e : Entry) (v : Known) → IsKnown log v → draws e v.no ≡ 0 → ((start : ℕ) → shards_after line e v.no start (shards log v.no) ≡ shards log v.no) → Kept log line e v v
+as_before log line e v k none shards_same = record {
+  same = refl;
+  name = refl;
+  next = omega (arith, none, k.next);
+  many = λ start. ap length (shards_same start) ∙ k.many;
+  left = k.left;
+}
+
+put_kept : (log : Journal) (line : Line) (s sh q hash bytes key_bytes : ℕ) (v : Known) → Fits log (entry.Put s sh q hash bytes key_bytes) → IsKnown log v
+    → Kept log line (entry.Put s sh q hash bytes key_bytes) v (renumbered (entry.Put s sh q hash bytes key_bytes) v)
+put_kept log line s sh q hash bytes key_bytes v f k = elim (cases_Bool (s == v.no)) [
+  | inl here ↦
+      let e : s ≡ v.no = eqb-true s v.no here in
+      let drawn : q ≡ next_number log v.no = f.1.0 ∙ ap (next_number log) e in
+      let one : draws (entry.Put s sh q hash bytes key_bytes) v.no ≡ 1 = rw here refl in
+      let next : draws (entry.Put s sh q hash bytes key_bytes) v.no + next_number log v.no ≡ q + 1 = omega (arith, one, drawn) in
+      rw here (record {
+        same = refl;
+        name = refl;
+        next = next;
+        many = λ start. k.many;
+        left = f.1.1;
+      })
+  | inr other ↦ rw other (as_before log line (entry.Put s sh q hash bytes key_bytes) v k (rw other refl) (λ start. refl))
+]
+
+split_kept : (log : Journal) (line : Line) (s sh at q low high : ℕ) (v : Known) → Fits log (entry.Split s sh at q low high) → IsKnown log v
+    → Kept log line (entry.Split s sh at q low high) v (renumbered (entry.Split s sh at q low high) v)
+split_kept log line s sh at q low high v f k = elim (cases_Bool (s == v.no)) [
+  | inl here ↦
+      let e : s ≡ v.no = eqb-true s v.no here in
+      let drawn : q ≡ next_number log v.no = f.1.0.0 ∙ ap (next_number log) e in
+      let last : high ≡ length (shards log v.no) + 1 = f.1.1 ∙ ap (λ n. length (shards log n) + 1) e in
+      let one : draws (entry.Split s sh at q low high) v.no ≡ 1 = rw here refl in
+      let next : draws (entry.Split s sh at q low high) v.no + next_number log v.no ≡ q + 1 = omega (arith, one, drawn) in
+      let two : length (shards log v.no) + 2 ≡ high + 1 = omega (arith, last) in
+      let many : (start : ℕ) → length (shards_after line (entry.Split s sh at q low high) v.no start (shards log v.no)) ≡ high + 1 =
+      λ start. rw here (length_split sh at start (closing_of line q) (shards log v.no) ∙ two) in
+      rw here (record {
+        same = refl;
+        name = refl;
+        next = next;
+        many = many;
+        left = f.1.0.1;
+      })
+  | inr other ↦ rw other (as_before log line (entry.Split s sh at q low high) v k (rw other refl) (λ start. rw other refl))
+]
+
+merged_kept : (log : Journal) (line : Line) (s sh other_sh q child : ℕ) (v : Known) → Fits log (entry.Merged s sh other_sh q child) → IsKnown log v
+    → Kept log line (entry.Merged s sh other_sh q child) v (renumbered (entry.Merged s sh other_sh q child) v)
+merged_kept log line s sh other_sh q child v f k = elim (cases_Bool (s == v.no)) [
+  | inl here ↦
+      let e : s ≡ v.no = eqb-true s v.no here in
+      let drawn : q ≡ next_number log v.no = f.1.0.0 ∙ ap (next_number log) e in
+      let last : child ≡ length (shards log v.no) = f.1.1 ∙ ap (λ n. length (shards log n)) e in
+      let one : draws (entry.Merged s sh other_sh q child) v.no ≡ 1 = rw here refl in
+      let next : draws (entry.Merged s sh other_sh q child) v.no + next_number log v.no ≡ q + 1 = omega (arith, one, drawn) in
+      let more : length (shards log v.no) + 1 ≡ child + 1 = omega (arith, last) in
+      let many : (start : ℕ) → length (shards_after line (entry.Merged s sh other_sh q child) v.no start (shards log v.no)) ≡ child + 1 =
+      λ start. rw here (length_merged sh other_sh start (closing_of line q) (shards log v.no) ∙ more) in
+      rw here (record {
+        same = refl;
+        name = refl;
+        next = next;
+        many = many;
+        left = f.1.0.1;
+      })
+  | inr other ↦ rw other (as_before log line (entry.Merged s sh other_sh q child) v k (rw other refl) (λ start. rw other refl))
+]
+
+entry_kept : (log : Journal) (line : Line) (e : Entry) (v : Known) → Fits log e → IsKnown log v → Kept log line e v (renumbered e v)
+entry_kept log line (entry.Made s name count) v f k = absurd f
+entry_kept log line (entry.Put s sh q hash bytes key_bytes) v f k = put_kept log line s sh q hash bytes key_bytes v f k
+entry_kept log line (entry.Split s sh at q low high) v f k = split_kept log line s sh at q low high v f k
+entry_kept log line (entry.Merged s sh other q child) v f k = merged_kept log line s sh other q child v f k
+entry_kept log line (entry.Gone s) v f k = as_before log line (entry.Gone s) v k refl (λ start. refl)
+entry_kept log line (entry.Kept s hours) v f k = as_before log line (entry.Kept s hours) v k refl (λ start. refl)
+entry_kept log line (entry.Enforced s on) v f k = as_before log line (entry.Enforced s on) v k refl (λ start. refl)
+entry_kept log line (entry.LeaseMade key from) v f k = as_before log line (entry.LeaseMade key from) v k refl (λ start. refl)
+entry_kept log line (entry.Taken key t c owner) v f k = as_before log line (entry.Taken key t c owner) v k refl (λ start. refl)
+entry_kept log line (entry.Renewed t c) v f k = as_before log line (entry.Renewed t c) v k refl (λ start. refl)
+entry_kept log line (entry.Freed t c) v f k = as_before log line (entry.Freed t c) v k refl (λ start. refl)
+entry_kept log line (entry.Opened t) v f k = as_before log line (entry.Opened t) v k refl (λ start. refl)
+entry_kept log line (entry.Read t limit ended ns) v f k = as_before log line (entry.Read t limit ended ns) v k refl (λ start. refl)
+entry_kept log line (entry.Given t) v f k = as_before log line (entry.Given t) v k refl (λ start. refl)
+entry_kept log line (entry.Marked t c to) v f k = as_before log line (entry.Marked t c to) v k refl (λ start. refl)
+entry_kept log line (entry.LeaseCut key c) v f k = as_before log line (entry.LeaseCut key c) v k refl (λ start. refl)
+
+known_after : (log : Journal) (line : Line) (v : Known) → Fits log line.what → IsKnown log v → IsKnown (line ∷ log) (renumbered line.what v)
+known_after log line v f k =
+    let w = renumbered line.what v in
+    let n = entry_kept log line line.what v f k in
+    let here : IsKnown (line ∷ log) (record w { no = v.no }) = record {
+      named = name_same log line.what v.no (name_of log v.no) f ∙ k.named ∙ sym n.name;
+      next = n.next;
+      many = n.many (next_number (line ∷ log) v.no);
+      left = n.left;
+    } in
+    subst (λ (m : ℕ). IsKnown (line ∷ log) (record w { no = m })) (sym n.same) here
+
+-- ---- the live streams
+
+same_no : (log : Journal) (line : Line) (e : Entry) (v : Known) → Fits log e → IsKnown log v → (renumbered e v).no ≡ v.no
+same_no log line e v f k = (entry_kept log line e v f k).same
+
+gone_among : (log : Journal) (line : Line) (e : Entry) (vs : List Known) → Fits log e → AllByRecursion (IsKnown log) vs
+    → filter (λ s. not (is_gone e s)) (map no_of vs) ≡ map no_of (changed e vs)
+gone_among log line e [] f all = refl
+gone_among log line e (v ∷ vs) f all =
+    let same = same_no log line e v f all.0 in
+    let rest = gone_among log line e vs f all.1 in
+    let test : not (is_gone e (renumbered e v).no) ≡ not (is_gone e v.no) = ap (λ n. not (is_gone e n)) same in
+    elim (cases_Bool (not (is_gone e v.no))) [
+      | inl stays ↦ let too : not (is_gone e (renumbered e v).no) ≡ true = test ∙ stays in rw (stays, too) (λ i. sym same i ∷ rest i)
+      | inr goes ↦ let too : not (is_gone e (renumbered e v).no) ≡ false = test ∙ goes in rw (goes, too) rest
+    ]
+
+agree : (log : Journal) (e : Entry) (ns : List ℕ) → Fits log e → AllByRecursion (λ s. is_live_after e s (is_live log s) ≡ (not (is_gone e s) && is_live log s)) ns
+agree log e [] f = tt
+agree log e (n ∷ ns) f = (lives log e n (is_live log n) f, agree log e ns f)
+
+live_after : (log : Journal) (line : Line) (made : ℕ) (vs : List Known) → Fits log line.what → Knows log made vs → live_streams (line ∷ log) ≡ map no_of (changed line.what vs)
+live_after log line made vs f k =
+    let ns = numbers_from 1 (made_count log) in
+    let count = made_same log line.what (made_count log) f in
+    ap (λ n. filter (is_live (line ∷ log)) (numbers_from 1 n)) count
+    ∙ same_kept (is_live (line ∷ log)) (λ s. not (is_gone line.what s) && is_live log s) ns (agree log line.what ns f)
+    ∙ both_tests (is_live log) (λ s. not (is_gone line.what s)) ns
+    ∙ ap (filter (λ s. not (is_gone line.what s))) k.live
+    ∙ gone_among log line line.what vs f k.known
+
+-- ---- lines, one after another
+
+pub knows_after : (log : Journal) (line : Line) (made : ℕ) (vs : List Known) → Fits log line.what → Knows log made vs → Knows (line ∷ log) made (changed line.what vs)
+knows_after log line made vs f k = record {
+  made_is = made_same log line.what (made_count log) f ∙ k.made_is;
+  live = live_after log line made vs f k;
+  known = kept (IsKnown (line ∷ log)) (λ (v : Known). not (is_gone line.what v.no)) (map (renumbered line.what) vs)
+      (mapped (IsKnown log) (IsKnown (line ∷ log)) (renumbered line.what) vs (λ v known. known_after log line v f known) k.known);
+  unmade = λ s above.
+      let none = none_drawn log line.what s f (subst (λ (n : ℕ). n < s) (sym k.made_is) above) in
+      omega (arith, none, k.unmade s above);
+}
+
+pub knows_all : (log : Journal) (lines : List Line) (made : ℕ) (vs : List Known) → FitAll log lines → Knows log made vs
+    → Knows (with_lines lines log) made (changed_by (map (λ (l : Line). l.what) lines) vs)
+knows_all log [] made vs f k = k
+knows_all log (line ∷ lines) made vs f k = knows_all (line ∷ log) lines made (changed line.what vs) f.1 (knows_after log line made vs f.0 k)
+
+-- an entry that says of no stream that it is gone leaves each
+pub stay : (e : Entry) → ((s : ℕ) → e ≡ entry.Gone s → ⊥) → (vs : List Known) → filter (λ v. not (is_gone e v.no)) vs ≡ vs
+stay (entry.Gone s) h vs = absurd (h s refl)
+stay e h vs = all_kept vs

@@ -1,0 +1,81 @@
+//! The live streams, as a scribe knows them.
+ghost use Rattle.std.specs.Prelude.{◌≡◌, option_map};
+ghost use Rattle.kcl_sim_scribe.specs.Known.{changed, known_as, renumbered};
+
+use kds_base::{Name, StreamNo};
+use kds_defs::Entry;
+use std::marker::Model;
+
+/// A live stream: its number, its name, the sequence number that it drew last, or 0, and the number of its last shard.
+#[derive(Drop)]
+pub struct Known {
+    pub no: StreamNo,
+    pub name: Name,
+    pub drawn: u64,
+    pub shard: u64,
+}
+
+impl Model for Known {
+    ghost use Rattle.kcl_sim_scribe.specs.Known as specs;
+
+    ghost Value = { specs.Known };
+
+    ghost view = { λ k. record { no = k.no; name = k.name; drawn = k.drawn; shard = k.shard } };
+}
+
+impl Known {
+    /// Keeps the numbers that an entry gives the stream.
+    fn renumber(&mut self, what: &Entry)
+        ensures { self.new ≡ renumbered what.now self.old }
+    {
+        match what {
+            Entry::Put { stream, seq, .. } => {
+                if *stream == self.no {
+                    self.drawn = seq.0;
+                }
+            }
+            Entry::Split {
+                stream,
+                seq,
+                high,
+                ..
+            } => {
+                if *stream == self.no {
+                    self.drawn = seq.0;
+                    self.shard = high.0;
+                }
+            }
+            Entry::Merged {
+                stream,
+                seq,
+                child,
+                ..
+            } => {
+                if *stream == self.no {
+                    self.drawn = seq.0;
+                    self.shard = child.0;
+                }
+            }
+            _ => {}
+        }
+    }
+}
+
+/// The stream of a name, if there is one.
+pub fn find<'a>(streams: &'a [Known], name: &Name) -> Option<&'a Known>
+    ensures { option_map (λ k. k.now) result ≡ known_as name.now streams.now }
+{
+    streams.iter().find(|known| known.name == *name)
+}
+
+/// Keeps what an entry changes, other than a making.
+pub fn keep(streams: &mut Vec<Known>, what: &Entry)
+    ensures { streams.new.items ≡ changed what.now streams.old.items }
+{
+    for i in 0..streams.len() {
+        streams[i].renumber(what);
+    }
+    if let Entry::Gone { stream } = what {
+        streams.retain(|known| *stream != known.no);
+    }
+}

@@ -1,0 +1,130 @@
+//! The entries of commands on leases that were accepted.
+ghost use Rattle.std.specs.Prelude.{◌≡◌, ◌∷◌, [], IfOk};
+ghost use Rattle.kds_defs.specs.declared.entry.Entry.TheVariants as entry;
+ghost use Rattle.kds_defs.specs.declared.reply.Reply.TheVariants as reply;
+ghost use Rattle.kcl_sim_scribe.specs.Telling.{lease_entries, numbers_read};
+
+use crate::entries::one;
+use kds_base::{Items, Memory, Seq, TenureNo};
+use kds_defs::{Command, Entry, Reply, Stored};
+use std::alloc::Global;
+
+/// The numbers of records.
+fn numbers(alloc: Global, batch: &[Stored]) -> Result<Items<Seq>, Memory>
+    ensures { IfOk result (λ ns. ns ≡ numbers_read batch.now) }
+{
+    let mut numbers = Items::new(alloc);
+    for stored in batch {
+        numbers.push(stored.seq)?;
+    }
+    Ok(numbers)
+}
+
+/// The entry of a read.
+fn read(
+    alloc: Global,
+    tenure: TenureNo,
+    limit: u32,
+    end: bool,
+    batch: &[Stored],
+) -> Result<Items<Entry>, Memory>
+    ensures { IfOk result (λ es. es ≡ entry.Read tenure limit end (numbers_read batch.now) ∷ []) }
+{
+    let numbers = numbers(alloc, batch)?;
+    one(
+        alloc,
+        Entry::Read {
+            tenure,
+            limit,
+            end,
+            numbers,
+        },
+    )
+}
+
+/// The entries of a command that is answered with a row's counter.
+fn counted(alloc: Global, what: &Command, counter: u64) -> Result<Items<Entry>, Memory>
+    ensures { IfOk result (λ es. es ≡ lease_entries what.now (reply.Counter counter)) }
+{
+    match what {
+        Command::Renew { tenure, .. } => {
+            let tenure = *tenure;
+            one(alloc, Entry::Renewed { tenure, counter })
+        }
+        Command::Free { tenure, .. } => {
+            let tenure = *tenure;
+            one(alloc, Entry::Freed { tenure, counter })
+        }
+        Command::Mark { tenure, to, .. } => {
+            let (tenure, to) = (*tenure, *to);
+            one(
+                alloc,
+                Entry::Marked {
+                    tenure,
+                    counter,
+                    to,
+                },
+            )
+        }
+        _ => plain(alloc, what),
+    }
+}
+
+/// The entries of a command that its reply says nothing of.
+fn plain(alloc: Global, what: &Command) -> Result<Items<Entry>, Memory>
+    ensures { IfOk result (λ es. es ≡ lease_entries what.now reply.Done) }
+{
+    match what {
+        Command::OpenShard { tenure } => one(alloc, Entry::Opened { tenure: *tenure }),
+        Command::Give { tenure } => one(alloc, Entry::Given { tenure: *tenure }),
+        Command::CutLease { key, counter } => {
+            let (key, counter) = (*key, *counter);
+            one(alloc, Entry::LeaseCut { key, counter })
+        }
+        _ => Ok(Items::new(alloc)),
+    }
+}
+
+/// The entries of a command on leases, by its reply.
+pub fn on_leases(alloc: Global, what: &Command, reply: &Reply) -> Result<Items<Entry>, Memory>
+    ensures { IfOk result (λ es. es ≡ lease_entries what.now reply.now) }
+{
+    match what {
+        Command::MakeLease { key, .. } => match reply {
+            Reply::Leased(from) => {
+                let (key, from) = (*key, *from);
+                one(alloc, Entry::LeaseMade { key, from })
+            }
+            _ => Ok(Items::new(alloc)),
+        },
+        Command::Take { key, owner, .. } => match reply {
+            Reply::Taken {
+                tenure,
+                counter,
+                ..
+            } => {
+                let (key, tenure, counter, owner) = (*key, *tenure, *counter, *owner);
+                one(
+                    alloc,
+                    Entry::Taken {
+                        key,
+                        tenure,
+                        counter,
+                        owner,
+                    },
+                )
+            }
+            _ => Ok(Items::new(alloc)),
+        },
+        Command::Read { tenure, limit, .. } => match reply {
+            Reply::Read { batch, end, .. } => {
+                read(alloc, *tenure, *limit, *end, batch.as_slice())
+            }
+            _ => Ok(Items::new(alloc)),
+        },
+        _ => match reply {
+            Reply::Counter(counter) => counted(alloc, what, *counter),
+            _ => plain(alloc, what),
+        },
+    }
+}

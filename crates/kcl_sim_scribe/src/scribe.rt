@@ -1,0 +1,194 @@
+//! A scribe.
+ghost use Rattle.std.specs.Prelude.{◌≡◌, ◌+◌, ◌≤◌, ◌==◌, ◌∷◌, [], false, List, map, IfOk, OnErr, OnOk, option_map};
+ghost use Rattle.kds_defs.specs.declared.command.Turn.{Turn};
+ghost use Rattle.kds_defs.specs.declared.entry.Entry.TheVariants as entry;
+ghost use Rattle.kds_defs.specs.Histories.{answer as answer_after};
+ghost use Rattle.kds_defs.specs.Lawful.{IsLawful};
+ghost use Rattle.kds_defs.specs.StreamCommands.{last_number};
+ghost use Rattle.kcl_sim_scribe.specs.Added.{added_entries};
+ghost use Rattle.kcl_sim_scribe.specs.Known.{StandsFor, changed_by, with_made};
+ghost use Rattle.kcl_sim_scribe.specs.Telling.{CanTell, MayNumber, told_after, told_lines, changed_name as name_changed, entries_of, line_by, lines_by};
+
+use crate::entries::on_stream;
+use crate::known::{Known, find, keep};
+use crate::leases::on_leases;
+use kcl_journal::EntryLine;
+use kds_base::{Items, Memory, Moment, Name, StreamNo};
+use kds_defs::{Answer, Command, Entry, Reply, Turn};
+use std::alloc::Global;
+use std::marker::Model;
+
+/// Tells the lines of the journal that each turn adds, of the turns and their answers alone. It stands for the turns
+/// that it noted.
+#[derive(Drop)]
+pub struct Scribe {
+    clock: Moment,
+    made: u64,
+    /// The live streams in the order of their numbers.
+    streams: Vec<Known>,
+}
+
+impl Model for Scribe {
+    ghost use Rattle.kcl_sim_scribe.specs.Known.{ScribeValue};
+
+    ghost Value = { ScribeValue };
+
+    ghost view = { λ s. record { clock = s.clock; made = s.made; streams = s.streams.items } };
+}
+
+/// The name of the stream that a command changes, other than its making.
+fn changed_name(what: &Command) -> Option<&Name>
+    ensures { option_map (λ n. n.now) result ≡ name_changed what.now }
+{
+    match what {
+        Command::Delete { name }
+        | Command::Put { name, .. }
+        | Command::PutMany { name, .. }
+        | Command::Split { name, .. }
+        | Command::Merge { name, .. }
+        | Command::Keep { name, .. }
+        | Command::Scale { name, .. }
+        | Command::Enforce { name, .. } => Some(name),
+        _ => None,
+    }
+}
+
+/// The entries of a command that was accepted, other than the making of a stream. Condition: the numbers that it draws
+/// are there.
+fn entries(
+    alloc: Global,
+    streams: &[Known],
+    what: &Command,
+    reply: &Reply,
+) -> Result<Items<Entry>, Memory>
+    requires { MayNumber (name_changed what.now) streams.now what.now }
+    ensures { IfOk result (λ es. es ≡ entries_of streams.now what.now reply.now) }
+{
+    match changed_name(what) {
+        Some(name) => match find(streams, name) {
+            Some(stream) => on_stream(alloc, stream, what, reply),
+            None => Ok(Items::new(alloc)),
+        },
+        None => on_leases(alloc, what, reply),
+    }
+}
+
+/// The lines of entries by one actor at one clock.
+fn lines(
+    alloc: Global,
+    clock: Moment,
+    by: u32,
+    entries: Items<Entry>,
+) -> Result<Items<EntryLine>, Memory>
+    ensures { IfOk result (λ ls. ls ≡ lines_by clock by entries) }
+{
+    let mut lines = Items::new(alloc);
+    for what in entries.into_vec() {
+        lines.push(EntryLine { clock, by, what })?;
+    }
+    Ok(lines)
+}
+
+/// Keeps what the entries of lines change, one after another.
+fn keep_all(streams: &mut Vec<Known>, lines: &[EntryLine])
+    ensures { streams.new.items ≡ changed_by (map (λ l. l.what) lines.now) streams.old.items }
+{
+    for line in lines {
+        keep(streams, &line.what);
+    }
+}
+
+impl Scribe {
+    /// It noted nothing.
+    pub fn new(alloc: Global) -> Scribe
+        ensures { StandsFor result [] }
+    {
+        Scribe {
+            clock: Moment::start(),
+            made: 0,
+            streams: Vec::new(alloc),
+        }
+    }
+
+    /// A stream was made. After `Memory` all is as before.
+    fn make(
+        &mut self,
+        alloc: Global,
+        clock: Moment,
+        by: u32,
+        name: &Name,
+        shards: u32,
+    ) -> Result<Items<EntryLine>, Memory>
+        requires made { (self.old.made == last_number) ≡ false }
+        requires shards { 1 ≤ shards }
+        ensures lines { IfOk result (λ ls. ls ≡ line_by clock by (entry.Made (self.old.made + 1) name.now shards) ∷ []) }
+        ensures ok { OnOk result (self.new ≡ with_made name.now shards self.old) }
+        ensures err { OnErr result (self.new ≡ self.old) }
+    {
+        let no = StreamNo(self.made + 1);
+        let what = Entry::Made {
+            stream: no,
+            name: name.copy(alloc)?,
+            shards,
+        };
+        let mut lines = Items::new(alloc);
+        lines.push(EntryLine { clock, by, what })?;
+        let name = name.copy(alloc)?;
+        let shard = shards as u64 - 1;
+        self.streams.push(Known {
+            no,
+            name,
+            drawn: 0,
+            shard,
+        })?;
+        self.made += 1;
+        Ok(lines)
+    }
+
+    /// A command was accepted: its lines, and what is known from now on. After `Memory` all is as before.
+    fn accept(
+        &mut self,
+        alloc: Global,
+        clock: Moment,
+        by: u32,
+        what: &Command,
+        reply: &Reply,
+    ) -> Result<Items<EntryLine>, Memory>
+        requires { CanTell self.old what.now }
+        ensures lines { IfOk result (λ ls. ls ≡ told_lines self.old clock by what.now reply.now) }
+        ensures ok { OnOk result (self.new ≡ told_after self.old what.now reply.now) }
+        ensures err { OnErr result (self.new ≡ self.old) }
+    {
+        if let Command::Create { name, shards } = what {
+            return self.make(alloc, clock, by, name, *shards);
+        }
+        let entries = entries(alloc, &self.streams, what, reply)?;
+        let lines = lines(alloc, clock, by, entries)?;
+        keep_all(&mut self.streams, lines.as_slice());
+        Ok(lines)
+    }
+
+    /// The lines of the journal that a turn adds, by its answer. It is to be told every turn, refused ones too.
+    /// Condition: the turn is lawful, and the answer is that of the definitions after the turns that it noted. After
+    /// `Memory` all is as before.
+    pub fn note(
+        &mut self,
+        alloc: Global,
+        turn: &Turn,
+        answer: &Answer,
+    ) -> Result<Items<EntryLine>, Memory>
+        requires lawful { IsLawful turn.now }
+        requires answered { (h : List Turn) × (StandsFor self.old h × (answer.now ≡ answer_after h turn.now)) }
+        ensures lines { (h : List Turn) → StandsFor self.old h → answer.now ≡ answer_after h turn.now → IfOk result (λ ls. ls ≡ added_entries h turn.now) }
+        ensures after { (h : List Turn) → StandsFor self.old h → answer.now ≡ answer_after h turn.now → OnOk result (StandsFor self.new (turn.now ∷ h)) }
+        ensures kept { OnErr result (self.new ≡ self.old) }
+    {
+        let clock = self.clock.later(turn.at);
+        let lines = match answer {
+            Ok(reply) => self.accept(alloc, clock, turn.by, &turn.what, reply)?,
+            Err(_) => Items::new(alloc),
+        };
+        self.clock = clock;
+        Ok(lines)
+    }
+}

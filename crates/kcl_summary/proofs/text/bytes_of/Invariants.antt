@@ -1,7 +1,0 @@
-use Rattle.std.proofs.Common.{◌≡◌, ◌+◌, ◌<◌, ◌^◌, drop}
-use Rattle.kcl_drill.specs.Summed.{Summed, sum_of}
-use Rattle.kcl_summary.proofs.text.bytes_of.Given as goal
-
--- those so far and those of the rest are all
-abbrev pub invariant-loop-x : goal.invariant-loop-x
-invariant-loop-x l = sum_of (λ (x : Summed). x.bytes) l.sums < 2 ^ 128 → l.all + sum_of (λ (x : Summed). x.bytes) (drop l.x-index l.sums) ≡ sum_of (λ (x : Summed). x.bytes) l.sums

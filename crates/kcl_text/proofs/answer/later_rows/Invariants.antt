@@ -1,8 +1,0 @@
-use Rattle.std.proofs.Common.{◌≡◌, ◌++◌, take, codes}
-use Rattle.std.specs.Prelude.{flat_map}
-use Rattle.kcl_text.specs.Answers.{row_text}
-use Rattle.kcl_text.proofs.answer.later_rows.Given as goal
-
--- the rows so far were added
-abbrev pub invariant-loop-next : goal.invariant-loop-next
-invariant-loop-next l = l.to ≡ l.initial.to ++ flat_map (λ r. codes ";" ++ row_text r) (take l.next-index l.rows)

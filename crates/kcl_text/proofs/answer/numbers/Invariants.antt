@@ -1,8 +1,0 @@
-use Rattle.std.proofs.Common.{◌≡◌, ◌++◌, take}
-use Rattle.std.specs.Prelude.{flat_map}
-use Rattle.kcl_text.specs.Answers.{number_text}
-use Rattle.kcl_text.proofs.answer.numbers.Given as goal
-
--- the numbers so far were added
-abbrev pub invariant-loop-stored : goal.invariant-loop-stored
-invariant-loop-stored l = l.to ≡ l.initial.to ++ flat_map number_text (take l.stored-index l.batch)

@@ -1,5 +1,0 @@
-use Rattle.kcl_text.proofs.RawLemmas.{command_spells, command_again}
-use Rattle.kcl_text.proofs.laws.one_command_text.Goals as goal
-
-pub returns : goal.returns
-returns c = record { reads = λ text what long h. command_spells text (what, long) h; again = command_again }

@@ -1,0 +1,10 @@
+use Rattle.std.proofs.Common.{◌≡◌, ◌++◌, drop, take}
+use Rattle.kcl_worker_lists.specs.Changes.{one_of, without_consumer}
+use Rattle.kcl_worker_lists.proofs.releases.take_consumer.Given as goal
+
+-- none before the place is of this lease
+abbrev pub invariant-loop-i : goal.invariant-loop-i
+invariant-loop-i g l =
+    (take l.i l.consumers.items ++ without_consumer l.fn.id (drop l.i l.consumers.items) ≡ without_consumer l.fn.id l.fn.consumers.items)
+    × (one_of l.fn.id (drop l.i l.consumers.items) ≡ one_of l.fn.id l.fn.consumers.items)
+    × (l.consumers ≡ l.fn.consumers)

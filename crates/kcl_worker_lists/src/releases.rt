@@ -1,0 +1,65 @@
+//! Leases that are released with their consumers.
+ghost use Rattle.std.specs.Prelude.{◌≡◌, ◌≤◌, IfNone};
+ghost use Rattle.std.specs.Vec.{vec_len};
+ghost use Rattle.kds_defs.specs.Keys.{same_key};
+ghost use Rattle.kcl_worker_lists.specs.Changes.{has_one, leaving_in, one_of, without_consumer};
+
+use crate::consumers::id_of;
+use crate::leases::{id_of_held, same_id};
+use kcl_consumer::{Consumer, Processor};
+use kcl_defs::{Held, LeaseId};
+use kds_base::ShardRef;
+
+/// Whether a lease has a consumer.
+fn has_one<P: Processor>(consumers: &[Consumer<P>], h: &Held) -> bool
+    ensures { result ≡ has_one consumers.now h.now }
+{
+    let id = id_of_held(h);
+    for c in consumers {
+        if same_id(&id_of(c), &id) {
+            return true;
+        }
+    }
+    false
+}
+
+/// Whether a lease is of this key.
+fn is_of(h: &Held, key: &ShardRef) -> bool
+    ensures { result ≡ same_key h.now.key key.now }
+{
+    h.key.stream == key.stream && h.key.shard == key.shard
+}
+
+/// The first lease of a key that has a consumer.
+pub fn leaving<P: Processor>(
+    held: &[Held],
+    consumers: &[Consumer<P>],
+    key: &ShardRef,
+) -> Option<Held>
+    ensures { result ≡ leaving_in key.now consumers.now held.now }
+{
+    for h in held {
+        if is_of(h, key) && has_one(consumers, h) {
+            return Some(*h);
+        }
+    }
+    None
+}
+
+/// The first consumer of a lease is taken out. No memory.
+pub fn take_consumer<P: Processor>(
+    consumers: &mut Vec<Consumer<P>>,
+    id: &LeaseId,
+) -> Option<Consumer<P>>
+    ensures taken { result ≡ one_of id.now consumers.old.items }
+    ensures left { consumers.new.items ≡ without_consumer id.now consumers.old.items }
+    ensures none { IfNone result (consumers.new ≡ consumers.old) }
+    ensures len { vec_len consumers.new ≤ vec_len consumers.old }
+{
+    for i in 0..consumers.len() {
+        if same_id(&id_of(&consumers[i]), id) {
+            return Some(consumers.remove(i));
+        }
+    }
+    None
+}

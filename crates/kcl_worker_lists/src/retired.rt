@@ -1,0 +1,72 @@
+//! Consumers that are over.
+ghost use Rattle.std.specs.Prelude.{◌≡◌, ◌+◌, ◌<◌, ◌≤◌, ◌++◌, OnOk, Some, map};
+ghost use Rattle.std.specs.Vec.{vec_capacity, vec_len};
+ghost use Rattle.kcl_defs.specs.Consumers.{over_at};
+ghost use Rattle.kcl_worker_lists.specs.Changes.{live_among, retire, retired_among};
+ghost use Rattle.kcl_worker_lists.specs.Retirements.{retirement};
+
+use kcl_consumer::{Consumer, Processor};
+use kcl_defs::{Held, Why};
+use kds_base::{Memory, ShardRef, TenureNo};
+
+/// A consumer that is over, why, and its processor (Kinesis Client Library, ShutdownReason).
+#[derive(Drop)]
+pub struct Retired<P> {
+    pub key: ShardRef,
+    pub tenure: TenureNo,
+    pub why: Why,
+    pub processor: P,
+}
+
+/// What is kept of a consumer that is over.
+fn retire<P: Processor>(c: Consumer<P>, why: Why) -> Retired<P>
+    requires { over_at c.phase ≡ Some why }
+    ensures { retirement result ≡ retire c }
+{
+    Retired {
+        key: c.key(),
+        tenure: c.tenure(),
+        why,
+        processor: c.into_processor(),
+    }
+}
+
+/// Consumers that are over are retired, in their order. No memory.
+pub fn settle<P: Processor>(consumers: &mut Vec<Consumer<P>>, retired: &mut Vec<Retired<P>>)
+    requires room { vec_len retired.old + vec_len consumers.old ≤ vec_capacity retired.old }
+    ensures live { consumers.new.items ≡ live_among consumers.old.items }
+    ensures over { map retirement retired.new.items ≡ map retirement retired.old.items ++ retired_among consumers.old.items }
+    ensures room { vec_len retired.new + vec_len consumers.new ≤ vec_capacity retired.new }
+{
+    let mut i = 0;
+    while i < consumers.len() {
+        match consumers[i].over() {
+            Some(why) => {
+                let c = consumers.remove(i);
+                retired.push_reserved(retire(c, why));
+            }
+            None => i += 1,
+        }
+    }
+}
+
+/// Takes the memory for one more lease and its consumer, and for the consumer's retirement.
+pub fn make_room<P: Processor>(
+    held: &mut Vec<Held>,
+    consumers: &mut Vec<Consumer<P>>,
+    retired: &mut Vec<Retired<P>>,
+) -> Result<(), Memory>
+    requires { vec_len retired.old + vec_len consumers.old ≤ vec_capacity retired.old }
+    ensures held { held.new.items ≡ held.old.items }
+    ensures consumers { consumers.new.items ≡ consumers.old.items }
+    ensures retired { retired.new.items ≡ retired.old.items }
+    ensures room { vec_len retired.new + vec_len consumers.new ≤ vec_capacity retired.new }
+    ensures for_held { OnOk result (vec_len held.new < vec_capacity held.new) }
+    ensures for_consumer { OnOk result (vec_len consumers.new < vec_capacity consumers.new) }
+    ensures for_retirement { OnOk result (vec_len retired.new + (vec_len consumers.new + 1) ≤ vec_capacity retired.new) }
+{
+    held.reserve(1)?;
+    consumers.reserve(1)?;
+    retired.reserve(consumers.len() + 1)?;
+    Ok(())
+}

@@ -1,0 +1,37 @@
+-- How the program ends.
+use Rattle.std.specs.Prelude.{◌≡◌, ◌⊎◌, ℕ, List, String, IfSome, Bool, false, Some, None}
+use Rattle.std.specs.declared.alloc.Global.{Global}
+use Rattle.std.specs.declared.option.Option.{Option}
+use Rattle.std.specs.Io.KnownBytes.{Appends}
+use Rattle.kds_ends.specs.declared.status.Status.{Status}
+use Rattle.kds_cli_tasks.specs.declared.task.Task.{Task}
+use Rattle.kds_ends.specs.Causes.{Rose}
+use Rattle.kds_ends.specs.Status.{code_of}
+use Rattle.kds_cli_tasks.specs.Words.{task_of, texts_of}
+use Rattle.kds_cli_runs.specs.Completed.{Completed}
+use Rattle.kds_cli_runs.specs.Ends.{Performed, reads_input, serves_door}
+use Rattle.kds_cli_runs.specs.Words.{error_text}
+
+-- How the program ended: this is its exit status, the error output gained its text unless that output's own faults rose,
+-- and the run of the task that its words ask for ended so, where `listens` says that the door listens at a port.
+pub record EndsSo (code : ℕ) (words : List (String Global)) (bytes left moments held now told tells : Option (List ℕ)) (faults fails : ℕ) (listens : ℕ → Type 0) : Type 0 where
+  pub status : Status
+  pub is_code : code ≡ code_of status
+  pub error : Appends told tells (error_text status) ⊎ Rose faults fails
+  pub performed : IfSome (task_of (texts_of words)) (λ t. Performed t status bytes left moments held now listens)
+
+-- How the program ends over ends whose faults don't rise: this is its exit status, and the run of the task that its words ask for
+-- ended as the bytes decide, or by want of memory. Of a schedule whose lines are all lines of one, 0 or 6.
+pub record CompletesSo (code : ℕ) (words : List (String Global)) (bytes : Option (List ℕ)) : Type 0 where
+  pub status : Status
+  pub is_code : code ≡ code_of status
+  pub completed : IfSome (task_of (texts_of words)) (λ t. Completed t status bytes)
+
+-- words that ask for a door to be served, or for the input to be read
+abbrev pub asks_for_door : Option Task → Bool
+asks_for_door None = false
+asks_for_door (Some task) = serves_door task
+
+abbrev pub asks_for_input : Option Task → Bool
+asks_for_input None = false
+asks_for_input (Some task) = reads_input task

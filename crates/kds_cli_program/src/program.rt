@@ -1,0 +1,115 @@
+//! The whole program.
+ghost use Rattle.std.specs.Prelude.{◌≡◌, ◌⊎◌, Bool, true, false, None, Some, IfSome};
+ghost use Rattle.kds_defs.specs.Histories.{clock as clock_of, journal as journal_of};
+ghost use Rattle.kds_defs.specs.Safe.{IsSafe};
+ghost use Rattle.kds_ends.specs.Causes.{Rose};
+ghost use Rattle.kds_cli_tasks.specs.Words.{task_of, texts_of};
+ghost use Rattle.kds_cli_tasks.specs.declared.task.Task.TheVariants.{Replay};
+ghost use Rattle.kcl_sim.specs.Schedule.{history, ran};
+ghost use Rattle.kcl_sim.specs.Serving.{AreAllServed};
+ghost use Rattle.kds_cli_runs.specs.Answered.{AreHandedOn};
+ghost use Rattle.kds_cli_runs.specs.Completed.{Completed};
+ghost use Rattle.kds_cli_runs.specs.Ends.{Performed};
+ghost use Rattle.kds_cli_runs.specs.Journal.{IsAuditedSound};
+ghost use Rattle.kds_cli_program.specs.Ends.{CompletesSo, EndsSo, asks_for_door, asks_for_input};
+
+use kds_cli_runs::{no_room, perform, schedules, tell};
+use kds_cli_words::find_task;
+use kds_ends::{Clock, Door, Sink, Source, Status};
+use std::alloc::Global;
+use std::sync::Wait;
+use std::thread::Threads;
+
+/// Does what the words ask for, and gives the end.
+fn perform_words<R, S, K, C, D>(
+    rt: &R,
+    alloc: Global,
+    words: &Vec<String>,
+    input: &mut S,
+    out: &mut K,
+    clock: C,
+    door: &mut D,
+) -> Status
+where
+    R: Threads + Wait + Sync,
+    S: Source,
+    K: Sink,
+    C: Clock + Send + Drop,
+    D: Door,
+    D::Input: Send,
+    D::Output: Send,
+    ensures usage { result ≡ Status.Usage → task_of (texts_of words.now.items) ≡ None }
+    ensures refused { task_of (texts_of words.now.items) ≡ None → (result ≡ Status.Usage) ⊎ (result ≡ Status.Memory) }
+    ensures untouched { task_of (texts_of words.now.items) ≡ None → (input.new ≡ input.old) × (out.new ≡ out.old) }
+    ensures performed { IfSome (task_of (texts_of words.now.items)) (λ task.
+        Performed task result (S.left input.old) (S.left input.new) (C.moments clock) (K.held out.old) (K.held out.new) (D.listens door.new)) }
+    ensures door_left { asks_for_door (task_of (texts_of words.now.items)) ≡ false → door.new ≡ door.old }
+    ensures input_left { asks_for_input (task_of (texts_of words.now.items)) ≡ false → input.new ≡ input.old }
+    ensures complete { (Rose (S.faults input.old) (S.faults input.new) → ⊥) → (Rose (K.faults out.old) (K.faults out.new) → ⊥)
+        → (Rose (D.faults door.old) (D.faults door.new) → ⊥)
+        → IfSome (task_of (texts_of words.now.items)) (λ task. Completed task result (S.left input.old)) }
+    ensures read { result ≡ Status.Read → Rose (S.faults input.old) (S.faults input.new) }
+    ensures write { result ≡ Status.Write → Rose (K.faults out.old) (K.faults out.new) }
+    ensures door { result ≡ Status.Door → Rose (D.faults door.old) (D.faults door.new) }
+{
+    no_room();
+    match find_task(alloc, words) {
+        Ok(Some(task)) => perform(rt, alloc, task, input, out, clock, door),
+        Ok(None) => Status::Usage,
+        Err(_) => Status::Memory,
+    }
+}
+
+/// The whole program: its words, its input, its output, its error output, its clock and its door. The answer is the exit
+/// status.
+pub fn run<R, S, K, E, C, D>(
+    rt: &R,
+    alloc: Global,
+    words: &Vec<String>,
+    input: &mut S,
+    out: &mut K,
+    err: &mut E,
+    clock: C,
+    door: &mut D,
+) -> u8
+where
+    R: Threads + Wait + Sync,
+    S: Source,
+    K: Sink,
+    E: Sink,
+    C: Clock + Send + Drop,
+    D: Door,
+    D::Input: Send,
+    D::Output: Send,
+    // 2 only if the words ask for no task; if they ask for none, 2 or 6.
+    ensures usage { result ≡ 2 → task_of (texts_of words.now.items) ≡ None }
+    ensures refused { task_of (texts_of words.now.items) ≡ None → (result ≡ 2) ⊎ (result ≡ 6) }
+    // Then the input and the output are as they were.
+    ensures untouched { task_of (texts_of words.now.items) ≡ None → (input.new ≡ input.old) × (out.new ≡ out.old) }
+    // The door and the input are left alone unless the words ask for them.
+    ensures door_left { asks_for_door (task_of (texts_of words.now.items)) ≡ false → door.new ≡ door.old }
+    ensures input_left { asks_for_input (task_of (texts_of words.now.items)) ≡ false → input.new ≡ input.old }
+    // Each task ends as told, and the error output is told this very end.
+    ensures ended { EndsSo result words.now.items (S.left input.old) (S.left input.new) (C.moments clock)
+        (K.held out.old) (K.held out.new) (E.held err.old) (E.held err.new) (E.faults err.old) (E.faults err.new) (D.listens door.new) }
+    // Over ends whose faults don't rise each task ends as the bytes of its input decide, or by want of memory.
+    ensures complete { (Rose (S.faults input.old) (S.faults input.new) → ⊥) → (Rose (K.faults out.old) (K.faults out.new) → ⊥)
+        → (Rose (D.faults door.old) (D.faults door.new) → ⊥) → CompletesSo result words.now.items (S.left input.old) }
+    // Of a schedule that is replayed, with its answers or its journal: the state of its turns is safe, at their clock, and
+    // its workers' processors are called for the given reads of their tenures. What was given in a tenure that was handed
+    // off isn't read in a tenure of the key that begins after it. A journal that is whole is found sound.
+    ensures safe { (journal : Bool) → task_of (texts_of words.now.items) ≡ Some (Replay journal)
+        → IfSome (S.left input.old) (λ bytes. IsSafe (journal_of (history bytes)) (clock_of (history bytes))) }
+    ensures served { (journal : Bool) → task_of (texts_of words.now.items) ≡ Some (Replay journal)
+        → IfSome (S.left input.old) (λ bytes. AreAllServed (ran bytes)) }
+    ensures handed { (journal : Bool) → task_of (texts_of words.now.items) ≡ Some (Replay journal) → IfSome (S.left input.old) AreHandedOn }
+    ensures sound { result ≡ 0 → task_of (texts_of words.now.items) ≡ Some (Replay true) → IfSome (S.left input.old) IsAuditedSound }
+    ensures read { result ≡ 4 → Rose (S.faults input.old) (S.faults input.new) }
+    ensures write { result ≡ 5 → Rose (K.faults out.old) (K.faults out.new) }
+    ensures door { result ≡ 8 → Rose (D.faults door.old) (D.faults door.new) }
+{
+    schedules();
+    let status = perform_words(rt, alloc, words, input, out, clock, door);
+    tell(err, status);
+    status.code()
+}

@@ -1,0 +1,106 @@
+-- Want of memory before anything is read is an end of each task.
+use Rattle.std.proofs.Common.{◌≡◌, ℕ, Bool, true, false, List, [], ◌++◌, Option, Some, None, refl, inl, inr}
+use Rattle.std.specs.Option.{IfSome}
+use Rattle.kds_defs.specs.declared.command.Turn.{Turn}
+use Rattle.kds_defs.specs.Histories.{journal, clock}
+use Rattle.kds_defs.specs.Lawful.{IsHistory}
+use Rattle.kds_defs.specs.Safe.{IsSafe}
+use Rattle.kds_audit.specs.Audited.{TellsAudit}
+use Rattle.kds_ends.proofs.Writing.{appends_nothing}
+use Rattle.kds_ends.specs.Moments.{Gives}
+use Rattle.kds_ends.specs.declared.status.Status.TheVariants.{Done, Memory, Unsound}
+use Rattle.kds_cli_tasks.specs.declared.task.Task.{Task}
+use Rattle.kds_cli_tasks.specs.declared.task.Task.TheVariants.{Replay, Answer, Audit, Serve, Drill}
+use Rattle.kds_server.specs.Texts.{Tells}
+use Rattle.kds_session.specs.Text.{commands}
+use Rattle.kcl_script.specs.declared.line.Line.{Line}
+use Rattle.kcl_sim.specs.Output.{fresh, with_schedule}
+use Rattle.kcl_sim.specs.Schedule.{history, judged}
+use Rattle.kcl_sim.specs.Serving.{AreAllServed}
+use Rattle.kcl_sim.specs.Standing.{SimValue}
+use Rattle.kds_cli_runs.specs.Answered.{AreHandedOn, RanBy}
+use Rattle.kds_cli_runs.specs.Ends.{Answers, Audited, Performed, Replayed, ReplayTells, shown}
+use Rattle.kds_cli_runs.proofs.Answering.{LawfulPart, run_safely}
+use Rattle.kds_cli_runs.proofs.Journaling.{nothing_recorded, nothing_written}
+
+-- no turn ran
+still : SimValue
+still = record { history = []; workers = []; over = false }
+
+none_ran : (output : List Line → List ℕ) (bytes : List ℕ) (held : Option (List ℕ)) → RanBy output Memory bytes held held still
+unfolding still
+none_ran output bytes held = record {
+  lines = [];
+  later = (judged bytes).lines;
+  parts = refl;
+  made = inl (record { history = refl; workers = λ e. tt });
+  front = [];
+  back = output [];
+  output_is = refl;
+  written = appends_nothing held;
+  remains = tt;
+}
+
+gives_none : (moments : Option (List ℕ)) → Gives moments [] moments
+gives_none None = tt
+gives_none (Some told) = (refl, refl)
+
+tells_none : (all left held : Option (List ℕ)) → IfSome all (λ bytes. Tells Memory bytes left [] [] held held)
+tells_none None left held = tt
+tells_none (Some bytes) left held = record {
+  first = λ ms ending falls. (commands ms, refl);
+  written = λ ms ending falls later. nothing_written held _;
+}
+
+-- a connection that got no command
+unserved : (all left moments held : Option (List ℕ)) → Answers all left moments held held Memory
+unserved all left moments held = record {
+  kind = tt;
+  spent = moments;
+  served = record {
+    given = [];
+    told = [];
+    between = moments;
+    made = record { moments = []; one_each = refl; gives = gives_none moments; told_is = refl };
+    asked = inl refl;
+    tells = tells_none all left held;
+  };
+}
+
+told_none : (journal : Bool) (bytes : List ℕ) (left held : Option (List ℕ)) → ReplayTells journal Memory bytes left held held
+told_none false bytes left held = nothing_written held _
+told_none true bytes left held = nothing_recorded (history bytes) held
+
+audit_none : (all held : Option (List ℕ)) → IfSome all (λ bytes. TellsAudit Memory bytes held held)
+audit_none None held = tt
+audit_none (Some bytes) held = nothing_written held _
+
+not_done : Memory ≡ Done → ⊥
+not_done e = cc
+
+not_unsound : Memory ≡ Unsound → ⊥
+not_unsound e = cc
+
+unaudited : (all held : Option (List ℕ)) → Audited Memory all held held
+unaudited all held = record { kind = tt; told = audit_none all held; safe = λ e. absurd (not_done e); legal = λ e. absurd (not_unsound e) }
+
+module _ (lawful : (bytes : List ℕ) (lines later : List Line) → (judged bytes).lines ≡ lines ++ later → IsHistory (with_schedule fresh lines).history)
+    (part : LawfulPart)
+    (safe : (h : List Turn) → IsHistory h → IsSafe (journal h) (clock h))
+    (served : (bytes : List ℕ) (lines later : List Line) → (judged bytes).lines ≡ lines ++ later → AreAllServed (with_schedule fresh lines))
+    (handed : (bytes : List ℕ) → AreHandedOn bytes) where
+  unreplayed : (journal : Bool) (all left held : Option (List ℕ)) → Replayed journal Memory all left held held
+  unreplayed journal None left held = record { kind = tt; told = tt; ran = tt; sound = λ j e. tt }
+  unreplayed journal (Some bytes) left held = record {
+    kind = tt;
+    told = told_none journal bytes left held;
+    ran = run_safely (shown journal Memory) Memory bytes held held still lawful part safe served handed (none_ran (shown journal Memory) bytes held);
+    sound = λ j e. absurd (not_done e);
+  }
+
+  pub wanting : (task : Task) (bytes left moments held : Option (List ℕ)) → (listens : ℕ → Type 0) → Performed task Memory bytes left moments held held listens
+  wanting (Replay journal) bytes left moments held listens = unreplayed journal bytes left held
+  wanting Answer bytes left moments held listens = unserved bytes left moments held
+  wanting Audit bytes left moments held listens = unaudited bytes held
+  wanting (Serve port passes) bytes left moments held listens = inr (appends_nothing held)
+  wanting (Drill number workers records) bytes left moments held listens = appends_nothing held

@@ -1,0 +1,33 @@
+-- How each task ends over ends whose faults don't rise.
+use Rattle.std.specs.Prelude.{◌≡◌, ◌⊎◌, ℕ, List, IfSome}
+use Rattle.std.specs.declared.option.Option.{Option}
+use Rattle.kds_audit.specs.Audited.{AuditsAs}
+use Rattle.kds_ends.specs.declared.status.Status.{Status}
+use Rattle.kds_ends.specs.declared.status.Status.TheVariants.{Done, BadLine, Memory, TooLong}
+use Rattle.kds_server.specs.Texts.{EndsAs}
+use Rattle.kds_cli_tasks.specs.declared.task.Task.{Task}
+use Rattle.kds_cli_tasks.specs.declared.task.Task.TheVariants.{Replay, Answer, Audit, Serve, Drill}
+use Rattle.kcl_sim.specs.Schedule.{Ending, bad_line, ending, too_long, whole}
+
+-- how the run of a schedule ends whose bytes end so: with Done where all lines are lines of a schedule
+abbrev pub replay_status : Ending → Status
+replay_status whole = Done
+replay_status too_long = TooLong
+replay_status (bad_line n) = BadLine n
+
+-- the run ended so, or memory ran out
+abbrev pub EndsBy : Status → Status → Type 0
+EndsBy decided status = (status ≡ decided) ⊎ (status ≡ Memory)
+
+-- how the run of a schedule of these bytes ends, unless memory runs out
+abbrev pub ReplaysAs : List ℕ → Status → Type 0
+ReplaysAs bytes status = EndsBy (replay_status (ending bytes)) status
+
+-- How a task ends: as the bytes of its input decide, where the source tells them, a drill with Done; or by want of memory, by
+-- which alone a door whose faults don't rise stops being served.
+abbrev pub Completed : Task → Status → Option (List ℕ) → Type 0
+Completed (Replay journal) status bytes = IfSome bytes (λ bs. ReplaysAs bs status)
+Completed Answer status bytes = IfSome bytes (λ bs. EndsAs bs status)
+Completed Audit status bytes = IfSome bytes (λ bs. AuditsAs bs status)
+Completed (Serve port passes) status bytes = status ≡ Memory
+Completed (Drill number workers records) status bytes = EndsBy Done status

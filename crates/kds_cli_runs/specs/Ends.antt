@@ -1,0 +1,90 @@
+-- How the run of each task ends.
+use Rattle.std.specs.Prelude.{◌≡◌, ◌⊎◌, ℕ, List, [], Bool, true, false, IfSome}
+use Rattle.std.specs.declared.option.Option.{Option}
+use Rattle.std.specs.Io.KnownBytes.{Appends}
+use Rattle.kds_audit.specs.Audited.{IsAuditStatus, IsNoJournal, IsSafely, TellsAudit}
+use Rattle.kds_ends.specs.declared.status.Status.{Status}
+use Rattle.kds_ends.specs.declared.status.Status.TheVariants.{Done, Unsound, Write, Memory, Door}
+use Rattle.kds_ends.specs.Causes.{AppendsPart}
+use Rattle.kds_server.specs.Texts.{IsAnswerStatus}
+use Rattle.kds_server.specs.Serving.{Served}
+use Rattle.kds_cli_tasks.specs.declared.task.Task.{Task}
+use Rattle.kds_cli_tasks.specs.declared.task.Task.TheVariants.{Replay, Answer, Audit, Serve, Drill}
+use Rattle.kcl_script.specs.declared.line.Line.{Line}
+use Rattle.kcl_sim.specs.Output.{fresh, outputs}
+use Rattle.kcl_drill_run.specs.Told.{DrillTells}
+use Rattle.kds_cli_runs.specs.Answered.{RanSafely}
+use Rattle.kds_cli_runs.specs.Journal.{IsAuditedSound, JournalTells, recorded}
+use Rattle.kds_cli_runs.specs.Told.{IsReplayStatus, Tells}
+use Rattle.kds_cli_runs.specs.Words.{listening}
+
+-- ---- a replay, with its answers or its journal
+
+-- what is written for lines that were run, where the end is this
+abbrev pub shown : Bool → Status → List Line → List ℕ
+shown false status = outputs fresh
+shown true status = recorded status
+
+-- what the end tells of the bytes, those that are left, and what the sink held and holds
+abbrev pub ReplayTells : Bool → Status → List ℕ → Option (List ℕ) → Option (List ℕ) → Option (List ℕ) → Type 0
+ReplayTells false status bytes left held now = Tells status bytes left held now
+ReplayTells true status bytes left held now = JournalTells status bytes left held now
+
+-- A replay ended so: its output is told by the bytes, the turns that ran are those of the lines that were answered, and with
+-- Memory perhaps the first turns of one more, and an audit finds a journal sound that was written to its end.
+pub record Replayed (journal : Bool) (status : Status) (bytes left held now : Option (List ℕ)) : Type 0 where
+  pub kind : IsReplayStatus status
+  pub told : IfSome bytes (λ bs. ReplayTells journal status bs left held now)
+  pub ran : IfSome bytes (λ bs. RanSafely (shown journal status) status bs held now)
+  pub sound : journal ≡ true → status ≡ Done → IfSome bytes IsAuditedSound
+
+-- ---- an audit
+
+-- An audit ended so: what it wrote is told by the bytes; a sound text is that of a legal journal, whose state is safe, and
+-- an unsound one that of no legal journal.
+pub record Audited (status : Status) (bytes held now : Option (List ℕ)) : Type 0 where
+  pub kind : IsAuditStatus status
+  pub told : IfSome bytes (λ bs. TellsAudit status bs held now)
+  pub safe : status ≡ Done → IfSome bytes IsSafely
+  pub legal : status ≡ Unsound → IfSome bytes IsNoJournal
+
+-- ---- connections
+
+-- The machine without turns served a connection, whose end is this; the clock tells so many moments then.
+pub record Answers (all left moments start held : Option (List ℕ)) (status : Status) : Type 0 where
+  pub kind : IsAnswerStatus status
+  pub spent : Option (List ℕ)
+  pub served : Served [] all left moments spent start held status
+
+-- it was written that the door listens, and it does; or nothing was
+abbrev pub SaysThatItListens : Option (List ℕ) → Option (List ℕ) → Type 0 → Type 0
+SaysThatItListens held now listens = (Appends held now listening × listens) ⊎ Appends held now []
+
+-- What serving a door writes, where `listens` says that it listens at the port: that it does, or nothing, or a part of it where
+-- the sink failed.
+abbrev pub ServeTells : Status → Option (List ℕ) → Option (List ℕ) → Type 0 → Type 0
+ServeTells Door held now listens = SaysThatItListens held now listens
+ServeTells Memory held now listens = SaysThatItListens held now listens
+ServeTells Write held now listens = AppendsPart held now listening × listens
+ServeTells _ held now listens = ⊥
+
+-- ---- all of them
+
+-- the run of a task ended so, where `listens` says that the door listens at a port
+abbrev pub Performed : Task → Status → Option (List ℕ) → Option (List ℕ) → Option (List ℕ) → Option (List ℕ) → Option (List ℕ) → (ℕ → Type 0) → Type 0
+Performed (Replay journal) status bytes left moments held now listens = Replayed journal status bytes left held now
+Performed Answer status bytes left moments held now listens = Answers bytes left moments held now status
+Performed Audit status bytes left moments held now listens = Audited status bytes held now
+Performed (Serve port passes) status bytes left moments held now listens = ServeTells status held now (listens port)
+Performed (Drill number workers records) status bytes left moments held now listens = DrillTells status number records held now
+
+-- the task serves a door
+abbrev pub serves_door : Task → Bool
+serves_door (Serve port passes) = true
+serves_door _ = false
+
+-- the task reads the input
+abbrev pub reads_input : Task → Bool
+reads_input (Serve port passes) = false
+reads_input (Drill number workers records) = false
+reads_input _ = true

@@ -1,0 +1,57 @@
+//! Runs a schedule to its end.
+ghost use Rattle.std.specs.Prelude.{◌≡◌, [], IfSome};
+ghost use Rattle.kds_ends.specs.Causes.{Rose};
+ghost use Rattle.kds_cli_runs.specs.Answered.{status_of as status_at, RanSo};
+ghost use Rattle.kds_cli_runs.specs.Told.{Tells, IsReplayStatus};
+
+use kcl_sim::{Sim, one_after_another};
+use kds_defs::Machine;
+use kds_ends::{Sink, Source, Status};
+use kds_lines::{Outcome, read_lines};
+use std::alloc::Global;
+
+/// How a run of a schedule ended, and the turns that it made.
+#[derive(Drop)]
+pub struct Replay<M: Machine> {
+    pub status: Status,
+    pub sim: Sim<M>,
+}
+
+/// The end of a run by that of the reading of its input: what has no line feed is no line.
+pub fn status_of(outcome: Outcome) -> Status
+    ensures { result ≡ status_at outcome }
+{
+    match outcome {
+        Outcome::Whole => Status::Done,
+        Outcome::Unfinished(number) | Outcome::Stopped(number) => Status::BadLine(number),
+        Outcome::TooLong => Status::TooLong,
+        Outcome::Read => Status::Read,
+        Outcome::Write => Status::Write,
+        Outcome::Memory => Status::Memory,
+    }
+}
+
+/// Runs a schedule on a machine, and writes its output. Condition: the machine stands for the empty history.
+pub fn run_schedule<M: Machine + Drop, S: Source, K: Sink>(
+    alloc: Global,
+    machine: M,
+    input: &mut S,
+    out: &mut K,
+) -> Replay<M>
+    requires { M.stands_for machine [] }
+    ensures told { IfSome (S.left input.old) (λ bytes.
+        Tells result.status bytes (S.left input.new) (K.held out.old) (K.held out.new)) }
+
+    // The turns that ran are those of the schedule's lines that were answered: all of them, unless an end failed or memory
+    // ran out, and with Memory perhaps the first turns of one more. The machine stands for these turns.
+    ensures ran { IfSome (S.left input.old) (λ bytes. RanSo result.status bytes (K.held out.old) (K.held out.new) result.sim) }
+    ensures read { result.status ≡ Status.Read → Rose (S.faults input.old) (S.faults input.new) }
+    ensures write { result.status ≡ Status.Write → Rose (K.faults out.old) (K.faults out.new) }
+    ensures kinds { IsReplayStatus result.status }
+{
+    one_after_another();
+    let mut sim = Sim::new(alloc, machine);
+    let outcome = read_lines(alloc, &mut sim, input, out);
+    let status = status_of(outcome);
+    Replay { status, sim }
+}

@@ -1,0 +1,63 @@
+//! What each task runs.
+ghost use Rattle.std.specs.Prelude.{◌≡◌, false};
+ghost use Rattle.kds_ends.specs.Causes.{Rose};
+ghost use Rattle.kds_cli_tasks.specs.Words.{IsWithin};
+ghost use Rattle.kds_cli_runs.specs.Completed.{Completed};
+ghost use Rattle.kds_cli_runs.specs.Ends.{Performed, reads_input, serves_door};
+
+use crate::runs::{run_answer, run_replay, run_serve};
+use kcl_drill_run::run_drill;
+use kds_audit::run_audit;
+use kds_cli_tasks::{Task, limits};
+use kds_ends::{Clock, Door, Sink, Source, Status};
+use std::alloc::Global;
+use std::sync::Wait;
+use std::thread::Threads;
+
+/// Does a task, and gives its end. Condition: its numbers are within the table's ranges. Read, Write, Door: the source, the
+/// sink or the door failed.
+pub fn perform<R, S, K, C, D>(
+    rt: &R,
+    alloc: Global,
+    task: Task,
+    input: &mut S,
+    out: &mut K,
+    clock: C,
+    door: &mut D,
+) -> Status
+where
+    R: Threads + Wait + Sync,
+    S: Source,
+    K: Sink,
+    C: Clock + Send + Drop,
+    D: Door,
+    D::Input: Send,
+    D::Output: Send,
+    requires { IsWithin task }
+    ensures performed { Performed task result (S.left input.old) (S.left input.new) (C.moments clock) (K.held out.old) (K.held out.new) (D.listens door.new) }
+    // A task leaves the ends that it hasn't.
+    ensures door_left { serves_door task ≡ false → door.new ≡ door.old }
+    ensures input_left { reads_input task ≡ false → input.new ≡ input.old }
+    ensures complete { (Rose (S.faults input.old) (S.faults input.new) → ⊥) → (Rose (K.faults out.old) (K.faults out.new) → ⊥)
+        → (Rose (D.faults door.old) (D.faults door.new) → ⊥) → Completed task result (S.left input.old) }
+    ensures usage { result ≡ Status.Usage → ⊥ }
+    ensures read { result ≡ Status.Read → Rose (S.faults input.old) (S.faults input.new) }
+    ensures write { result ≡ Status.Write → Rose (K.faults out.old) (K.faults out.new) }
+    ensures door { result ≡ Status.Door → Rose (D.faults door.old) (D.faults door.new) }
+{
+    limits();
+    match task {
+        Task::Replay { journal } => run_replay(alloc, input, out, journal),
+        Task::Answer => {
+            let mut clock = clock;
+            run_answer(alloc, input, out, &mut clock)
+        }
+        Task::Audit => run_audit(alloc, input, out),
+        Task::Serve { port, passes } => run_serve(rt, alloc, port, passes, out, clock, door),
+        Task::Drill {
+            number,
+            workers,
+            records,
+        } => run_drill(rt, alloc, number, workers, records, out),
+    }
+}

@@ -1,0 +1,44 @@
+//! Tasks by the texts of their numbers.
+ghost use Rattle.std.specs.Prelude.{◌≡◌, ◌≤◌, IfSome};
+ghost use Rattle.kds_cli_tasks.specs.Words.{IsWithin, drill_of, number_in, serve_of};
+
+use crate::ranges::{MOST_MEMBERS, MOST_PORT, MOST_RECORDS};
+use crate::task::Task;
+use kds_base::read_u64;
+
+/// The number of a text, between two others.
+fn number_between(low: u64, high: u64, text: &str) -> Option<u64>
+    ensures value { result ≡ number_in low high text.now }
+    ensures within { IfSome result (λ n. (low ≤ n) × (n ≤ high)) }
+{
+    let n = read_u64(text.as_bytes())?;
+    if low <= n && n <= high { Some(n) } else { None }
+}
+
+/// `serve` at the port and with the members of these texts. None where one is no number in its range.
+pub fn serve_task(port: &str, members: &str) -> Option<Task>
+    ensures task { result ≡ serve_of port.now members.now }
+    ensures within { IfSome result IsWithin }
+{
+    let port = number_between(1, MOST_PORT, port)?;
+    let members = number_between(1, MOST_MEMBERS, members)?;
+    Some(Task::Serve {
+        port: port as u16,
+        passes: members as u32,
+    })
+}
+
+/// `drill` with the numbers of these texts. None where one is no number in its range.
+pub fn drill_task(number: &str, workers: &str, records: &str) -> Option<Task>
+    ensures task { result ≡ drill_of number.now workers.now records.now }
+    ensures within { IfSome result IsWithin }
+{
+    let number = read_u64(number.as_bytes())?;
+    let workers = number_between(1, MOST_MEMBERS, workers)?;
+    let records = number_between(0, MOST_RECORDS, records)?;
+    Some(Task::Drill {
+        number,
+        workers: workers as u32,
+        records,
+    })
+}

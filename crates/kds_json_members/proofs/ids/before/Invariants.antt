@@ -1,0 +1,13 @@
+use Rattle.std.proofs.Common.{◌≡◌, ◌++◌, ◌-◌, ◌≤◌, codes, replicate}
+use Rattle.kds_json_members.proofs.ids.before.Given as goal
+
+abbrev pub decreases-loop-known : goal.decreases-loop-known
+decreases-loop-known l = 12 - l.known
+
+-- as many zeros stand there as were added
+abbrev pub invariant-loop-known : goal.invariant-loop-known
+invariant-loop-known l = record {
+  zeros : l.id.bytes ≡ codes "shardId-" ++ replicate (l.known - l.digits) 48;
+  more : l.digits ≤ l.known;
+  most : l.known - l.digits ≤ 12 - l.digits;
+}

@@ -1,0 +1,167 @@
+//! Members that are numbers, moments, hash keys, sequence numbers and the ids of shards.
+ghost use Rattle.std.specs.Prelude.{◌≡◌, None};
+ghost use Rattle.kds_json_value.specs.View.{view};
+ghost use Rattle.kds_json_members.specs.Reading.{Gives};
+ghost use Rattle.kds_json_members.specs.Member.{required_at, optional_at};
+ghost use Rattle.kds_json_members.specs.Kinds.{number_in, moment_in, hash_in, hash_at, sequence_in, id_in, some_id_in};
+
+use crate::ids::read_shard_id;
+use crate::member::{member, required_member, stop_at, value_at};
+use crate::problem::{FaultKind, Stop};
+use kds_base::{Moment, Octets, Seq, ShardNo, hash_of, read_u64, read_u128};
+use kds_defs::limits::MOST_SECONDS;
+use kds_json_value::Datum;
+use std::alloc::Global;
+
+fn number_value(value: &Datum<'_>, low: u32, high: u32) -> Option<u32>
+    ensures { result ≡ number_in low high (view value.now) }
+{
+    match value.as_u64() {
+        Some(n) if n >= low as u64 && n <= high as u64 => Some(n as u32),
+        _ => None,
+    }
+}
+
+/// A whole number from `low` to `high`.
+#[tactic(auto, unfolding(crate::specs::Member::required_at))]
+pub fn number_member(
+    alloc: Global,
+    object: &Datum<'_>,
+    name: &str,
+    low: u32,
+    high: u32,
+) -> Result<u32, Stop>
+    ensures { Gives (λ x. x) result (required_at (number_in low high) name.now (view object.now)) }
+{
+    let value = required_member(alloc, object, name)?;
+    let number = number_value(value, low, high);
+    value_at(alloc, FaultKind::Invalid, name, number)
+}
+
+/// A whole number from 1 to `high`, or `default` where there is none.
+#[tactic(auto, unfolding(crate::specs::Member::optional_at))]
+pub fn optional_limit(
+    alloc: Global,
+    object: &Datum<'_>,
+    name: &str,
+    high: u32,
+    default: u32,
+) -> Result<u32, Stop>
+    ensures { Gives (λ x. x) result (optional_at default (number_in 1 high) name.now (view object.now)) }
+{
+    match member(object, name) {
+        Some(value) => value_at(
+            alloc,
+            FaultKind::Invalid,
+            name,
+            number_value(value, 1, high),
+        ),
+        None => Ok(default),
+    }
+}
+
+fn moment_value(value: &Datum<'_>) -> Option<Moment>
+    ensures { result ≡ moment_in (view value.now) }
+{
+    match value.as_u64() {
+        Some(seconds) if seconds <= MOST_SECONDS => Moment::new(seconds * 1000),
+        _ => None,
+    }
+}
+
+/// A moment in whole seconds (Kinesis API Reference, GetShardIterator, Timestamp).
+#[tactic(auto, unfolding(crate::specs::Member::required_at))]
+pub fn moment_member(alloc: Global, object: &Datum<'_>, name: &str) -> Result<Moment, Stop>
+    ensures { Gives (λ x. x) result (required_at moment_in name.now (view object.now)) }
+{
+    let value = required_member(alloc, object, name)?;
+    value_at(alloc, FaultKind::Invalid, name, moment_value(value))
+}
+
+fn hash_value(value: &Datum<'_>) -> Option<u128>
+    ensures { result ≡ hash_in (view value.now) }
+{
+    match value.as_str() {
+        Some(text) => read_u128(text.as_bytes()),
+        None => None,
+    }
+}
+
+/// A hash key.
+#[tactic(auto, unfolding(crate::specs::Member::required_at))]
+pub fn hash_member(alloc: Global, object: &Datum<'_>, name: &str) -> Result<u128, Stop>
+    ensures { Gives (λ x. x) result (required_at hash_in name.now (view object.now)) }
+{
+    let value = required_member(alloc, object, name)?;
+    value_at(alloc, FaultKind::Invalid, name, hash_value(value))
+}
+
+/// The hash of a record: the explicit one, or else that of its partition key
+/// (Kinesis API Reference, PutRecord, ExplicitHashKey).
+#[tactic(auto, unfolding(crate::specs::Kinds::hash_at, crate::specs::Member::optional_at))]
+pub fn record_hash(
+    alloc: Global,
+    object: &Datum<'_>,
+    name: &str,
+    key: &Octets,
+) -> Result<u128, Stop>
+    ensures { Gives (λ x. x) result (hash_at key.now name.now (view object.now)) }
+{
+    match member(object, name) {
+        Some(value) => value_at(alloc, FaultKind::Invalid, name, hash_value(value)),
+        None => Ok(hash_of(key)),
+    }
+}
+
+fn sequence_value(value: &Datum<'_>) -> Option<Seq>
+    ensures { result ≡ sequence_in (view value.now) }
+{
+    match value.as_str() {
+        Some(text) => match read_u64(text.as_bytes()) {
+            Some(number) => Some(Seq(number)),
+            None => None,
+        },
+        None => None,
+    }
+}
+
+/// A sequence number.
+#[tactic(auto, unfolding(crate::specs::Member::required_at))]
+pub fn sequence_member(alloc: Global, object: &Datum<'_>, name: &str) -> Result<Seq, Stop>
+    ensures { Gives (λ x. x) result (required_at sequence_in name.now (view object.now)) }
+{
+    let value = required_member(alloc, object, name)?;
+    value_at(alloc, FaultKind::Invalid, name, sequence_value(value))
+}
+
+fn id_value(value: &Datum<'_>) -> Option<ShardNo>
+    ensures { result ≡ id_in (view value.now) }
+{
+    match value.as_str() {
+        Some(text) => read_shard_id(text.as_bytes()),
+        None => None,
+    }
+}
+
+/// A shard's id.
+#[tactic(auto, unfolding(crate::specs::Member::required_at))]
+pub fn id_member(alloc: Global, object: &Datum<'_>, name: &str) -> Result<ShardNo, Stop>
+    ensures { Gives (λ x. x) result (required_at id_in name.now (view object.now)) }
+{
+    let value = required_member(alloc, object, name)?;
+    value_at(alloc, FaultKind::Invalid, name, id_value(value))
+}
+
+/// A shard's id, if there is one.
+#[tactic(auto, unfolding(crate::specs::Member::optional_at))]
+pub fn optional_id(alloc: Global, object: &Datum<'_>, name: &str) -> Result<Option<ShardNo>, Stop>
+    ensures { Gives (λ x. x) result (optional_at None some_id_in name.now (view object.now)) }
+{
+    let Some(value) = member(object, name) else {
+        return Ok(None);
+    };
+    match id_value(value) {
+        Some(shard) => Ok(Some(shard)),
+        None => Err(stop_at(alloc, FaultKind::Invalid, name)),
+    }
+}

@@ -1,0 +1,188 @@
+//! Members that are names, modes, truth values, partition keys and payloads.
+ghost use Rattle.std.specs.Prelude.{◌≡◌, ◌+◌, length, chars, nat_le, None, IfOk};
+ghost use Rattle.serde_json.specs.Find.{as_str, as_bool};
+ghost use Rattle.kds_json_value.specs.View.{view};
+ghost use Rattle.kds_defs.specs.declared.limits.TheConstants.{RECORD_BYTES as most_bytes};
+ghost use Rattle.kds_json_members.specs.Reading.{Gives};
+ghost use Rattle.kds_json_members.specs.Member.{required_at, optional_at};
+ghost use Rattle.kds_json_members.specs.Kinds.{name_in, some_name_in, mode_in, scaling_in, is_partition_key as is_key, key_in, blob_in};
+
+use crate::member::{member, required_member, stop_at, value_at};
+use crate::problem::{FaultKind, Stop};
+use kds_base::{Memory, Name, Octets};
+use kds_defs::limits::{KEY_CHARACTERS, RECORD_BYTES};
+use kds_json_value::Datum;
+use kds_token::decoded;
+use std::alloc::Global;
+
+/// A text.
+#[tactic(auto, unfolding(crate::specs::Member::required_at))]
+pub fn text_member<'a>(alloc: Global, object: &Datum<'a>, name: &str) -> Result<&'a str, Stop>
+    ensures { Gives (λ s. s.now) result (required_at as_str name.now (view object.now)) }
+{
+    let value = required_member(alloc, object, name)?;
+    match value.as_str() {
+        Some(text) => Ok(text),
+        None => Err(stop_at(alloc, FaultKind::Invalid, name)),
+    }
+}
+
+fn name_value(alloc: Global, value: &Datum<'_>) -> Result<Option<Name>, Memory>
+    ensures { IfOk result (λ o. o ≡ name_in (view value.now)) }
+{
+    match value.as_str() {
+        Some(text) => Ok(Name::read(alloc, text.as_bytes())?),
+        None => Ok(None),
+    }
+}
+
+/// The name of a stream.
+#[tactic(auto, unfolding(crate::specs::Member::required_at))]
+pub fn name_member(alloc: Global, object: &Datum<'_>, name: &str) -> Result<Name, Stop>
+    ensures { Gives (λ x. x) result (required_at name_in name.now (view object.now)) }
+{
+    let value = required_member(alloc, object, name)?;
+    value_at(alloc, FaultKind::Invalid, name, name_value(alloc, value)?)
+}
+
+/// The name of a stream, if there is one.
+#[tactic(auto, unfolding(crate::specs::Member::optional_at))]
+pub fn optional_name(alloc: Global, object: &Datum<'_>, name: &str) -> Result<Option<Name>, Stop>
+    ensures { Gives (λ x. x) result (optional_at None some_name_in name.now (view object.now)) }
+{
+    let Some(value) = member(object, name) else {
+        return Ok(None);
+    };
+    match name_value(alloc, value)? {
+        Some(stream) => Ok(Some(stream)),
+        None => Err(stop_at(alloc, FaultKind::Invalid, name)),
+    }
+}
+
+fn mode_value(value: &Datum<'_>) -> Option<()>
+    ensures { result ≡ mode_in (view value.now) }
+{
+    let mode = member(value, "StreamMode")?;
+    match mode.as_str() {
+        Some("PROVISIONED") => Some(()),
+        _ => None,
+    }
+}
+
+/// The mode of a stream, if there is one. Only provisioned streams are made
+/// (Kinesis API Reference, StreamModeDetails).
+#[tactic(auto, unfolding(crate::specs::Member::optional_at))]
+pub fn mode_member(alloc: Global, object: &Datum<'_>, name: &str) -> Result<(), Stop>
+    ensures { Gives (λ u. u) result (optional_at tt mode_in name.now (view object.now)) }
+{
+    match member(object, name) {
+        Some(value) => value_at(alloc, FaultKind::Invalid, name, mode_value(value)),
+        None => Ok(()),
+    }
+}
+
+fn scaling_value(value: &Datum<'_>) -> Option<()>
+    ensures { result ≡ scaling_in (view value.now) }
+{
+    match value.as_str() {
+        Some("UNIFORM_SCALING") => Some(()),
+        _ => None,
+    }
+}
+
+/// The kind of a scaling, which is always to uniform ranges (Kinesis API Reference, UpdateShardCount, ScalingType).
+#[tactic(auto, unfolding(crate::specs::Member::required_at))]
+pub fn scaling_member(alloc: Global, object: &Datum<'_>, name: &str) -> Result<(), Stop>
+    ensures { Gives (λ u. u) result (required_at scaling_in name.now (view object.now)) }
+{
+    let value = required_member(alloc, object, name)?;
+    value_at(alloc, FaultKind::Invalid, name, scaling_value(value))
+}
+
+/// A truth value.
+#[tactic(auto, unfolding(crate::specs::Member::required_at))]
+pub fn truth_member(alloc: Global, object: &Datum<'_>, name: &str) -> Result<bool, Stop>
+    ensures { Gives (λ b. b) result (required_at as_bool name.now (view object.now)) }
+{
+    let value = required_member(alloc, object, name)?;
+    value_at(alloc, FaultKind::Invalid, name, value.as_bool())
+}
+
+fn character_count(text: &str) -> usize
+    ensures { result ≡ length (chars text.now) }
+{
+    text.chars().count()
+}
+
+/// Whether a text may be a partition key (Kinesis API Reference, PutRecord, PartitionKey).
+fn is_partition_key(text: &str) -> bool
+    ensures { result ≡ is_key text.now }
+{
+    let count = character_count(text) as u64;
+    1 <= count && count <= KEY_CHARACTERS
+}
+
+fn key_value(alloc: Global, value: &Datum<'_>) -> Result<Option<Octets>, Memory>
+    ensures { IfOk result (λ o. o ≡ key_in (view value.now)) }
+{
+    match value.as_str() {
+        Some(text) => {
+            if is_partition_key(text) {
+                Ok(Some(Octets::of(alloc, text.as_bytes())?))
+            } else {
+                Ok(None)
+            }
+        }
+        None => Ok(None),
+    }
+}
+
+/// A partition key.
+#[tactic(auto, unfolding(crate::specs::Member::required_at))]
+pub fn key_member(alloc: Global, object: &Datum<'_>, name: &str) -> Result<Octets, Stop>
+    ensures { Gives (λ x. x) result (required_at key_in name.now (view object.now)) }
+{
+    let value = required_member(alloc, object, name)?;
+    value_at(alloc, FaultKind::Invalid, name, key_value(alloc, value)?)
+}
+
+/// Whether a payload and its key are within the limit (Kinesis API Reference, PutRecord, Data).
+fn fits(payload_bytes: usize, key_bytes: usize) -> bool
+    ensures { result ≡ nat_le (payload_bytes + key_bytes) most_bytes }
+{
+    let key_bytes = key_bytes as u64;
+    key_bytes <= RECORD_BYTES && payload_bytes as u64 <= RECORD_BYTES - key_bytes
+}
+
+fn blob_value(alloc: Global, value: &Datum<'_>, key_bytes: usize) -> Result<Option<Octets>, Memory>
+    ensures { IfOk result (λ o. o ≡ blob_in key_bytes (view value.now)) }
+{
+    let Some(text) = value.as_str() else {
+        return Ok(None);
+    };
+    match decoded(alloc, text.as_bytes())? {
+        Some(bytes) => {
+            if fits(bytes.as_slice().len(), key_bytes) {
+                Ok(Some(bytes))
+            } else {
+                Ok(None)
+            }
+        }
+        None => Ok(None),
+    }
+}
+
+/// A record's payload, whose key has `key_bytes` bytes.
+#[tactic(auto, unfolding(crate::specs::Member::required_at))]
+pub fn blob_member(
+    alloc: Global,
+    object: &Datum<'_>,
+    name: &str,
+    key_bytes: usize,
+) -> Result<Octets, Stop>
+    ensures { Gives (λ x. x) result (required_at (blob_in key_bytes) name.now (view object.now)) }
+{
+    let value = required_member(alloc, object, name)?;
+    let payload = blob_value(alloc, value, key_bytes)?;
+    value_at(alloc, FaultKind::Invalid, name, payload)
+}

@@ -1,0 +1,97 @@
+-- Tokens that are added one after another.
+use Rattle.std.proofs.Common.{◌≡◌, ℕ, List, [], ◌∷◌, ◌++◌, refl, ap, ◌∙◌}
+use Rattle.std.specs.Prelude.{codes, decimal, Option, Some, None}
+use Rattle.std.specs.Option.{option_to_list}
+use Rattle.std.proofs.lemmas.List.{append_assoc}
+use Rattle.json.specs.Token.{Token, begin_array, begin_object, end_array, end_object, key, null, number, string}
+use Rattle.kds_defs.specs.declared.reply.Iter.{Iter}
+use Rattle.kds_defs.specs.declared.reply.Outcome.{Outcome}
+use Rattle.kds_defs.specs.declared.reply.Place.{Place}
+use Rattle.kds_defs.specs.declared.reply.Shard.{Shard}
+use Rattle.kds_defs.specs.declared.reply.Stored.{Stored}
+use Rattle.kds_json_members.specs.Ids.{shard_id}
+use Rattle.kds_token.specs.Tokens.{iter_token}
+use Rattle.kds_base.specs.Span.{Span}
+use Rattle.kds_reply_texts.specs.Errors.{error_data}
+use Rattle.kds_reply_texts.specs.Bodies.{id_data, list_data, place_data, failed_data, outcome_data, failed_count, outcomes_data, iterator_data}
+use Rattle.kds_reply_texts.specs.Records.{record_data, records_data}
+use Rattle.kds_reply_texts.specs.Children.{range_data, parents_of, child_data}
+use Rattle.kds_reply_texts.specs.Writing.{tokens_of, id_tokens}
+
+pub more : {A : Type 0} (t u v a b : List A) → u ≡ t ++ a → v ≡ u ++ b → v ≡ t ++ (a ++ b)
+more t u v a b first second = second ∙ ap (λ ts. ts ++ b) first ∙ append_assoc t a b
+
+-- the first tokens of all
+pub begun : {A : Type 0} (t u a : List A) → t ≡ [] → u ≡ t ++ a → u ≡ a
+begun t u a nothing first = first ∙ ap (λ ts. ts ++ a) nothing
+
+pub added : {A : Type 0} (u v a b : List A) → u ≡ a → v ≡ u ++ b → v ≡ a ++ b
+added u v a b first second = second ∙ ap (λ ts. ts ++ b) first
+
+pub place_tokens : (p : Place) (id : List ℕ) → id ≡ shard_id p.shard
+    → begin_object ∷ key (codes "SequenceNumber") ∷ string (decimal p.seq) ∷ key (codes "ShardId") ∷ string id ∷ end_object ∷ [] ≡ tokens_of (place_data p)
+unfolding place_data
+place_tokens p id is_id = rw is_id refl
+
+pub failed_tokens : (name message : List ℕ)
+    → begin_object ∷ key (codes "ErrorCode") ∷ string name ∷ key (codes "ErrorMessage") ∷ string message ∷ end_object ∷ [] ≡ tokens_of (failed_data name message)
+unfolding failed_data
+failed_tokens name message = refl
+
+pub error_tokens : (name message : List ℕ)
+    → begin_object ∷ key (codes "__type") ∷ string name ∷ key (codes "message") ∷ string message ∷ end_object ∷ [] ≡ tokens_of (error_data name message)
+error_tokens name message = refl
+
+pub outcomes_tokens : (os : List Outcome) (n : ℕ) → n ≡ failed_count os
+    → (begin_object ∷ key (codes "FailedRecordCount") ∷ number (decimal n) ∷ key (codes "Records") ∷ tokens_of (list_data outcome_data os)) ++ end_object ∷ [] ≡ tokens_of (outcomes_data os)
+unfolding outcomes_data
+outcomes_tokens os n is = rw is refl
+
+pub iterator_tokens : (i : Iter) (token : List ℕ) → token ≡ iter_token i
+    → begin_object ∷ key (codes "ShardIterator") ∷ string token ∷ end_object ∷ [] ≡ tokens_of (iterator_data i)
+unfolding iterator_data
+iterator_tokens i token is = rw is refl
+
+-- ---- records, and where reading goes on
+
+pub records_tokens : (batch : List Stored) (next : Iter) (behind : ℕ) (children : List Shard) (token : List ℕ) → token ≡ iter_token next
+    → (begin_object ∷ key (codes "MillisBehindLatest") ∷ number (decimal behind) ∷ key (codes "NextShardIterator") ∷ string token ∷ key (codes "Records") ∷ tokens_of (list_data record_data batch)) ++ end_object ∷ [] ≡ tokens_of (records_data batch (Some next) behind children)
+unfolding records_data
+records_tokens batch next behind children token is = rw is refl
+
+apart : (c a b k r e : List Token) → (((((c ++ a) ++ b) ++ k) ++ r) ++ e) ≡ c ++ (a ++ (b ++ (k ++ (r ++ e))))
+apart c a b k r e = simp append_assoc
+
+pub end_tokens : (batch : List Stored) (behind : ℕ) (children : List Shard)
+    → begin_object ∷ key (codes "ChildShards") ∷ (((((tokens_of (list_data child_data children) ++ key (codes "MillisBehindLatest") ∷ number (decimal behind) ∷ []) ++ key (codes "NextShardIterator") ∷ null ∷ []) ++ key (codes "Records") ∷ []) ++ tokens_of (list_data record_data batch)) ++ end_object ∷ []) ≡ tokens_of (records_data batch None behind children)
+unfolding records_data
+end_tokens batch behind children =
+    ap (λ (ts : List Token). begin_object ∷ key (codes "ChildShards") ∷ ts)
+    (apart (tokens_of (list_data child_data children)) (key (codes "MillisBehindLatest") ∷ number (decimal behind) ∷ []) (key (codes "NextShardIterator") ∷ null ∷ []) (key (codes "Records") ∷ []) (tokens_of (list_data record_data batch)) (end_object ∷ []))
+
+-- ---- the children of a shard
+
+pub range_tokens : (r : Span) (end start : ℕ) → end ≡ r.end → start ≡ r.start
+    → begin_object ∷ key (codes "EndingHashKey") ∷ string (decimal end) ∷ key (codes "StartingHashKey") ∷ string (decimal start) ∷ end_object ∷ [] ≡ tokens_of (range_data r)
+unfolding range_data
+range_tokens r end start is_end is_start = rw (is_end, is_start) refl
+
+pub parents_tokens : (s : Shard) → ((begin_array ∷ id_tokens s.parent) ++ id_tokens s.adjacent) ++ end_array ∷ [] ≡ tokens_of (list_data id_data (parents_of s))
+parents_tokens s = by_cases s.parent s.adjacent
+  where
+    by_cases : (a b : Option ℕ) → ((begin_array ∷ id_tokens a) ++ id_tokens b) ++ end_array ∷ [] ≡ tokens_of (list_data id_data (option_to_list a ++ option_to_list b))
+    by_cases None None = refl
+    by_cases None (Some b) = refl
+    by_cases (Some a) None = refl
+    by_cases (Some a) (Some b) = refl
+
+apart_child : (r k p i e : List Token) → ((((r ++ k) ++ p) ++ i) ++ e) ≡ r ++ (k ++ (p ++ (i ++ e)))
+apart_child r k p i e = simp append_assoc
+
+pub child_tokens : (s : Shard) (r : Span) (id : List ℕ) → r ≡ s.range → id ≡ shard_id s.no
+    → begin_object ∷ key (codes "HashKeyRange") ∷ ((((tokens_of (range_data r) ++ key (codes "ParentShards") ∷ []) ++ tokens_of (list_data id_data (parents_of s))) ++ key (codes "ShardId") ∷ string id ∷ []) ++ end_object ∷ []) ≡ tokens_of (child_data s)
+unfolding child_data
+child_tokens s r id is_range is_id =
+    ap (λ (ts : List Token). begin_object ∷ key (codes "HashKeyRange") ∷ ts)
+    (apart_child (tokens_of (range_data r)) (key (codes "ParentShards") ∷ []) (tokens_of (list_data id_data (parents_of s))) (key (codes "ShardId") ∷ string id ∷ []) (end_object ∷ [])
+    ∙ rw (is_range, is_id) refl)

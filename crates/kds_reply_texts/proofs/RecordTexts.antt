@@ -1,0 +1,102 @@
+-- The text of records in pieces.
+use Rattle.std.proofs.Common.{◌≡◌, ℕ, ◌+◌, ◌-◌, ◌/◌, ◌^◌, ◌<◌, ◌≤◌, Bool, true, false, List, [], ◌∷◌, ◌++◌, Some, None, Option, length, take, drop, map, get_or, refl, sym, ap, ◌∙◌, decimal, codes, arith, append_assoc, inl, inr}
+use Rattle.std.proofs.lemmas.List.{append-nil, length-append, length-drop, drop_all, drop_more, take_at}
+use Rattle.std.proofs.lemmas.Bool.{cases_lt}
+use borrow.Rule.Slice.PartMut.{post_of}
+use Rattle.std.specs.Str.Lossy.{utf8_lossy}
+use Rattle.base64.specs.Engines.{standard}
+use Rattle.base64.specs.GeneralPurpose.{encode_of}
+use Rattle.base64.specs.Rfc4648.{encoded_size}
+use Rattle.json.specs.Token.{Token, end_object, key, string}
+use Rattle.json.specs.Print.{print, print_from, ends_value, separator, escape, escape_byte, quoted}
+use Rattle.json.proofs.Printed.Tokens.{print_from_push, print_from-append, ends_push}
+use Rattle.serde_json.specs.Data.{Data}
+use Rattle.serde_json.specs.Written.{compact_text, comma_if, items_text}
+use Rattle.serde_json.specs.View.{items_of}
+use Rattle.serde_json.proofs.Texts.{print-outline}
+use Rattle.kds_defs.specs.declared.reply.Stored.{Stored}
+use Rattle.kds_reply_texts.specs.Records.{record_data}
+use Rattle.kds_reply_texts.specs.Writing.{tokens_of}
+
+-- a record, whose digits and base64 stand between quotes as they are
+pub record_text : (r : Stored)
+    → codes "{\"ApproximateArrivalTimestamp\":" ++ (decimal (r.arrival / 1000) ++ (codes ",\"Data\":\"" ++ (escape (encode_of standard r.payload)
+    ++ (codes "\",\"PartitionKey\":\"" ++ (escape (utf8_lossy r.key) ++ (codes "\",\"SequenceNumber\":\"" ++ (escape (decimal r.seq) ++ codes "\"}")))))))
+    ≡ compact_text (record_data r)
+unfolding record_data escape_byte
+record_text r = simp append_assoc
+
+pub after_name : (t u : List Token) (name : List ℕ) → u ≡ t ++ key name ∷ [] → ends_value u ≡ false
+after_name t u name is = ap ends_value is ∙ ends_push false t (key name)
+
+no_separator : (b : Bool) → separator b end_object ≡ []
+no_separator true = refl
+no_separator false = refl
+
+-- the text of an object whose last member has the value d, which ts lead up to
+pub completed : (ts : List Token) (d whole : Data) → ends_value ts ≡ false → (ts ++ tokens_of d) ++ end_object ∷ [] ≡ tokens_of whole
+    → (print ts ++ compact_text d) ++ 125 ∷ [] ≡ compact_text whole
+completed ts d whole opens is =
+    let end : print ((ts ++ tokens_of d) ++ end_object ∷ []) ≡ print (ts ++ tokens_of d) ++ 125 ∷ [] =
+    print_from_push false (ts ++ tokens_of d) end_object ∙ ap (λ (s : List ℕ). print (ts ++ tokens_of d) ++ (s ++ 125 ∷ [])) (no_separator (ends_value (ts ++ tokens_of d))) in
+    let value : print (ts ++ tokens_of d) ≡ print ts ++ compact_text d =
+    print_from-append false ts (tokens_of d) ∙ ap (λ (b : Bool). print ts ++ print_from b (tokens_of d)) opens ∙ ap (λ (s : List ℕ). print ts ++ s) (print-outline d) in
+    sym (sym (print-outline whole) ∙ ap print (sym is) ∙ end ∙ ap (λ (s : List ℕ). s ++ 125 ∷ []) value)
+
+-- the length of base64, where it fits
+pub size_is : (n size : ℕ) (r : Option ℕ) → (encoded_size n true < 2 ^ 64 → r ≡ Some (encoded_size n true)) → (2 ^ 64 ≤ encoded_size n true → r ≡ None) → r ≡ Some size → size ≡ encoded_size n true
+size_is n size r fits long is = elim (cases_lt (encoded_size n true) (2 ^ 64)) [
+  | inl short ↦ let e = fits short in cc
+  | inr over ↦ let e = long over in absurd (cc)
+]
+
+-- what was written over the room that was made at the end of old
+pub written_over : (s new rest old text part : List ℕ) (at size wide k : ℕ) → take at s ≡ old → at ≡ length old → length s ≡ at + size → k ≡ length s → size ≡ wide
+    → length new ≡ length part → length new + at ≡ length s → new ≡ text ++ drop wide part
+    → take k ((take at s ++ (new ++ post_of at (length s - at) s)) ++ drop (length (take at s ++ (new ++ post_of at (length s - at) s))) rest) ≡ old ++ text
+written_over s new rest old text part at size wide k front is long all fits same whole written =
+    let over : drop wide part ≡ [] = drop_all wide part (omega arith) in
+    let over_all : new ≡ text = written ∙ ap (λ (x : List ℕ). text ++ x) over ∙ append-nil text in
+    let past : post_of at (length s - at) s ≡ [] = drop_all (length s - at) (drop at s) (omega (arith, length-drop at s)) in
+    let bytes : take at s ++ (new ++ post_of at (length s - at) s) ≡ old ++ text = rw (front, past, over_all, append-nil) refl in
+    let len : length (take at s ++ (new ++ post_of at (length s - at) s)) ≡ k = ap length bytes ∙ length-append old text ∙ omega (arith, ap length over_all) in
+    take_at _ _ k len ∙ bytes
+
+-- what stands between the quotes of a string
+pub unquoted : (s text : List ℕ) → s ≡ quoted text → take (length s - 1 - 1) (drop 1 s) ≡ escape text
+unquoted s text is =
+    let e = escape text in
+    let len : length (quoted text) - 1 - 1 ≡ length e = omega (arith, length-append e (34 ∷ [])) in
+    rw (is, len) (take_at e (34 ∷ []) (length e) refl)
+
+-- what a writer has of one string
+pub string_text : (before : List ℕ) (ts : List Token) (text : List ℕ) → before ≡ [] → ts ≡ string text ∷ [] → before ++ print ts ≡ quoted text
+unfolding print_from
+string_text before ts text nothing is = rw (nothing, is) (append-nil (quoted text))
+
+pub in_pieces : (a b c d e f g h i : List ℕ) → (((((((a ++ b) ++ c) ++ d) ++ e) ++ f) ++ g) ++ h) ++ i ≡ a ++ (b ++ (c ++ (d ++ (e ++ (f ++ (g ++ (h ++ i)))))))
+in_pieces a b c d e f g h i = simp append_assoc
+
+-- a record, as its pieces were added
+pub record_pieces : (r : Stored) (n : ℕ) (payload name : List ℕ) → n ≡ r.arrival / 1000 → payload ≡ r.payload → name ≡ r.key
+    → (((((((codes "{\"ApproximateArrivalTimestamp\":" ++ decimal n) ++ codes ",\"Data\":\"") ++ escape (encode_of standard payload)) ++ codes "\",\"PartitionKey\":\"") ++ escape (utf8_lossy name))
+    ++ codes "\",\"SequenceNumber\":\"") ++ escape (decimal r.seq)) ++ codes "\"}" ≡ compact_text (record_data r)
+record_pieces r n payload name is_n is_payload is_name =
+    rw (is_n, is_payload, is_name)
+    (in_pieces (codes "{\"ApproximateArrivalTimestamp\":") (decimal (r.arrival / 1000)) (codes ",\"Data\":\"") (escape (encode_of standard r.payload))
+    (codes "\",\"PartitionKey\":\"") (escape (utf8_lossy r.key)) (codes "\",\"SequenceNumber\":\"") (escape (decimal r.seq)) (codes "\"}")
+    ∙ record_text r)
+
+-- ---- records one after another
+
+pub next_record : (batch : List Stored) (i : ℕ) (x : Stored) (later : Bool) (out parted more all : List ℕ) → i < length batch → x ≡ get_or batch i x
+    → parted ≡ out ++ comma_if later → more ≡ parted ++ compact_text (record_data x)
+    → out ++ items_text later (items_of (map record_data (drop i batch))) ≡ all
+    → more ++ items_text true (items_of (map record_data (drop (i + 1) batch))) ≡ all
+next_record batch i x later out parted more all inside is comma text whole =
+    let rest = items_text true (items_of (map record_data (drop (i + 1) batch))) in
+    let here : drop i batch ≡ x ∷ drop (i + 1) batch = drop_more batch i x inside ∙ ap (λ (y : Stored). y ∷ drop (i + 1) batch) (sym is) in
+    let joined : more ++ rest ≡ out ++ (comma_if later ++ (compact_text (record_data x) ++ rest)) =
+    ap (λ (s : List ℕ). s ++ rest) (text ∙ ap (λ (s : List ℕ). s ++ compact_text (record_data x)) comma)
+    ∙ append_assoc (out ++ comma_if later) (compact_text (record_data x)) rest ∙ append_assoc out (comma_if later) (compact_text (record_data x) ++ rest) in
+    joined ∙ ap (λ (rs : List Stored). out ++ items_text later (items_of (map record_data rs))) (sym here) ∙ whole

@@ -1,0 +1,10 @@
+use Rattle.std.proofs.Common.{◌≡◌, ◌++◌, drop, map}
+use Rattle.serde_json.specs.View.{items_of}
+use Rattle.serde_json.specs.Written.{compact_text, items_text}
+use Rattle.kds_reply_texts.specs.Bodies.{list_data}
+use Rattle.kds_reply_texts.specs.Records.{record_data}
+use Rattle.kds_reply_texts.proofs.batches.put_records.Given as goal
+
+-- with that of the records that are left, the text so far is all of it
+abbrev pub invariant-loop-stored : goal.invariant-loop-stored
+invariant-loop-stored l = l.out.items ++ items_text l.later (items_of (map record_data (drop l.stored-index l.batch))) ≡ l.fn.out.items ++ compact_text (list_data record_data l.batch)

@@ -1,0 +1,78 @@
+//! The children of a shard at whose end reading is, written straight as text.
+ghost use Rattle.std.specs.Prelude.{◌≡◌, ◌++◌, OnOk};
+ghost use Rattle.kds_reply_texts.specs.Bodies.{id_data, list_data};
+ghost use Rattle.kds_reply_texts.specs.Children.{range_data, parents_of, child_data};
+ghost use Rattle.kds_reply_texts.specs.Writing.{tokens_of, id_tokens};
+
+use crate::writing::{begin_object, end_object, put_hash_key, put_name, put_text};
+use json::Writer;
+use kds_base::{Memory, Range, ShardNo};
+use kds_defs::Shard;
+use kds_json_members::shard_id;
+
+/// Adds a range of hash keys (Kinesis API Reference, HashKeyRange).
+fn put_range(out: &mut Writer, range: &Range) -> Result<(), Memory>
+    ensures ok { OnOk result (out.new.tokens ≡ out.old.tokens ++ tokens_of (range_data range.now)) }
+    ensures before { out.new.before ≡ out.old.before }
+{
+    begin_object(out)?;
+    put_hash_key(out, "EndingHashKey", range.end)?;
+    put_hash_key(out, "StartingHashKey", range.start)?;
+    end_object(out)?;
+    Ok(())
+}
+
+/// Adds a shard's id, if there is one.
+fn put_id(out: &mut Writer, shard: &Option<ShardNo>) -> Result<(), Memory>
+    ensures ok { OnOk result (out.new.tokens ≡ out.old.tokens ++ id_tokens shard.now) }
+    ensures before { out.new.before ≡ out.old.before }
+{
+    match shard {
+        Some(shard) => {
+            out.string(shard_id(*shard).as_str())?;
+            Ok(())
+        }
+        None => Ok(()),
+    }
+}
+
+/// Adds the ids of a shard's parents as an array, the adjacent one last.
+fn put_parents(out: &mut Writer, shard: &Shard) -> Result<(), Memory>
+    ensures ok { OnOk result (out.new.tokens ≡ out.old.tokens ++ tokens_of (list_data id_data (parents_of shard.now))) }
+    ensures before { out.new.before ≡ out.old.before }
+{
+    out.begin_array()?;
+    put_id(out, &shard.parent)?;
+    put_id(out, &shard.adjacent)?;
+    out.end_array()?;
+    Ok(())
+}
+
+/// Adds a child of a shard (Kinesis API Reference, ChildShard).
+fn put_child(out: &mut Writer, shard: &Shard) -> Result<(), Memory>
+    ensures ok { OnOk result (out.new.tokens ≡ out.old.tokens ++ tokens_of (child_data shard.now)) }
+    ensures before { out.new.before ≡ out.old.before }
+{
+    let id = shard_id(shard.no);
+    begin_object(out)?;
+    put_name(out, "HashKeyRange")?;
+    put_range(out, &shard.range)?;
+    put_name(out, "ParentShards")?;
+    put_parents(out, shard)?;
+    put_text(out, "ShardId", id.as_str())?;
+    end_object(out)?;
+    Ok(())
+}
+
+/// Adds the children of a shard as an array.
+pub fn put_children(out: &mut Writer, shards: &[Shard]) -> Result<(), Memory>
+    ensures ok { OnOk result (out.new.tokens ≡ out.old.tokens ++ tokens_of (list_data child_data shards.now)) }
+    ensures before { out.new.before ≡ out.old.before }
+{
+    out.begin_array()?;
+    for shard in shards {
+        put_child(out, shard)?;
+    }
+    out.end_array()?;
+    Ok(())
+}

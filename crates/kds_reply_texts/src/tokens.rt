@@ -1,0 +1,45 @@
+//! The tokens that the service gives out, as text.
+ghost use Rattle.std.specs.Prelude.{◌≡◌, IfOk, IsUtf8, string_bytes};
+ghost use Rattle.serde_json.specs.Written.{compact_text};
+ghost use Rattle.kds_token.specs.Tokens.{page_token};
+ghost use Rattle.kds_reply_texts.specs.Bodies.{iterator_data};
+
+use crate::writing::{begin_object, end_object, new_writer, put_text, written};
+use kds_base::{Memory, Octets};
+use kds_defs::{Iter, Page};
+use kds_token::{write_iter, write_page};
+use std::alloc::Global;
+
+/// The most bytes of an iterator with what stands around it.
+pub const ITERATOR_BYTES: usize = 160;
+
+/// Bytes that are text.
+pub fn text_of(bytes: &[u8]) -> &str
+    requires { IsUtf8 bytes.now }
+    ensures { result.now ≡ bytes.now }
+{
+    match str::from_utf8(bytes) {
+        Ok(text) => text,
+        Err(_) => unreachable!(),
+    }
+}
+
+/// The token with which a listing goes on. It is ASCII, so that no byte is replaced.
+pub fn listing_token(alloc: Global, page: &Page) -> Result<String, Memory>
+    ensures { IfOk result (λ s. string_bytes s ≡ page_token page.now) }
+{
+    let token = write_page(alloc, page)?;
+    Ok(String::from_utf8_lossy(alloc, token.as_slice())?)
+}
+
+/// The text of an iterator (Kinesis API Reference, GetShardIterator, Response Elements).
+pub fn iterator_text(alloc: Global, iter: &Iter) -> Result<Octets, Memory>
+    ensures { IfOk result (λ o. o ≡ compact_text (iterator_data iter.now)) }
+{
+    let token = write_iter(alloc, iter)?;
+    let mut out = new_writer(alloc, ITERATOR_BYTES)?;
+    begin_object(&mut out)?;
+    put_text(&mut out, "ShardIterator", text_of(token.as_slice()))?;
+    end_object(&mut out)?;
+    Ok(written(out))
+}

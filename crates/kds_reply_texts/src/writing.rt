@@ -1,0 +1,105 @@
+//! Members and values, written straight as text.
+ghost use Rattle.std.specs.Prelude.{◌≡◌, ◌++◌, ◌∷◌, [], decimal, OnOk, IfOk};
+ghost use Rattle.json.specs.Token.{begin_object, end_object, key, null, number, string};
+ghost use Rattle.serde_json.specs.Data.{Data};
+ghost use Rattle.serde_json.specs.Written.{compact_text};
+ghost use Rattle.kds_reply_texts.specs.Writing.{tokens_of};
+
+use itoa::Buffer;
+use json::Writer;
+use kds_base::{Memory, Octets, Seq};
+use std::alloc::Global;
+
+/// A writer that has written nothing, with room for so many bytes.
+pub fn new_writer(alloc: Global, room: usize) -> Result<Writer, Memory>
+    ensures nothing { IfOk result (λ out. out.tokens ≡ []) }
+    ensures before { IfOk result (λ out. out.before ≡ []) }
+{
+    Ok(Writer::new(Vec::with_capacity(alloc, room)?))
+}
+
+/// The text of a value whose tokens were written.
+pub fn written(out: Writer) -> Octets
+    requires { out.before ≡ [] }
+    ensures { (d : Data) → out.tokens ≡ tokens_of d → result ≡ compact_text d }
+{
+    Octets::unshared(out.into_inner())
+}
+
+/// Begins an object.
+pub fn begin_object(out: &mut Writer) -> Result<(), Memory>
+    ensures ok { OnOk result (out.new.tokens ≡ out.old.tokens ++ begin_object ∷ []) }
+    ensures before { out.new.before ≡ out.old.before }
+{
+    out.begin_object()?;
+    Ok(())
+}
+
+/// Ends an object.
+pub fn end_object(out: &mut Writer) -> Result<(), Memory>
+    ensures ok { OnOk result (out.new.tokens ≡ out.old.tokens ++ end_object ∷ []) }
+    ensures before { out.new.before ≡ out.old.before }
+{
+    out.end_object()?;
+    Ok(())
+}
+
+/// Adds the name of a member.
+pub fn put_name(out: &mut Writer, name: &str) -> Result<(), Memory>
+    ensures ok { OnOk result (out.new.tokens ≡ out.old.tokens ++ key name.now ∷ []) }
+    ensures before { out.new.before ≡ out.old.before }
+{
+    out.key(name)?;
+    Ok(())
+}
+
+/// Adds a member that is a number.
+pub fn put_number(out: &mut Writer, name: &str, n: u64) -> Result<(), Memory>
+    ensures ok { OnOk result (out.new.tokens ≡ out.old.tokens ++ key name.now ∷ number (decimal n) ∷ []) }
+    ensures before { out.new.before ≡ out.old.before }
+{
+    out.key(name)?;
+    out.u64(n)?;
+    Ok(())
+}
+
+/// Adds a member that is a sequence number, which is a decimal string.
+pub fn put_sequence(out: &mut Writer, name: &str, seq: Seq) -> Result<(), Memory>
+    ensures ok { OnOk result (out.new.tokens ≡ out.old.tokens ++ key name.now ∷ string (decimal seq) ∷ []) }
+    ensures before { out.new.before ≡ out.old.before }
+{
+    out.key(name)?;
+    out.quoted_u64(seq.0)?;
+    Ok(())
+}
+
+/// Adds a member that is a hash key, which is a decimal string.
+pub fn put_hash_key(out: &mut Writer, name: &str, hash: u128) -> Result<(), Memory>
+    ensures ok { OnOk result (out.new.tokens ≡ out.old.tokens ++ key name.now ∷ string (decimal hash) ∷ []) }
+    ensures before { out.new.before ≡ out.old.before }
+{
+    let mut digits = Buffer::new();
+    out.key(name)?;
+    out.string(digits.format(hash))?;
+    Ok(())
+}
+
+/// Adds a member that is null.
+pub fn put_null(out: &mut Writer, name: &str) -> Result<(), Memory>
+    ensures ok { OnOk result (out.new.tokens ≡ out.old.tokens ++ key name.now ∷ null ∷ []) }
+    ensures before { out.new.before ≡ out.old.before }
+{
+    out.key(name)?;
+    out.null()?;
+    Ok(())
+}
+
+/// Adds a member that is a text.
+pub fn put_text(out: &mut Writer, name: &str, text: &str) -> Result<(), Memory>
+    ensures ok { OnOk result (out.new.tokens ≡ out.old.tokens ++ key name.now ∷ string text.now ∷ []) }
+    ensures before { out.new.before ≡ out.old.before }
+{
+    out.key(name)?;
+    out.string(text)?;
+    Ok(())
+}

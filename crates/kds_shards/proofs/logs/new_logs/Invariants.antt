@@ -1,9 +1,0 @@
-use Rattle.std.proofs.Common.{◌≡◌, map}
-use Rattle.std.specs.Prelude.{replicate}
-use Rattle.kds_log.specs.Log.{log_of}
-use Rattle.kds_shards.specs.Logs.{empty_log}
-use Rattle.kds_shards.proofs.logs.new_logs.Given as goal
-
--- so many empty logs
-abbrev pub invariant-loop-i : goal.invariant-loop-i
-invariant-loop-i l = map log_of l.logs.items ≡ replicate l._i empty_log

@@ -1,0 +1,13 @@
+use Rattle.std.proofs.Common.{◌≡◌, ◌≤◌, ℕ, map, take}
+use Rattle.std.specs.List.{count_by}
+use Rattle.kds_log.specs.Log.{log_of}
+use Rattle.kds_stream_logs.specs.Routes.{is_place_of, room_at}
+use Rattle.kds_stream_logs.proofs.routes.reserve_all.Given as goal
+
+-- the logs are as they were, and there is memory for the places so far
+abbrev pub invariant-loop-place : goal.invariant-loop-place
+invariant-loop-place l =
+    record {
+      same : map log_of l.logs ≡ map log_of l.initial.logs;
+      room : (sh : ℕ) → count_by (is_place_of sh) (take l.place-index l.places) ≤ room_at l.logs sh;
+    }

@@ -1,0 +1,19 @@
+use Rattle.std.proofs.Common.{◌≡◌, ℕ, List, length}
+use Rattle.std.specs.List.{AllByRecursion}
+use Rattle.kds_defs.specs.Rates.{SizedPut}
+use Rattle.kds_stream_logs.specs.Rating.{IsCounted, StandFor}
+use Rattle.kds_stream_logs.specs.Routes.{ArePlaced, GoesOn}
+use Rattle.kds_stream_logs.proofs.routes.route_all.Given as goal
+
+-- the routes so far, with the items that are left, go on to those of all
+abbrev pub invariant-loop-item : goal.invariant-loop-item
+invariant-loop-item l =
+    record {
+      goes_on : (f : ℕ → List SizedPut) → StandFor f 0 l.initial.windows → GoesOn l.tree.shards l.clock l.enforced f l.first l.initial.items.items l.items.items l.routes l.windows;
+      placed : ArePlaced l.tree.shards l.clock l.first l.routes;
+      counted : AllByRecursion (IsCounted l.clock) l.windows;
+      many : length l.windows ≡ length l.tree.shards;
+    }
+
+abbrev pub decreases-loop-item : goal.decreases-loop-item
+decreases-loop-item l = length l.items.items

@@ -1,0 +1,50 @@
+-- The steps of a scaling, in the shards of a stream (Kinesis API Reference, UpdateShardCount).
+use Rattle.std.specs.Prelude.{ℕ, ◌≡◌, ◌+◌, ◌-◌, List, [], ◌∷◌, ◌++◌, length}
+use Rattle.std.specs.List.{AllByRecursion, filter}
+use Rattle.kds_defs.specs.declared.entry.Entry.{Entry}
+use Rattle.kds_defs.specs.declared.entry.Entry.TheVariants as entry
+use Rattle.kds_defs.specs.declared.scale.ScaleStep.{ScaleStep}
+use Rattle.kds_defs.specs.declared.scale.ScaleStep.TheVariants.{Join, Cut}
+use Rattle.kds_defs.specs.Scaling.{LeadTo}
+use Rattle.kds_defs.specs.ScaleCommands.{starts_among}
+use Rattle.kds_defs.specs.Shards.{ShardState, home_among, is_open, merged_shards, split_shards}
+use Rattle.kds_rate.specs.Windows.{WindowValue}
+use Rattle.kds_stream_logs.specs.Rating.{IsUnused}
+
+-- the open one of these shards whose range contains the key
+abbrev pub home_in : List ShardState → ℕ → ℕ
+home_in xs k = home_among (filter is_open xs) k
+
+-- where the open ones of these shards start
+abbrev pub starts_in : List ShardState → List ℕ
+starts_in xs = starts_among (filter is_open xs)
+
+-- the shards after a step that drew this number at a clock
+abbrev pub stepped : ScaleStep → ℕ → ℕ → List ShardState → List ShardState
+stepped (Join b) n c xs = merged_shards (home_in xs (b - 1)) (home_in xs b) (record { number = n; clock = c }) (n + 1) xs
+stepped (Cut b) n c xs = split_shards (home_in xs b) b (record { number = n; clock = c }) (n + 1) xs
+
+-- its entry
+abbrev pub entry_in : ℕ → ScaleStep → ℕ → List ShardState → Entry
+entry_in s (Join b) n xs = entry.Merged s (home_in xs (b - 1)) (home_in xs b) n (length xs)
+entry_in s (Cut b) n xs = entry.Split s (home_in xs b) b n (length xs) (length xs + 1)
+
+-- the same of steps in turn, of which each draws the next number
+abbrev pub scaled : List ScaleStep → ℕ → ℕ → List ShardState → List ShardState
+scaled [] n c xs = xs
+scaled (step ∷ steps) n c xs = scaled steps (n + 1) c (stepped step n c xs)
+
+abbrev pub entries_in : ℕ → List ScaleStep → ℕ → ℕ → List ShardState → List Entry
+entries_in s [] n c xs = []
+entries_in s (step ∷ steps) n c xs = entry_in s step n xs ∷ entries_in s steps (n + 1) c (stepped step n c xs)
+
+-- the steps may be taken in turn, from the open ones of these shards on
+abbrev pub MayScale : List ScaleStep → List ShardState → Type 0
+MayScale steps xs = (wanted : List ℕ) × LeadTo steps (starts_in xs) wanted
+
+-- some windows of no puts are added
+pub record AreMore (many : ℕ) (before after : List WindowValue) : Type 0 where
+  pub more : List WindowValue
+  pub unused : AllByRecursion IsUnused more
+  pub count : length more ≡ many
+  pub are : after ≡ before ++ more

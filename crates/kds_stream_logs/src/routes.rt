@@ -1,0 +1,240 @@
+//! Records on their way to the logs of their shards.
+ghost use Rattle.std.specs.Prelude.{◌≡◌, ◌+◌, ◌^◌, ◌<◌, ◌≤◌, ◌∷◌, ◌++◌, ◌&&◌, [], true, false, ℕ, List, length, map, IfNone, IfOk, IfSome, OnErr, OnOk};
+ghost use Rattle.std.specs.List.{AllByRecursion, count_by};
+ghost use Rattle.kds_defs.specs.Lawful.{item_bytes};
+ghost use Rattle.kds_defs.specs.Rates.{SizedPut, is_throttled};
+ghost use Rattle.kds_defs.specs.Streams.{floor_of};
+ghost use Rattle.kds_log.specs.Log.{log_of};
+ghost use Rattle.kds_stream_logs.specs.Rating.{ForPutsOf, IsCounted, StandFor, with_put};
+ghost use Rattle.kds_stream_logs.specs.Routes.{AreInTurn, ArePlaced, AreRouted, CanTake, CanTakeAll, IsRouted, is_held, is_place_of, place_of, room_at, settled_each, stored_item, taken, with_each};
+
+use crate::logs::settle_at;
+use crate::windows::{admits_at, count_at};
+use kds_base::{Items, Memory, Moment, Seq, ShardNo};
+use kds_defs::{NewItem, Outcome, Place, Stored};
+use kds_log::ShardLog;
+use kds_rate::Window;
+use kds_tree::ShardTree;
+use std::alloc::Global;
+use std::collections::VecDeque;
+
+/// A record, and the open shard whose range contains its hash key.
+#[derive(Drop)]
+pub struct Routed {
+    pub shard: ShardNo,
+    pub item: Stored,
+}
+
+/// The payload and key bytes of an item.
+pub fn item_bytes(item: &NewItem) -> u64
+    ensures { result ≡ item_bytes item.now }
+{
+    item.payload.as_slice().len() as u64 + item.key.as_slice().len() as u64
+}
+
+/// What is made of items that are put together: the records of those that are taken, and where these stand; what
+/// becomes of each item; and the next number.
+#[derive(Drop)]
+pub struct Routes {
+    pub routed: VecDeque<Routed>,
+    pub places: Items<Place>,
+    pub outcomes: Items<Outcome>,
+    pub next: u64,
+}
+
+impl Routes {
+    /// Those of no items.
+    fn new(alloc: Global, next: u64) -> Routes
+        ensures routed { result.routed.items ≡ [] }
+        ensures places { result.places ≡ [] }
+        ensures outcomes { result.outcomes ≡ [] }
+        ensures next { result.next ≡ next }
+    {
+        Routes {
+            routed: VecDeque::new(alloc),
+            places: Items::new(alloc),
+            outcomes: Items::new(alloc),
+            next,
+        }
+    }
+
+    /// Adds an item that the limits hold back from its shard.
+    fn hold_back(&mut self, shard: ShardNo) -> Result<(), Memory>
+        ensures routed { self.new.routed.items ≡ self.old.routed.items }
+        ensures places { self.new.places ≡ self.old.places }
+        ensures outcomes { OnOk result (self.new.outcomes ≡ self.old.outcomes ++ Outcome.Throttled shard ∷ []) }
+        ensures next { self.new.next ≡ self.old.next }
+    {
+        self.outcomes.push(Outcome::Throttled(shard))
+    }
+
+    /// Adds the record of an item that its shard takes, stored at the clock with the next number. Key and payload are
+    /// moved.
+    fn store(&mut self, shard: ShardNo, item: NewItem, clock: Moment) -> Result<(), Memory>
+        requires { self.old.next + 1 < 2 ^ 64 }
+        ensures routed { OnOk result (self.new.routed.items ≡ self.old.routed.items ++ stored_item shard clock self.old.next item ∷ []) }
+        ensures places { OnOk result (self.new.places ≡ self.old.places ++ record { shard = shard; seq = self.old.next } ∷ []) }
+        ensures outcomes { OnOk result (self.new.outcomes ≡ self.old.outcomes ++ Outcome.Stored (record { shard = shard; seq = self.old.next }) ∷ []) }
+        ensures next { OnOk result (self.new.next ≡ self.old.next + 1) }
+    {
+        let seq = Seq(self.next);
+        self.places.push(Place { shard, seq })?;
+        self.outcomes.push(Outcome::Stored(Place { shard, seq }))?;
+        let item = Stored {
+            seq,
+            arrival: clock,
+            key: item.key,
+            payload: item.payload,
+        };
+        self.routed.push_back(Routed { shard, item })?;
+        self.next += 1;
+        Ok(())
+    }
+}
+
+/// Whether the limits are on, and the shard takes no record of so many payload and key bytes now. One that is taken
+/// is counted.
+fn holds_back(
+    windows: &mut [Window],
+    enforced: bool,
+    shard: ShardNo,
+    clock: Moment,
+    bytes: u64,
+) -> bool
+    requires within { shard < length windows.old }
+    requires counted { AllByRecursion (IsCounted clock) windows.old }
+    ensures held { (f : ℕ → List SizedPut) → StandFor f 0 windows.old → result ≡ (enforced && is_throttled (f shard) clock bytes) }
+    ensures same { result ≡ true → windows.new ≡ windows.old }
+    ensures stand { result ≡ false → (f : ℕ → List SizedPut) → StandFor f 0 windows.old → StandFor (with_put shard (record { clock = clock; bytes = bytes }) f) 0 windows.new }
+    ensures counted { AllByRecursion (IsCounted clock) windows.new }
+{
+    if enforced && !admits_at(windows, shard.0 as usize, clock, bytes) {
+        return true;
+    }
+    count_at(windows, shard.0 as usize, clock, bytes);
+    false
+}
+
+/// Adds an item to the routes: its record, which its home takes, or that it is held back. `false` where it would be
+/// taken and the numbers are used up.
+fn route_one(
+    routes: &mut Routes,
+    tree: &ShardTree,
+    windows: &mut [Window],
+    enforced: bool,
+    item: NewItem,
+    clock: Moment,
+) -> Result<bool, Memory>
+    requires many { length windows.old ≡ length tree.now.shards }
+    requires counted { AllByRecursion (IsCounted clock) windows.old }
+    ensures routed { IfOk result (λ more. more ≡ true → ForPutsOf windows.old (λ f. IsRouted tree.now.shards clock enforced f item routes.old routes.new windows.new)) }
+    ensures spent { IfOk result (λ more. more ≡ false → ForPutsOf windows.old (λ f. (is_held tree.now.shards clock enforced f item ≡ false) × (routes.old.next + 1 ≡ 2 ^ 64))) }
+    ensures placed { IfOk result (λ more. more ≡ true → (first : ℕ) → ArePlaced tree.now.shards clock first routes.old → ArePlaced tree.now.shards clock first routes.new) }
+    ensures counted { AllByRecursion (IsCounted clock) windows.new }
+{
+    let shard = tree.home(item.hash);
+    let bytes = item_bytes(&item);
+    if holds_back(windows, enforced, shard, clock, bytes) {
+        routes.hold_back(shard)?;
+        return Ok(true);
+    }
+    if routes.next == u64::MAX {
+        return Ok(false);
+    }
+    routes.store(shard, item, clock)?;
+    Ok(true)
+}
+
+/// What is made of items, of which the first that is taken gets the number `first`: each is judged and counted after
+/// those before. `None` exactly where the numbers don't suffice.
+pub fn route_all(
+    alloc: Global,
+    tree: &ShardTree,
+    windows: &mut [Window],
+    enforced: bool,
+    mut items: VecDeque<NewItem>,
+    first: u64,
+    clock: Moment,
+) -> Result<Option<Routes>, Memory>
+    requires many { length windows.old ≡ length tree.now.shards }
+    requires counted { AllByRecursion (IsCounted clock) windows.old }
+    ensures routed { IfOk result (λ o. IfSome o (λ r. ForPutsOf windows.old (λ f. AreRouted tree.now.shards clock enforced f first items.items r windows.new))) }
+    ensures placed { IfOk result (λ o. IfSome o (λ r. ArePlaced tree.now.shards clock first r)) }
+    ensures spent { IfOk result (λ o. IfNone o (ForPutsOf windows.old (λ f. 2 ^ 64 ≤ first + length (taken tree.now.shards clock enforced f items.items)))) }
+    ensures counted { AllByRecursion (IsCounted clock) windows.new }
+{
+    let mut routes = Routes::new(alloc, first);
+    while let Some(item) = items.pop_front() {
+        if !route_one(&mut routes, tree, windows, enforced, item, clock)? {
+            return Ok(None);
+        }
+    }
+    Ok(Some(routes))
+}
+
+/// Gives up what the log of each place has reserved. The logs are as before.
+fn release_all(logs: &mut [ShardLog], places: &[Place])
+    requires { AllByRecursion (λ p. p.shard < length logs.old) places.now }
+    ensures { map log_of logs.new ≡ map log_of logs.old }
+{
+    for place in places {
+        let shard = place.shard;
+        logs[shard.0 as usize].release();
+    }
+}
+
+/// Reserves memory for a record at each of these places, and for no more. The logs are as before, whatever the
+/// answer.
+fn reserve_all(logs: &mut [ShardLog], places: &[Place]) -> Result<(), Memory>
+    requires { AllByRecursion (λ p. p.shard < length logs.old) places.now }
+    ensures same { map log_of logs.new ≡ map log_of logs.old }
+    ensures room { OnOk result ((sh : ℕ) → count_by (is_place_of sh) places.now ≤ room_at logs.new sh) }
+{
+    for place in places {
+        let shard = place.shard;
+        logs[shard.0 as usize].reserve_one()?;
+    }
+    Ok(())
+}
+
+/// Adds each record to the log of its shard, in memory that was reserved.
+fn append_all(logs: &mut [ShardLog], mut routed: VecDeque<Routed>)
+    requires { CanTakeAll logs.old routed.items }
+    ensures { map log_of logs.new ≡ with_each routed.items (map log_of logs.old) }
+{
+    while let Some(next) = routed.pop_front() {
+        let shard = next.shard;
+        logs[shard.0 as usize].append_reserved(next.item);
+    }
+}
+
+/// Drops the trimmed records of the log of each place.
+fn settle_each(logs: &mut [ShardLog], places: &[Place], cut: &Option<Moment>)
+    ensures { map log_of logs.new ≡ settled_each (floor_of cut.now) places.now (map log_of logs.old) }
+{
+    for place in places {
+        let shard = place.shard;
+        settle_at(logs, shard.0 as usize, cut);
+    }
+}
+
+/// Adds each record to the log of its shard, and drops what is trimmed there. All memory is taken before the first
+/// record is added. After `Memory` the logs are as before.
+pub fn put_all(
+    logs: &mut [ShardLog],
+    routed: VecDeque<Routed>,
+    places: &[Place],
+    cut: Option<Moment>,
+) -> Result<(), Memory>
+    requires places { places.now ≡ map place_of routed.items }
+    requires each { AllByRecursion (CanTake (map log_of logs.old)) routed.items }
+    requires in_turn { AreInTurn routed.items }
+    ensures ok { OnOk result (map log_of logs.new ≡ settled_each (floor_of cut) places.now (with_each routed.items (map log_of logs.old))) }
+    ensures err { OnErr result (map log_of logs.new ≡ map log_of logs.old) }
+{
+    release_all(logs, places);
+    reserve_all(logs, places)?;
+    append_all(logs, routed);
+    settle_each(logs, places, &cut);
+    Ok(())
+}
