@@ -3,6 +3,8 @@ use Rattle.std.proofs.Common.{◌≡◌, ℕ, ◌≤◌, Bool, true, false, List
 use Rattle.std.specs.Prelude.{◌==◌, ◌&&◌, nat_lt, if◌then◌else◌, Ok, Err}
 use Rattle.std.specs.List.{AllByRecursion}
 use Rattle.std.proofs.lemmas.Bool.Decides.{nat_tests}
+use Rattle.std.proofs.lemmas.Bool.{and_parts}
+use Rattle.kds_base.proofs.Facts.{equal_so}
 use Rattle.kds_defs.specs.declared.command.Origin.{Origin}
 use Rattle.kds_defs.specs.declared.command.Origin.TheVariants as origin
 use Rattle.kds_defs.specs.declared.command.Target.{Target}
@@ -19,25 +21,18 @@ use Rattle.kds_defs.specs.Leases.{TenureState}
 use Rattle.kds_defs.specs.Legal.{IsGood, IsInRange, last_clock, told}
 use Rattle.kds_defs.specs.Shards.{ShardState, home, shard_at}
 use Rattle.kds_defs.specs.Records.{next_number}
+use Rattle.kds_defs.proofs.Keys.{same_ref}
 use Rattle.kcl_audit_streams.specs.declared.rule.Rule.TheVariants as rule
 use Rattle.kcl_audit_streams.specs.Verdict.{IsFit, Verdict, gives, judged, same_entry, same_flag, same_list, same_origin, same_target, verdict}
-use Rattle.kcl_leases.proofs.RowChanges.{same_ref}
 use Rattle.kcl_audit_streams.proofs.StreamTold.{length-blank}
 
 -- ---- entries that are the same
-
-num : (a b : ℕ) → (a == b) ≡ true → a ≡ b
-num a b h = grind (arith, nat_tests)
-
-both : (a b : Bool) → (a && b) ≡ true → (a ≡ true) × (b ≡ true)
-both true b h = (refl, h)
-both false b h = absurd cc
 
 list : (a b : List ℕ) → same_list a b ≡ true → a ≡ b
 list [] [] h = refl
 list [] (y ∷ b) h = absurd cc
 list (x ∷ a) [] h = absurd cc
-list (x ∷ a) (y ∷ b) h = let p = both (x == y) (same_list a b) h in λ i. num x y p.0 i ∷ list a b p.1 i
+list (x ∷ a) (y ∷ b) h = let p = and_parts (x == y) (same_list a b) h in λ i. equal_so x y p.0 i ∷ list a b p.1 i
 
 flag : (a b : Bool) → same_flag a b ≡ true → a ≡ b
 flag true true h = refl
@@ -49,7 +44,7 @@ aim : (a b : Target) → same_target a b ≡ true → a ≡ b
 aim target.End target.End h = refl
 aim target.End (target.At q) h = absurd cc
 aim (target.At q) target.End h = absurd cc
-aim (target.At q) (target.At p) h = ap target.At (num q p h)
+aim (target.At q) (target.At p) h = ap target.At (equal_so q p h)
 
 start : (a b : Origin) → same_origin a b ≡ true → a ≡ b
 start origin.TrimHorizon origin.TrimHorizon h = refl
@@ -60,60 +55,60 @@ start origin.Latest origin.Latest h = refl
 start origin.Latest (origin.Time n) h = absurd cc
 start (origin.Time m) origin.TrimHorizon h = absurd cc
 start (origin.Time m) origin.Latest h = absurd cc
-start (origin.Time m) (origin.Time n) h = ap origin.Time (num m n h)
+start (origin.Time m) (origin.Time n) h = ap origin.Time (equal_so m n h)
 
 pub same_so : (a b : Entry) → same_entry a b ≡ true → a ≡ b
 same_so (entry.Made s name count) (entry.Made s' name' count') h =
-    let p = both (s == s') _ h in
-    let q = both (same_list name name') _ p.1 in
-    λ i. entry.Made (num s s' p.0 i) (list name name' q.0 i) (num count count' q.1 i)
-same_so (entry.Gone s) (entry.Gone s') h = ap entry.Gone (num s s' h)
+    let p = and_parts (s == s') _ h in
+    let q = and_parts (same_list name name') _ p.1 in
+    λ i. entry.Made (equal_so s s' p.0 i) (list name name' q.0 i) (equal_so count count' q.1 i)
+same_so (entry.Gone s) (entry.Gone s') h = ap entry.Gone (equal_so s s' h)
 same_so (entry.Put s sh n hash bytes key_bytes) (entry.Put s' sh' n' hash' bytes' key_bytes') h =
-    let p = both (s == s') _ h in
-    let q = both (sh == sh') _ p.1 in
-    let r = both (n == n') _ q.1 in
-    let t = both (hash == hash') _ r.1 in
-    let u = both (bytes == bytes') _ t.1 in
-    λ i. entry.Put (num s s' p.0 i) (num sh sh' q.0 i) (num n n' r.0 i) (num hash hash' t.0 i) (num bytes bytes' u.0 i) (num key_bytes key_bytes' u.1 i)
+    let p = and_parts (s == s') _ h in
+    let q = and_parts (sh == sh') _ p.1 in
+    let r = and_parts (n == n') _ q.1 in
+    let t = and_parts (hash == hash') _ r.1 in
+    let u = and_parts (bytes == bytes') _ t.1 in
+    λ i. entry.Put (equal_so s s' p.0 i) (equal_so sh sh' q.0 i) (equal_so n n' r.0 i) (equal_so hash hash' t.0 i) (equal_so bytes bytes' u.0 i) (equal_so key_bytes key_bytes' u.1 i)
 same_so (entry.Split s sh at n low high) (entry.Split s' sh' at' n' low' high') h =
-    let p = both (s == s') _ h in
-    let q = both (sh == sh') _ p.1 in
-    let r = both (at == at') _ q.1 in
-    let t = both (n == n') _ r.1 in
-    let u = both (low == low') _ t.1 in
-    λ i. entry.Split (num s s' p.0 i) (num sh sh' q.0 i) (num at at' r.0 i) (num n n' t.0 i) (num low low' u.0 i) (num high high' u.1 i)
+    let p = and_parts (s == s') _ h in
+    let q = and_parts (sh == sh') _ p.1 in
+    let r = and_parts (at == at') _ q.1 in
+    let t = and_parts (n == n') _ r.1 in
+    let u = and_parts (low == low') _ t.1 in
+    λ i. entry.Split (equal_so s s' p.0 i) (equal_so sh sh' q.0 i) (equal_so at at' r.0 i) (equal_so n n' t.0 i) (equal_so low low' u.0 i) (equal_so high high' u.1 i)
 same_so (entry.Merged s sh other n child) (entry.Merged s' sh' other' n' child') h =
-    let p = both (s == s') _ h in
-    let q = both (sh == sh') _ p.1 in
-    let r = both (other == other') _ q.1 in
-    let t = both (n == n') _ r.1 in
-    λ i. entry.Merged (num s s' p.0 i) (num sh sh' q.0 i) (num other other' r.0 i) (num n n' t.0 i) (num child child' t.1 i)
-same_so (entry.Kept s hours) (entry.Kept s' hours') h = let p = both (s == s') _ h in λ i. entry.Kept (num s s' p.0 i) (num hours hours' p.1 i)
-same_so (entry.Enforced s on) (entry.Enforced s' on') h = let p = both (s == s') _ h in λ i. entry.Enforced (num s s' p.0 i) (flag on on' p.1 i)
+    let p = and_parts (s == s') _ h in
+    let q = and_parts (sh == sh') _ p.1 in
+    let r = and_parts (other == other') _ q.1 in
+    let t = and_parts (n == n') _ r.1 in
+    λ i. entry.Merged (equal_so s s' p.0 i) (equal_so sh sh' q.0 i) (equal_so other other' r.0 i) (equal_so n n' t.0 i) (equal_so child child' t.1 i)
+same_so (entry.Kept s hours) (entry.Kept s' hours') h = let p = and_parts (s == s') _ h in λ i. entry.Kept (equal_so s s' p.0 i) (equal_so hours hours' p.1 i)
+same_so (entry.Enforced s on) (entry.Enforced s' on') h = let p = and_parts (s == s') _ h in λ i. entry.Enforced (equal_so s s' p.0 i) (flag on on' p.1 i)
 same_so (entry.LeaseMade key from) (entry.LeaseMade key' from') h =
-    let p = both _ (same_origin from from') h in
+    let p = and_parts _ (same_origin from from') h in
     λ i. entry.LeaseMade (same_ref key key' p.0 i) (start from from' p.1 i)
 same_so (entry.Taken key t counter owner) (entry.Taken key' t' counter' owner') h =
-    let p = both _ ((t == t') && ((counter == counter') && (owner == owner'))) h in
-    let q = both (t == t') _ p.1 in
-    let r = both (counter == counter') _ q.1 in
-    λ i. entry.Taken (same_ref key key' p.0 i) (num t t' q.0 i) (num counter counter' r.0 i) (num owner owner' r.1 i)
-same_so (entry.Renewed t counter) (entry.Renewed t' counter') h = let p = both (t == t') _ h in λ i. entry.Renewed (num t t' p.0 i) (num counter counter' p.1 i)
-same_so (entry.Freed t counter) (entry.Freed t' counter') h = let p = both (t == t') _ h in λ i. entry.Freed (num t t' p.0 i) (num counter counter' p.1 i)
-same_so (entry.Opened t) (entry.Opened t') h = ap entry.Opened (num t t' h)
+    let p = and_parts _ ((t == t') && ((counter == counter') && (owner == owner'))) h in
+    let q = and_parts (t == t') _ p.1 in
+    let r = and_parts (counter == counter') _ q.1 in
+    λ i. entry.Taken (same_ref key key' p.0 i) (equal_so t t' q.0 i) (equal_so counter counter' r.0 i) (equal_so owner owner' r.1 i)
+same_so (entry.Renewed t counter) (entry.Renewed t' counter') h = let p = and_parts (t == t') _ h in λ i. entry.Renewed (equal_so t t' p.0 i) (equal_so counter counter' p.1 i)
+same_so (entry.Freed t counter) (entry.Freed t' counter') h = let p = and_parts (t == t') _ h in λ i. entry.Freed (equal_so t t' p.0 i) (equal_so counter counter' p.1 i)
+same_so (entry.Opened t) (entry.Opened t') h = ap entry.Opened (equal_so t t' h)
 same_so (entry.Read t limit ended numbers) (entry.Read t' limit' ended' numbers') h =
-    let p = both (t == t') _ h in
-    let q = both (limit == limit') _ p.1 in
-    let r = both (same_flag ended ended') _ q.1 in
-    λ i. entry.Read (num t t' p.0 i) (num limit limit' q.0 i) (flag ended ended' r.0 i) (list numbers numbers' r.1 i)
-same_so (entry.Given t) (entry.Given t') h = ap entry.Given (num t t' h)
+    let p = and_parts (t == t') _ h in
+    let q = and_parts (limit == limit') _ p.1 in
+    let r = and_parts (same_flag ended ended') _ q.1 in
+    λ i. entry.Read (equal_so t t' p.0 i) (equal_so limit limit' q.0 i) (flag ended ended' r.0 i) (list numbers numbers' r.1 i)
+same_so (entry.Given t) (entry.Given t') h = ap entry.Given (equal_so t t' h)
 same_so (entry.Marked t counter to) (entry.Marked t' counter' to') h =
-    let p = both (t == t') _ h in
-    let q = both (counter == counter') _ p.1 in
-    λ i. entry.Marked (num t t' p.0 i) (num counter counter' q.0 i) (aim to to' q.1 i)
+    let p = and_parts (t == t') _ h in
+    let q = and_parts (counter == counter') _ p.1 in
+    λ i. entry.Marked (equal_so t t' p.0 i) (equal_so counter counter' q.0 i) (aim to to' q.1 i)
 same_so (entry.LeaseCut key counter) (entry.LeaseCut key' counter') h =
-    let p = both _ (counter == counter') h in
-    λ i. entry.LeaseCut (same_ref key key' p.0 i) (num counter counter' p.1 i)
+    let p = and_parts _ (counter == counter') h in
+    λ i. entry.LeaseCut (same_ref key key' p.0 i) (equal_so counter counter' p.1 i)
 same_so _ _ h = absurd cc
 
 -- ---- what an entry tells gives the lines of entries

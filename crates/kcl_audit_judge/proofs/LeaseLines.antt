@@ -34,13 +34,15 @@ use Rattle.kds_defs.specs.Shards.{ShardState, adjacent_of, parent_of, shard_at, 
 use Rattle.kds_defs.specs.Streams.{is_live}
 use Rattle.kds_defs.specs.declared.reply.Shard.{Shard}
 use Rattle.std.specs.Option.{option_map}
+use Rattle.kds_base.proofs.Facts.{equal_unless}
+use Rattle.kds_defs.proofs.Keys.{key_itself}
 use Rattle.kcl_leases.specs.Standing.{Facing, Leads, LeasesValue, Stands, leases, live_shard}
 use Rattle.kcl_audit_streams.specs.declared.rule.Rule.TheVariants as rule
 use Rattle.kcl_audit_streams.specs.Judging.{agrees}
 use Rattle.kcl_audit_judge.specs.Judging.{answer_verdict, lease_verdict}
 use Rattle.kcl_audit_judge.specs.Standing.{After, Judges}
 use Rattle.kcl_audit_streams.specs.Verdict.{Verdict, judged, same_entry, same_origin}
-use Rattle.kcl_audit_streams.proofs.SameEntries.{key_self, same_refl}
+use Rattle.kcl_audit_streams.proofs.SameEntries.{same_refl}
 use Rattle.kcl_audit_streams.proofs.StreamTold.{then_refuse}
 
 -- it is refused, or gives just this line
@@ -69,12 +71,9 @@ unfolding refuse◌if◌else◌
 refuse_if r true d line h = tt
 refuse_if r false d line h = h refl
 
-equal_so : (a b : ℕ) → not (a == b) ≡ false → a ≡ b
-equal_so a b h = grind (arith, nat_tests)
-
 pub take_line : (log : Journal) (c by counter owner : ℕ) (key : ShardRef) → GivesLine (take_lease log c by key counter owner) (plain_line c by (entry.Taken key (taken_count log + 1) (counter + 1) owner))
 take_line log c by counter owner key = with_line (row log key) refusal.NoLease _ _ (λ r. refuse_if (refusal.Moved r.counter) (not (r.counter == counter)) _ _ (λ same.
-    refuse_line _ _ _ _ (refuse_line _ _ _ _ (ap (λ (n : ℕ). plain_line c by (entry.Taken key (taken_count log + 1) (n + 1) owner) ∷ []) (equal_so r.counter counter same)))))
+    refuse_line _ _ _ _ (refuse_line _ _ _ _ (ap (λ (n : ℕ). plain_line c by (entry.Taken key (taken_count log + 1) (n + 1) owner) ∷ []) (equal_unless r.counter counter same)))))
 
 pub held_line : (log : Journal) (by t : ℕ) (next : TenureState → Decision) (line : Line) → ((T : TenureState) → GivesLine (next T) line) → GivesLine (with_held log by t next) line
 held_line log by t next line h = with_line _ _ _ _ (λ T. refuse_line _ _ _ _ (refuse_line _ _ _ _ (h T)))
@@ -197,7 +196,7 @@ origin_so (origin.Time m) (origin.Time n) h = ap origin.Time (num m n h)
     num a b h = grind (arith, nat_tests)
 
 same_lease : (key : ShardRef) (a b : Origin) → same_entry (entry.LeaseMade key a) (entry.LeaseMade key b) ≡ same_origin a b
-same_lease key a b = rw (key_self key) refl
+same_lease key a b = rw (key_itself key) refl
 
 module _ (s : Facing) (rs : List Row) (ts : List TenureValue) (by : ℕ) (key : ShardRef) (from : Origin) (log : Journal) (st : Stands (leases s rs ts) log) where
   made_by : judged (told log (entry_line s.clock by (entry.LeaseMade key from)) (entry.LeaseMade key from)) (entry.LeaseMade key from)
@@ -249,7 +248,7 @@ module _ (s : Facing) (rs : List Row) (ts : List TenureValue) (by : ℕ) (key : 
   taken_other start h other =
       let allowed = take_allowed s rs ts by key (n - 1) owner start h log st in
       let apart : ((taken_count log + 1) == t) ≡ false = differ (taken_count log + 1) t (λ e. other (sym e ∙ ap (λ m. m + 1) st.count_is)) in
-      let no : same_entry (entry.Taken key (taken_count log + 1) n owner) (entry.Taken key t n owner) ≡ false = rw (key_self key, apart) refl in
+      let no : same_entry (entry.Taken key (taken_count log + 1) n owner) (entry.Taken key t n owner) ≡ false = rw (key_itself key, apart) refl in
       (judged_other (take_lease log s.clock by key (n - 1) owner) (plain_line s.clock by (entry.Taken key (taken_count log + 1) n owner)) (entry.Taken key t n owner) allowed.0 its_line allowed.1 no, (tt, st))
     where
       differ : (a b : ℕ) → a ≢ b → (a == b) ≡ false

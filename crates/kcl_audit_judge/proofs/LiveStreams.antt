@@ -3,6 +3,7 @@ use Rattle.std.proofs.Common.{◌≡◌, ℕ, ◌+◌, Bool, true, false, List, 
 use Rattle.std.specs.Prelude.{◌&&◌, ◌||◌, ◌==◌, cond, is_some, nat_le, nat_lt, if◌then◌else◌}
 use Rattle.std.specs.List.{filter, find}
 use Rattle.std.proofs.lemmas.Bool.Decides.{nat_tests}
+use Rattle.kds_base.proofs.Facts.{is_itself}
 use Rattle.kds_defs.specs.declared.entry.Entry.TheVariants as entry
 use Rattle.kds_defs.specs.declared.limits.TheConstants.{LIVE_STREAMS, OPEN_SHARDS}
 use Rattle.kds_defs.specs.declared.reply.Refusal.TheVariants as refusal
@@ -15,7 +16,7 @@ use Rattle.kds_defs.specs.Streams.{is_live, live_streams, made_count, name_of, n
 use Rattle.kcl_audit_streams.specs.Judging.{agrees, is_named, lacks_room, live_count, made_verdict, open_in, refused, refused_by}
 use Rattle.kcl_audit_streams.specs.Standing.{AreStreams, IsStream, ShowsAll, StreamValue}
 use Rattle.kcl_audit_streams.specs.Verdict.{Verdict, judged, same_entry}
-use Rattle.kcl_audit_streams.proofs.SameEntries.{list, number}
+use Rattle.kcl_audit_streams.proofs.SameEntries.{list}
 use Rattle.kcl_audit_streams.proofs.StreamTold.{then_refuse}
 
 -- the live ones of these numbers
@@ -102,7 +103,7 @@ module _ (log : Journal) (vs : List StreamValue) (sh : ShowsAll vs log) where
   swapped a b = grind (arith, nat_tests)
 
   same_made : (n s count : ℕ) (name : List ℕ) → same_entry (entry.Made n name count) (entry.Made s name count) ≡ (s == n)
-  same_made n s count name = rw (list name, number count) (and_end (n == s)) ∙ swapped n s
+  same_made n s count name = rw (list name, is_itself count) (and_end (n == s)) ∙ swapped n s
 
   pub made_told : (clock by s count : ℕ) (name : List ℕ) → judged (told log (entry_line clock by (entry.Made s name count)) (entry.Made s name count)) (entry.Made s name count) ≡ made_verdict vs s name count
   made_told clock by s count name =

@@ -1,5 +1,5 @@
 -- What the entry of a read tells, by what a judge keeps.
-use Rattle.std.proofs.Common.{◌≡◌, ℕ, ◌-◌, Bool, true, false, List, [], ◌∷◌, map, slice_set, Option, Some, None, refl, sym, ap, subst, ◌∙◌, arith}
+use Rattle.std.proofs.Common.{◌≡◌, ℕ, ◌-◌, Bool, true, false, List, [], ◌∷◌, map, slice_set, Option, Some, None, refl, sym, ap, subst, ◌∙◌}
 use Rattle.std.specs.Prelude.{◌==◌, ◌&&◌, slice_get, Ok, Err, IfSome}
 use Rattle.std.specs.Option.{option_map}
 use Rattle.kds_defs.specs.declared.command.Command.TheVariants as command
@@ -16,8 +16,9 @@ use Rattle.kds_defs.specs.Leases.{TenureState, tenure}
 use Rattle.kds_defs.specs.Legal.{reach_in, told}
 use Rattle.kds_defs.specs.Listings.{are_none, ends_at, is_closed_at}
 use Rattle.kds_defs.specs.declared.reply.Stored.{Stored}
-use Rattle.kds_defs.specs.Records.{Logged, batch, beginning, left_among, numbers_of, place_after, stored}
-use Rattle.std.proofs.lemmas.Bool.Decides.{nat_tests}
+use Rattle.kds_defs.specs.Records.{batch, beginning, left_among, numbers_of, place_after, stored}
+use Rattle.kds_base.proofs.Facts.{equal_so, is_itself}
+use Rattle.kds_defs.proofs.Counted.{numbers_stored}
 use Rattle.kcl_book.specs.declared.tenure.Tenure.{Tenure}
 use Rattle.kcl_book.specs.Tenures.{TenureValue, tenure_at, with_read}
 use Rattle.kcl_leases.proofs.TenureWrites.{read_at, read_gives}
@@ -32,24 +33,16 @@ use Rattle.kcl_audit_streams.specs.Verdict.{judged, same_entry, same_flag, same_
 use Rattle.kcl_audit_streams.proofs.BatchTold.{batch_is, ends_is}
 use Rattle.kcl_audit_streams.proofs.Keys.{live_is, stream_found}
 use Rattle.kcl_audit_judge.proofs.LeaseLines.{judged_refused}
-use Rattle.kcl_audit_streams.proofs.SameEntries.{number}
 use Rattle.kcl_audit_streams.proofs.FoundStreams.{live_found}
 
 reach_same : (o : Option TenureState) → reach_in o ≡ reach_of (option_map kept o)
 reach_same None = refl
 reach_same (Some T) = refl
 
-stored_numbers : (xs : List Logged) → map (λ (r : Stored). r.seq) (map stored xs) ≡ numbers_of xs
-stored_numbers [] = refl
-stored_numbers (x ∷ xs) = ap (λ ns. x.seq ∷ ns) (stored_numbers xs)
-
 flag_so : (a b : Bool) → same_flag a b ≡ true → a ≡ b
 flag_so true b h = sym h
 flag_so false true h = absurd cc
 flag_so false false h = refl
-
-equal_so : (a b : ℕ) → (a == b) ≡ true → a ≡ b
-equal_so a b h = grind (arith, nat_tests)
 
 list_so : (a b : List ℕ) → same_list a b ≡ true → a ≡ b
 list_so [] [] h = refl
@@ -72,7 +65,7 @@ module _ (w : StreamsValue) (rs : List Row) (ts : List TenureValue) (by t limit 
       (judged_refused (decide log w.clock by (command.Read t position limit)) (entry.Read t limit ended ns) r (leads log st).0 ∙ ap (λ d. judged d (entry.Read t limit ended ns)) (sym tells), (tt, st))
 
   same_read : (e : Bool) (ms : List ℕ) → same_entry (entry.Read t limit e ms) (entry.Read t limit ended ns) ≡ (same_flag e ended && same_list ms ns)
-  same_read e ms = rw (number t, number limit) refl
+  same_read e ms = rw (is_itself t, is_itself limit) refl
 
   -- where it may read, this batch is what it reads
   module _ (y : Tenure) (reads : Ok y ≡ reader_answer (own_answer (tenure_at ts t) by) log w.clock position) (v : StreamValue) (live : live_at w.streams y.key.stream ≡ Some v)
@@ -116,7 +109,7 @@ module _ (w : StreamsValue) (rs : List Row) (ts : List TenureValue) (by t limit 
         let both : (same_flag e ended && same_list ms ns) ≡ true = rw (ends, lists) refl in
         let s = facing w.clock (Shows w) in
         let xs = batch log w.clock y.key.stream y.key.shard position limit in
-        let far : n ≡ place_after position (map (λ (r : Stored). r.seq) (map stored xs)) = n_is ∙ ap (place_after position) (numbers_are ∙ sym (stored_numbers xs)) in
+        let far : n ≡ place_after position (map (λ (r : Stored). r.seq) (map stored xs)) = n_is ∙ ap (place_after position) (numbers_are ∙ sym (numbers_stored xs)) in
         let done = read_at s rs ts by t position limit y (map stored xs) e n new law log st reads refl end_is far new_is in
         let line_is : plain_line w.clock by (entry.Read t limit e ms) ≡ entry_line w.clock by (entry.Read t limit ended ns) =
         ap (λ b. plain_line w.clock by (entry.Read t limit b ms)) (flag_so e ended ends) ∙ ap (λ ls. plain_line w.clock by (entry.Read t limit ended ls)) (list_so ms ns lists) in

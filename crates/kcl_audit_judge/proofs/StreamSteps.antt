@@ -2,6 +2,7 @@
 use Rattle.std.proofs.Common.{◌≡◌, ℕ, ◌+◌, ◌*◌, max, ◌≤◌, Bool, true, false, List, [], ◌∷◌, ◌++◌, map, refl, sym, ap, ◌∙◌, arith}
 use Rattle.std.specs.Prelude.{◌==◌, ◌&&◌, not, if◌then◌else◌, cond}
 use Rattle.std.specs.List.{filter}
+use Rattle.kds_base.proofs.Facts.{is_itself}
 use Rattle.kds_defs.specs.declared.entry.Entry.TheVariants as entry
 use Rattle.kds_defs.specs.declared.limits.TheConstants.{FIRST_HOURS, HOUR}
 use Rattle.kcl_laws.specs.ShownLines.{entry_line}
@@ -16,10 +17,9 @@ use Rattle.kcl_audit_streams.specs.declared.records.Sized.{Sized}
 use Rattle.kcl_audit_streams.specs.Judging.{new_stream, with_gone, with_hours, with_limits, with_merge, with_put, with_split}
 use Rattle.kcl_audit_streams.specs.Standing.{IsStream, IsUnmade, StreamValue, bare, is_in, logged, puts_from, puts_in, records_in}
 use Rattle.kcl_audit_streams.proofs.Floors.{changed_later, first_later, same_later}
-use Rattle.kcl_audit_streams.proofs.SameEntries.{number}
 
 chosen : {A : Type 0} (s : ℕ) (x y : A) → (if s == s then x else y) ≡ x
-chosen s x y = ap (λ (b : Bool). if b then x else y) (number s)
+chosen s x y = ap (λ (b : Bool). if b then x else y) (is_itself s)
 
 none_drawn : (n m : ℕ) → n ≡ m → 0 + n ≡ m
 none_drawn n m h = omega (arith, h)
@@ -48,7 +48,7 @@ in_last sh (x ∷ rs) r b h = by (is_in sh x) b (in_last sh rs r b h)
 record_more : (s sh q : ℕ) (before : List Logged) (x : Logged) (rs : List Sized) (r : Sized) → r.shard ≡ sh → bare x ≡ logged r → map bare before ≡ records_in rs q
     → map bare (if (s == s) && (sh == q) then before ++ x ∷ [] else before) ≡ records_in (rs ++ r ∷ []) q
 record_more s sh q before x rs r its same h =
-    ap (λ (b : Bool). map bare (if b && (sh == q) then before ++ x ∷ [] else before)) (number s)
+    ap (λ (b : Bool). map bare (if b && (sh == q) then before ++ x ∷ [] else before)) (is_itself s)
     ∙ by (sh == q)
     ∙ sym (in_last q rs r (sh == q) (ap (λ n. n == q) its))
   where
@@ -68,7 +68,7 @@ from_last before (x ∷ rs) r sh = from_last (if is_in sh x then sized x ∷ bef
 put_more : (s sh q : ℕ) (before : List SizedPut) (rs : List Sized) (r : Sized) → r.shard ≡ sh → before ≡ puts_in rs q
     → (if (s == s) && (sh == q) then sized r ∷ before else before) ≡ puts_in (rs ++ r ∷ []) q
 put_more s sh q before rs r its h =
-    ap (λ (b : Bool). if b && (sh == q) then sized r ∷ before else before) (number s)
+    ap (λ (b : Bool). if b && (sh == q) then sized r ∷ before else before) (is_itself s)
     ∙ (λ i. if sym its i == q then sized r ∷ h i else h i)
     ∙ sym (from_last [] rs r q)
 
@@ -79,7 +79,7 @@ module _ (log : Journal) (d by s : ℕ) (v : StreamValue) (order : last_clock lo
   gone_step = record {
     was = st.was;
     named = st.named;
-    lives = ap (λ b. not b && is_live log s) (number s);
+    lives = ap (λ b. not b && is_live log s) (is_itself s);
     lasts = st.lasts;
     trims = λ c later. same_later log (entry_line d by (entry.Gone s)) s c later refl ∙ st.trims c (omega (arith, order, later));
     draws = none_drawn (next_number log s) v.next st.draws;
@@ -106,14 +106,14 @@ module _ (log : Journal) (d by s : ℕ) (v : StreamValue) (order : last_clock lo
         puts_are = λ q. put_more s sh q (puts log s q) v.records item refl (st.puts_are q);
       }
 
-  -- the next number right after a line that draws this one
+  -- the next is_itself right after a line that draws this one
   start_after : (n : ℕ) → n ≡ v.next → (if s == s then 1 else 0) + next_number log s ≡ n + 1
   start_after n is = one_drawn s (next_number log s) n (st.draws ∙ sym is)
 
   pub split_step : (sh at n low high : ℕ) → n ≡ v.next → IsStream (entry_line d by (entry.Split s sh at n low high) ∷ log) s (with_split d sh at n v)
   split_step sh at n low high is =
       let line : Line = entry_line d by (entry.Split s sh at n low high) in
-      let closing : Closing = record { number = n; clock = d } in
+      let closing : Closing = record { is_itself = n; clock = d } in
       let start = next_number (line ∷ log) s in
       record {
         was = st.was;
@@ -134,7 +134,7 @@ module _ (log : Journal) (d by s : ℕ) (v : StreamValue) (order : last_clock lo
   pub merge_step : (sh other n child : ℕ) → n ≡ v.next → IsStream (entry_line d by (entry.Merged s sh other n child) ∷ log) s (with_merge d sh other n v)
   merge_step sh other n child is =
       let line : Line = entry_line d by (entry.Merged s sh other n child) in
-      let closing : Closing = record { number = n; clock = d } in
+      let closing : Closing = record { is_itself = n; clock = d } in
       let start = next_number (line ∷ log) s in
       record {
         was = st.was;
@@ -188,13 +188,13 @@ module _ (log : Journal) (d by s : ℕ) (v : StreamValue) (order : last_clock lo
 pub made_step : (log : Journal) (d by s count : ℕ) (name : List ℕ) → IsUnmade log s → IsStream (entry_line d by (entry.Made s name count) ∷ log) s (new_stream name count)
 made_step log d by s count name fresh =
     let line : Line = entry_line d by (entry.Made s name count) in
-    let was : was_made (line ∷ log) s ≡ true = rw (number s) refl in
+    let was : was_made (line ∷ log) s ≡ true = rw (is_itself s) refl in
     let lasts : hours (line ∷ log) s ≡ FIRST_HOURS = chosen s FIRST_HOURS (hours log s) in
     let start : next_number (line ∷ log) s ≡ 1 = none_drawn (next_number log s) 1 fresh.undrawn in
     record {
       was = was;
       named = chosen s name (name_of log s);
-      lives = rw (number s) refl;
+      lives = rw (is_itself s) refl;
       lasts = lasts;
       trims = λ c later. first_later log line s c FIRST_HOURS later was fresh.unmade fresh.no_floor lasts;
       draws = start;

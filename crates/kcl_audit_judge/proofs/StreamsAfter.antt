@@ -3,6 +3,7 @@ use Rattle.std.proofs.Common.{◌≡◌, ◌≢◌, ℕ, zero, suc, ◌+◌, ◌
 use Rattle.std.specs.Prelude.{Ok}
 use Rattle.std.proofs.lemmas.List.{length-append}
 use Rattle.std.proofs.lemmas.Option.{slice_get_within}
+use Rattle.kds_base.proofs.Facts.{equal_so}
 use Rattle.kds_defs.specs.declared.entry.Entry.{Entry}
 use Rattle.kds_defs.specs.declared.entry.Entry.TheVariants as entry
 use Rattle.kcl_laws.specs.ShownLines.{entry_line}
@@ -13,7 +14,7 @@ use Rattle.kcl_leases.specs.Standing.{stream_of}
 use Rattle.kcl_audit_streams.specs.Judging.{changed_at, lacks_room, made_refusal, merge_verdict, new_stream, put_verdict, split_verdict, stream_verdict, streams_after, with_gone, with_hours, with_limits, with_merge, with_put, with_split}
 use Rattle.kcl_audit_streams.specs.Standing.{AreStreams, IsStream, Shows, ShowsAll, StreamValue, StreamsValue}
 use Rattle.kcl_audit_streams.specs.Verdict.{Verdict}
-use Rattle.kcl_audit_streams.proofs.Changed.{IsOf, agrees_so, equal_so, is_of, merge_draws, past_by, split_draws}
+use Rattle.kcl_audit_streams.proofs.Changed.{IsOf, agrees_so, is_of, merge_draws, past_by, split_draws}
 use Rattle.kcl_audit_streams.proofs.Keys.{stream_get}
 use Rattle.kcl_audit_streams.proofs.Others.{stream_other, unmade_other}
 use Rattle.kcl_audit_judge.proofs.StreamSteps.{gone_step, kept_step, limits_step, made_step, merge_step, put_step, split_step}

@@ -1,10 +1,12 @@
 -- How many streams, shards and tenures a legal journal has made, at most.
 use Rattle.std.proofs.Common.{◌≡◌, ℕ, zero, suc, ◌+◌, ◌^◌, ◌<◌, ◌≤◌, Bool, true, false, List, [], ◌∷◌, length, refl, sym, ap, subst, ◌∙◌, arith}
-use Rattle.std.specs.Prelude.{◌==◌, ◌||◌, cond, slice_get, nat_lt, if◌then◌else◌, Option, Some, None}
+use Rattle.std.specs.Prelude.{◌==◌, cond, slice_get, nat_lt, if◌then◌else◌, Option, Some, None}
 use Rattle.std.specs.List.{filter, find}
 use Rattle.std.proofs.lemmas.Bool.Decides.{nat_tests}
 use Rattle.std.proofs.lemmas.List.{length-append, length-map}
+use Rattle.std.proofs.lemmas.Bool.{or_parts}
 use Rattle.kds_base.specs.Span.{Span, covers, uniform}
+use Rattle.kds_base.proofs.Facts.{equal_so}
 use Rattle.kds_defs.specs.declared.entry.Entry.{Entry}
 use Rattle.kds_defs.specs.declared.entry.Entry.TheVariants as entry
 use Rattle.kds_defs.specs.declared.reply.Reply.{Reply}
@@ -13,17 +15,14 @@ use Rattle.kds_defs.specs.Journal.{Line, Journal}
 use Rattle.kds_defs.specs.Legal.{IsInRange, IsLegal, told}
 use Rattle.kds_defs.specs.Leases.{taken_count, taken_count_after}
 use Rattle.kds_defs.specs.Records.{next_number}
-use Rattle.kds_defs.specs.Shards.{Closing, ShardState, first_shards, home, home_among, is_listed, is_listed_state, is_open, made_shards, merged_shards, shard_at, shards, shards_after, split_shards, with_closed}
+use Rattle.kds_defs.specs.Shards.{Closing, ShardState, home, home_among, is_listed, is_listed_state, is_open, made_shards, merged_shards, shard_at, shards, shards_after, split_shards, with_closed}
 use Rattle.kds_defs.specs.StreamCommands.{last_number}
 use Rattle.kds_defs.specs.Streams.{is_live, made_count, made_count_after, numbers_from, stream_named}
 use Rattle.kds_defs.specs.Tiled.{AreNumbered}
 use Rattle.kds_defs.proofs.Decisions.{found, passes}
 use Rattle.kds_defs.proofs.Numbers.{length-closed}
+use Rattle.kds_defs.proofs.Counted.{length_first}
 use Rattle.kds_scale.proofs.Partitions.{length_wanted}
-
-pub neither : (a b : Bool) → (a || b) ≡ false → (a ≡ false) × (b ≡ false)
-neither true b h = absurd cc
-neither false b h = (refl, h)
 
 pub one_more : (n : ℕ) → (n == last_number) ≡ false → n ≤ last_number → n + 1 ≤ last_number
 one_more n h le = grind (arith, nat_tests)
@@ -50,7 +49,7 @@ taken_by log line (entry.Taken key t counter owner) reply h le =
     let a = passes _ _ _ _ reply f.2 in
     let b = passes _ _ _ _ reply a.1 in
     let d = passes _ _ _ _ reply b.1 in
-    one_more (taken_count log) (neither _ _ d.0).1 le
+    one_more (taken_count log) (or_parts _ _ d.0).1 le
 taken_by log line _ reply h le = le
 
 pub taken_fits : (log : Journal) → IsLegal log → taken_count log ≤ last_number
@@ -78,10 +77,6 @@ named_fits log name s legal h = found_below _ (is_live log) (made_count log) 1 s
 
 -- ---- shards
 
-length_first : (n start : ℕ) (ranges : List Span) → length (first_shards n start ranges) ≡ length ranges
-length_first n start [] = refl
-length_first n start (r ∷ rs) = ap suc (length_first (n + 1) start rs)
-
 length_made : (count start : ℕ) → length (made_shards count start) ≡ count
 length_made count start = length_first 0 start (uniform count) ∙ sym (length-map (uniform count) (λ (r : Span). r.start)) ∙ length_wanted count
 
@@ -95,9 +90,6 @@ length_merged xs sh other closing start =
 either_fits : (b : Bool) (xs ys : List ShardState) → (b ≡ true → length xs ≤ 2 ^ 64) → length ys ≤ 2 ^ 64 → length (if b then xs else ys) ≤ 2 ^ 64
 either_fits true xs ys h g = h refl
 either_fits false xs ys h g = g
-
-same_stream : (a b : ℕ) → (a == b) ≡ true → a ≡ b
-same_stream a b h = grind (arith, nat_tests)
 
 pub not_past : (n m : ℕ) → nat_lt m n ≡ false → n ≤ m
 not_past n m h = grind (arith, nat_tests)
@@ -113,18 +105,18 @@ shards_by log line (entry.Split stream sh at number low high) reply s start rang
     let e = passes _ _ _ _ reply d.1 in
     let f = passes _ _ _ _ reply e.1 in
     let g = passes _ _ _ _ reply f.1 in
-    let room = not_past (length (shards log stream) + 1) last_number (neither _ _ g.0).0 in
+    let room = not_past (length (shards log stream) + 1) last_number (or_parts _ _ g.0).0 in
     either_fits (stream == s) _ _
-    (λ is. omega (arith, room, ap (λ k. length (shards log k)) (same_stream stream s is), length_split (shards log s) sh at (record { number = number; clock = line.clock }) start)) le
+    (λ is. omega (arith, room, ap (λ k. length (shards log k)) (equal_so stream s is), length_split (shards log s) sh at (record { number = number; clock = line.clock }) start)) le
 shards_by log line (entry.Merged stream sh other number child) reply s start range h le =
     let a = passes _ _ _ _ reply h in
     let b = passes _ _ _ _ reply a.1 in
     let d = passes _ _ _ _ reply b.1 in
     let e = passes _ _ _ _ reply d.1 in
     let f = passes _ _ _ _ reply e.1 in
-    let room = not_past (length (shards log stream)) last_number (neither _ _ f.0).0 in
+    let room = not_past (length (shards log stream)) last_number (or_parts _ _ f.0).0 in
     either_fits (stream == s) _ _
-    (λ is. omega (arith, room, ap (λ k. length (shards log k)) (same_stream stream s is), length_merged (shards log s) sh other (record { number = number; clock = line.clock }) start)) le
+    (λ is. omega (arith, room, ap (λ k. length (shards log k)) (equal_so stream s is), length_merged (shards log s) sh other (record { number = number; clock = line.clock }) start)) le
 shards_by log line _ reply s start range h le = le
 
 pub shards_fit : (log : Journal) → IsLegal log → (s : ℕ) → length (shards log s) ≤ 2 ^ 64

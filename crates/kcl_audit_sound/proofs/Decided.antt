@@ -3,6 +3,7 @@ use Rattle.std.proofs.Common.{◌≡◌, ℕ, zero, suc, ◌+◌, ◌-◌, ◌^�
 use Rattle.std.specs.Prelude.{◌==◌, ◌&&◌, not, nat_le, if◌then◌else◌}
 use Rattle.std.specs.List.{AllByRecursion, filter}
 use Rattle.std.proofs.lemmas.Bool.Decides.{nat_tests}
+use Rattle.std.proofs.lemmas.Bool.{or_parts}
 use Rattle.kds_defs.specs.declared.command.Command.{Command}
 use Rattle.kds_defs.specs.declared.command.Command.TheVariants as command
 use Rattle.kds_defs.specs.declared.command.Origin.{Origin}
@@ -29,7 +30,7 @@ use Rattle.kcl_script_fields.specs.Origins.{IsOrigin}
 use Rattle.kcl_journal.specs.declared.line.TheConstants.{VERSION}
 use Rattle.kcl_journal.specs.Ranges.{Is64, IsEntryLine}
 use Rattle.kcl_sim_scribe.specs.Added.{told_by}
-use Rattle.kcl_audit_sound.proofs.Counts.{listed_fits, made_fits, named_fits, neither, not_past, shards_fit, taken_fits}
+use Rattle.kcl_audit_sound.proofs.Counts.{listed_fits, made_fits, named_fits, not_past, shards_fit, taken_fits}
 use Rattle.kcl_audit_sound.proofs.Streams.{AreTold, IsBy, line_told, plan_at, put_told, puts_told, steps_told}
 
 -- no line, and one line
@@ -166,7 +167,7 @@ module _
       let f = found _ _ _ _ reply h in
       let a = passes _ _ _ _ reply f.2 in
       let b = passes _ _ _ _ reply a.1 in
-      let fits = neither _ _ b.0 in
+      let fits = or_parts _ _ b.0 in
       subst AreTold (same_lines _ lines _ reply b.1)
       (steps_told numbered _ log c by f.0 is (named_fits log name f.0 legal f.1) (plan_at _ target lawful.1.0 lawful.1.1) (not_past _ _ fits.0) (not_past _ _ fits.1))
   told_lines log c by (command.Enforce name on) lines reply legal is lawful bits h =
@@ -180,7 +181,7 @@ module _
       let e = passes _ _ _ _ reply d.1 in
       let g = passes _ _ _ _ reply e.1 in
       let s = f.0 in
-      let room = not_past (length (shards log s) + 1) last_number (neither _ _ g.0).0 in
+      let room = not_past (length (shards log s) + 1) last_number (or_parts _ _ g.0).0 in
       told_one _ lines reply _ g.1
       (line_told c by _ is (
         named_fits log name s legal f.1,
@@ -193,7 +194,7 @@ module _
       let d = passes _ _ _ _ reply b.1 in
       let e = passes _ _ _ _ reply d.1 in
       let s = f.0 in
-      let room = not_past (length (shards log s)) last_number (neither _ _ e.0).0 in
+      let room = not_past (length (shards log s)) last_number (or_parts _ _ e.0).0 in
       let listed = both_hold _ _ a.0 in
       told_one _ lines reply _ e.1
       (line_told c by _ is (
@@ -214,7 +215,7 @@ module _
       let a = passes _ _ _ _ reply f.2 in
       let b = passes _ _ _ _ reply a.1 in
       let d = passes _ _ _ _ reply b.1 in
-      let free = neither _ _ d.0 in
+      let free = or_parts _ _ d.0 in
       told_one _ lines reply _ d.1
       (line_told c by _ is (bits.0, (after_free _ free.1 (taken_fits log legal), (row_counter _ counter a.0 free.0 bits.1.0, (lawful, bits.1.1)))))
   told_lines log c by (command.Renew t counter) lines reply legal is lawful bits h =

@@ -1,11 +1,11 @@
 -- The lines of puts and of scalings can be told.
 use Rattle.std.proofs.Common.{◌≡◌, ℕ, ◌+◌, ◌-◌, ◌*◌, ◌^◌, ◌<◌, ◌≤◌, Bool, true, false, List, [], ◌∷◌, ◌++◌, length, map, refl, ap, ◌∙◌, arith}
-use Rattle.std.specs.Prelude.{◌==◌, cond, chars, if◌then◌else◌}
+use Rattle.std.specs.Prelude.{cond, chars, if◌then◌else◌}
 use Rattle.std.specs.List.{AllByRecursion, filter}
 use lib.Utf8.{encode, encodes}
-use Rattle.std.proofs.lemmas.Bool.Decides.{nat_tests}
 use Rattle.std.proofs.lemmas.List.{length-append}
 use Rattle.std.proofs.lemmas.Str.{encodes-chars, len_utf8_bounds, length-encode, length-le-encodes}
+use Rattle.kds_base.proofs.Facts.{is_itself}
 use Rattle.kds_defs.specs.declared.command.NewItem.{NewItem}
 use Rattle.kds_defs.specs.declared.entry.Entry.{Entry}
 use Rattle.kds_defs.specs.declared.scale.ScaleStep.{ScaleStep}
@@ -96,9 +96,6 @@ abbrev IsAtKey : ScaleStep → Type 0
 IsAtKey (Join b) = Unit {0}
 IsAtKey (Cut b) = b < 2 ^ 128
 
-itself : (s : ℕ) → (s == s) ≡ true
-itself s = grind (arith, nat_tests)
-
 abbrev step_line : Journal → ℕ → ℕ → ℕ → ScaleStep → Line
 step_line log c by s step = plain_line c by (step_entry log s step)
 
@@ -109,7 +106,7 @@ many_join log c by s b =
     (λ r. length (if r
     then merged_shards (home log s (b - 1)) (home log s b) (record { number = next_number log s; clock = c }) (next_number (step_line log c by s (Join b) ∷ log) s) (shards log s)
     else shards log s))
-    (itself s)
+    (is_itself s)
     ∙ length_merged (shards log s) (home log s (b - 1)) (home log s b) (record { number = next_number log s; clock = c }) (next_number (step_line log c by s (Join b) ∷ log) s)
 
 many_cut : (log : Journal) (c by s b : ℕ) → length (shards (step_line log c by s (Cut b) ∷ log) s) ≡ length (shards log s) + 2
@@ -118,7 +115,7 @@ many_cut log c by s b =
     (λ r. length (if r
     then split_shards (home log s b) b (record { number = next_number log s; clock = c }) (next_number (step_line log c by s (Cut b) ∷ log) s) (shards log s)
     else shards log s))
-    (itself s)
+    (is_itself s)
     ∙ length_split (shards log s) (home log s b) b (record { number = next_number log s; clock = c }) (next_number (step_line log c by s (Cut b) ∷ log) s)
 
 module _ (numbered : (log : Journal) (s : ℕ) → AreNumbered 0 (shards log s)) where

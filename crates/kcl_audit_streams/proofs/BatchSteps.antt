@@ -2,9 +2,10 @@
 use Rattle.std.proofs.Common.{◌≡◌, ℕ, zero, suc, ◌+◌, ◌-◌, ◌<◌, ◌≤◌, Bool, true, false, List, [], ◌∷◌, ◌++◌, length, get_or, drop, map, refl, sym, ap, ◌∙◌, arith}
 use Rattle.std.specs.Prelude.{◌==◌, ◌&&◌, cond, if◌then◌else◌, nat_le}
 use Rattle.std.specs.List.{AllByRecursion, filter}
-use Rattle.std.proofs.lemmas.Bool.Decides.{nat_tests}
 use Rattle.std.proofs.lemmas.List.{at_drop_more, drop_all, append-nil, append_assoc}
+use Rattle.kds_base.proofs.Facts.{is_le, is_above}
 use Rattle.kds_defs.specs.Records.{Logged, beginning, is_left, left_among, numbers_of}
+use Rattle.kds_defs.proofs.Batches.{beginning_one, beginning_none}
 use Rattle.kcl_audit_streams.specs.declared.records.Sized.{Sized}
 use Rattle.kcl_audit_streams.specs.Standing.{is_in, logged, records_in}
 
@@ -39,34 +40,18 @@ ahead_more sh floor position xs i x b lt is t =
 abbrev pub Grows : List ℕ → ℕ → ℕ → List Logged → List ℕ → Type 0
 Grows numbers left room rest whole = numbers ++ numbers_of (beginning left room rest) ≡ whole
 
-beginning_one : (left room : ℕ) (r : Logged) (rest : List Logged) → (left ≡ 0 → ⊥) → nat_le r.bytes room ≡ true → beginning left room (r ∷ rest) ≡ r ∷ beginning (left - 1) (room - r.bytes) rest
-beginning_one zero room r rest some fits = absurd (some refl)
-beginning_one (suc left) room r rest some fits =
-    let e : suc left - 1 ≡ left = omega arith in
-    rw (fits, e) refl
-
-fits : (bytes room : ℕ) → bytes ≤ room → nat_le bytes room ≡ true
-fits bytes room h = grind (arith, nat_tests)
-
-fits_not : (bytes room : ℕ) → room < bytes → nat_le bytes room ≡ false
-fits_not bytes room h = grind (arith, nat_tests)
-
-beginning-nil : (left room : ℕ) → beginning left room [] ≡ []
-beginning-nil zero room = refl
-beginning-nil (suc left) room = refl
-
 beginning_full : (left room : ℕ) (r : Logged) (rest : List Logged) → room < r.bytes → beginning left room (r ∷ rest) ≡ []
 beginning_full zero room r rest h = refl
-beginning_full (suc left) room r rest h = rw (fits_not r.bytes room h) refl
+beginning_full (suc left) room r rest h = rw (is_above r.bytes room h) refl
 
 module _ (sh floor position : ℕ) (xs : List Sized) (i : ℕ) (x : Sized) (within : i < length xs) (is : x ≡ get_or xs i x) where
-  -- a record that is left, and fits, is taken
+  -- a record that is left, and is_le, is taken
   pub grows_by : (numbers : List ℕ) (left room : ℕ) (whole : List ℕ) → counts sh floor position x ≡ true → (left ≡ 0 → ⊥) → x.bytes ≤ room
       → Grows numbers left room (ahead sh floor position xs i) whole → Grows (numbers ++ x.seq ∷ []) (left - 1) (room - x.bytes) (ahead sh floor position xs (i + 1)) whole
   grows_by numbers left room whole t some small h =
       let rest = ahead sh floor position xs (i + 1) in
       let one : beginning left room (ahead sh floor position xs i) ≡ logged x ∷ beginning (left - 1) (room - x.bytes) rest =
-      ap (beginning left room) (ahead_more sh floor position xs i x true within is t) ∙ beginning_one left room (logged x) rest some (fits x.bytes room small) in
+      ap (beginning left room) (ahead_more sh floor position xs i x true within is t) ∙ beginning_one left room (logged x) rest some (is_le x.bytes room small) in
       append_assoc numbers (x.seq ∷ []) (numbers_of (beginning (left - 1) (room - x.bytes) rest)) ∙ ap (λ taken. numbers ++ numbers_of taken) (sym one) ∙ h
 
   -- one that doesn't count is passed over
@@ -91,7 +76,7 @@ pub grows_all : (sh floor position : ℕ) (xs : List Sized) (i : ℕ) (numbers :
     → Grows numbers left room (ahead sh floor position xs i) whole → numbers ≡ whole
 grows_all sh floor position xs i numbers left room whole le h =
     sym (append-nil numbers)
-    ∙ ap (λ taken. numbers ++ numbers_of taken) (sym (ap (λ ys. beginning left room (left_in sh floor position ys)) (drop_all i xs le) ∙ beginning-nil left room)) ∙ h
+    ∙ ap (λ taken. numbers ++ numbers_of taken) (sym (ap (λ ys. beginning left room (left_in sh floor position ys)) (drop_all i xs le) ∙ beginning_none left room)) ∙ h
 
 -- ---- the numbers of a batch are those of records
 

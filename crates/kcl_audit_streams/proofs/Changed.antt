@@ -1,9 +1,9 @@
 -- The stream of a good entry, and the streams with it changed.
 use Rattle.std.proofs.Common.{◌≡◌, ◌≢◌, ℕ, zero, suc, ◌-◌, ◌<◌, ◌≤◌, Bool, true, false, List, [], ◌∷◌, length, slice_get, slice_set, slice_index_or, Option, Some, None, refl, sym, ap, subst, ◌∙◌, arith}
-use Rattle.std.specs.Prelude.{◌==◌, ◌&&◌, ◌||◌, not, if◌then◌else◌, Result, Ok, Err, OnOk}
-use Rattle.std.proofs.lemmas.Bool.Decides.{nat_tests}
+use Rattle.std.specs.Prelude.{◌==◌, ◌&&◌, not, if◌then◌else◌, Result, Ok, Err, OnOk}
 use Rattle.std.proofs.lemmas.List.{set-get_or}
 use Rattle.std.proofs.lemmas.Option.{get_or_from_slice_get, slice_get_within}
+use Rattle.kds_base.proofs.Facts.{equal_so, differ_so, both_left, both_right, neither_right}
 use Rattle.kds_defs.specs.declared.reply.Refusal.{Refusal}
 use Rattle.kds_defs.specs.declared.reply.Refusal.TheVariants as refusal
 use Rattle.kds_defs.specs.Rates.{is_throttled}
@@ -79,12 +79,6 @@ pub agrees_so : (b : Bool) → agrees b ≡ Ok tt → b ≡ true
 agrees_so true h = refl
 agrees_so false h = absurd cc
 
-pub equal_so : (a b : ℕ) → (a == b) ≡ true → a ≡ b
-equal_so a b h = grind (arith, nat_tests)
-
-pub differ_so : (a b : ℕ) → (a == b) ≡ false → a ≢ b
-differ_so a b h = grind (arith, nat_tests)
-
 past : (r : Refusal) (b : Bool) (next : Verdict) → (if b then refused r else next) ≡ Ok tt → (b ≡ false) × (next ≡ Ok tt)
 past r true next h = absurd cc
 past r false next h = (refl, h)
@@ -92,18 +86,6 @@ past r false next h = (refl, h)
 pub past_by : (o : Option Refusal) (next : Verdict) → refused_by o next ≡ Ok tt → (o ≡ None) × (next ≡ Ok tt)
 past_by (Some r) next h = absurd cc
 past_by None next h = (refl, h)
-
-both_left : (a b : Bool) → (a && b) ≡ true → a ≡ true
-both_left true b h = refl
-both_left false b h = absurd cc
-
-both_right : (a b : Bool) → (a && b) ≡ true → b ≡ true
-both_right true b h = h
-both_right false b h = absurd cc
-
-neither_right : (a b : Bool) → (a || b) ≡ false → b ≡ false
-neither_right true b h = absurd cc
-neither_right false b h = h
 
 -- it has the next number, which isn't the last
 abbrev pub Draws : StreamValue → ℕ → Type 0

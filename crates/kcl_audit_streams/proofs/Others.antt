@@ -1,7 +1,9 @@
 -- The lines of other streams and of leases leave every reading of a stream as it was.
 use Rattle.std.proofs.Common.{◌≡◌, ℕ, ◌+◌, ◌≤◌, ◌≢◌, map, None, Bool, true, false, List, [], ◌∷◌, Some, refl, sym, ap, subst, ◌∙◌, arith}
-use Rattle.std.specs.Prelude.{◌==◌, ◌&&◌, ◌||◌, not, if◌then◌else◌}
+use Rattle.std.specs.Prelude.{◌==◌, ◌&&◌, ◌||◌, not}
 use Rattle.std.proofs.lemmas.Bool.Decides.{nat_tests}
+use Rattle.std.proofs.lemmas.Bool.{and_left}
+use Rattle.kds_base.proofs.Facts.{not_chosen}
 use Rattle.kds_defs.specs.declared.entry.Entry.{Entry}
 use Rattle.kds_defs.specs.declared.entry.Entry.TheVariants as entry
 use Rattle.kds_defs.specs.Journal.{Line, Journal}
@@ -26,17 +28,9 @@ differ a s h = by (a == s) refl
     by true e = absurd (h (ap Some (same a s e)))
     by false e = refl
 
-not_chosen : {A : Type 0} (b : Bool) (x y : A) → b ≡ false → (if b then x else y) ≡ y
-not_chosen true x y h = absurd cc
-not_chosen false x y h = refl
-
 not_either : (b c : Bool) → b ≡ false → (b || c) ≡ c
 not_either true c h = absurd cc
 not_either false c h = refl
-
-not_both : (b c : Bool) → b ≡ false → (b && c) ≡ false
-not_both true c h = absurd cc
-not_both false c h = refl
 
 -- ---- each reading after one more line
 
@@ -71,7 +65,7 @@ shards_same line (entry.Merged a sh other number child) s start before h = not_c
 shards_same line _ s start before h = refl
 
 records_same : (line : Line) (what : Entry) (s sh : ℕ) (before : List Logged) → stream_of what ≢ Some s → records_after line what s sh before ≡ before
-records_same line (entry.Put a shard number hash bytes key_bytes) s sh before h = not_chosen ((a == s) && (shard == sh)) _ before (not_both (a == s) (shard == sh) (differ a s h))
+records_same line (entry.Put a shard number hash bytes key_bytes) s sh before h = not_chosen ((a == s) && (shard == sh)) _ before (and_left (a == s) (shard == sh) (differ a s h))
 records_same line _ s sh before h = refl
 
 limits_same : (what : Entry) (s : ℕ) (before : Bool) → stream_of what ≢ Some s → enforced_after what s before ≡ before
@@ -79,7 +73,7 @@ limits_same (entry.Enforced a on) s before h = not_chosen (a == s) on before (di
 limits_same _ s before h = refl
 
 puts_same : (line : Line) (what : Entry) (s sh : ℕ) (before : List SizedPut) → stream_of what ≢ Some s → puts_after line what s sh before ≡ before
-puts_same line (entry.Put a shard number hash bytes key_bytes) s sh before h = not_chosen ((a == s) && (shard == sh)) _ before (not_both (a == s) (shard == sh) (differ a s h))
+puts_same line (entry.Put a shard number hash bytes key_bytes) s sh before h = not_chosen ((a == s) && (shard == sh)) _ before (and_left (a == s) (shard == sh) (differ a s h))
 puts_same line _ s sh before h = refl
 
 next_same : (log : Journal) (line : Line) (s : ℕ) → stream_of line.what ≢ Some s → next_number (line ∷ log) s ≡ next_number log s

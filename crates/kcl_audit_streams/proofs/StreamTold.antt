@@ -4,6 +4,7 @@ use Rattle.std.specs.Prelude.{◌==◌, ◌&&◌, ◌||◌, not, is_some, nat_lt
 use Rattle.std.specs.List.{filter}
 use Rattle.std.proofs.lemmas.Bool.Decides.{nat_tests}
 use Rattle.kds_base.specs.Span.{are_adjacent, is_inside}
+use Rattle.kds_base.proofs.Facts.{is_itself, plus_none}
 use Rattle.kds_defs.specs.declared.entry.Entry.{Entry}
 use Rattle.kds_defs.specs.declared.entry.Entry.TheVariants as entry
 use Rattle.kds_defs.specs.declared.reply.Refusal.{Refusal}
@@ -23,7 +24,7 @@ use Rattle.kds_tree.specs.Tree.{merge_refusal, split_refusal}
 use Rattle.kcl_audit_streams.specs.Judging.{agrees, home_in, put_verdict, refused, refused_by, split_verdict, merge_verdict}
 use Rattle.kcl_audit_streams.specs.Standing.{IsStream, StreamValue, floor_in, is_listed_in, is_listed_of}
 use Rattle.kcl_audit_streams.specs.Verdict.{Verdict, judged, same_entry}
-use Rattle.kcl_audit_streams.proofs.SameEntries.{flag, number}
+use Rattle.kcl_audit_streams.proofs.SameEntries.{flag}
 
 -- ---- judgements of refusals
 
@@ -56,7 +57,7 @@ both_and true false = refl
 both_and false b = refl
 
 same_put : (s h sh n m hash bytes key_bytes : ℕ) → same_entry (entry.Put s h n hash bytes key_bytes) (entry.Put s sh m hash bytes key_bytes) ≡ ((h == sh) && (n == m))
-same_put s h sh n m hash bytes key_bytes = rw (number s, number hash, number bytes, number key_bytes) (both_and (h == sh) (n == m))
+same_put s h sh n m hash bytes key_bytes = rw (is_itself s, is_itself hash, is_itself bytes, is_itself key_bytes) (both_and (h == sh) (n == m))
 
 -- what a put is judged, by what is known of its home
 abbrev put_by : ℕ → ℕ → Bool → List SizedPut → ℕ → ℕ → Bool → Verdict
@@ -84,11 +85,11 @@ put_told log clock by s sh m hash bytes key_bytes v st live =
 
 pub gone_told : (log : Journal) (clock by s : ℕ) (v : StreamValue) → IsStream log s v → v.live ≡ true
     → judged (told log (entry_line clock by (entry.Gone s)) (entry.Gone s)) (entry.Gone s) ≡ Ok tt
-gone_told log clock by s v st live = judged_live log s (delete log clock by s) (entry.Gone s) (st.lives ∙ live) ∙ ap agrees (number s)
+gone_told log clock by s v st live = judged_live log s (delete log clock by s) (entry.Gone s) (st.lives ∙ live) ∙ ap agrees (is_itself s)
 
 pub limits_told : (log : Journal) (clock by s : ℕ) (on : Bool) (v : StreamValue) → IsStream log s v → v.live ≡ true
     → judged (told log (entry_line clock by (entry.Enforced s on)) (entry.Enforced s on)) (entry.Enforced s on) ≡ Ok tt
-limits_told log clock by s on v st live = judged_live log s (enforce log clock by s on) (entry.Enforced s on) (st.lives ∙ live) ∙ rw (number s, flag on) refl
+limits_told log clock by s on v st live = judged_live log s (enforce log clock by s on) (entry.Enforced s on) (st.lives ∙ live) ∙ rw (is_itself s, flag on) refl
 
 never_below : (a b : ℕ) → (if not (nat_lt a b) then nat_lt a b else nat_lt b a) ≡ false
 never_below a b = grind (arith, nat_tests)
@@ -99,7 +100,7 @@ kept_told log clock by s wanted v st live =
     judged_live log s (keep log clock by s wanted (not (nat_lt wanted (hours log s)))) (entry.Kept s wanted) (st.lives ∙ live)
     ∙ judged_refuse refusal.BadRetention (if not (nat_lt wanted (hours log s)) then nat_lt wanted (hours log s) else nat_lt (hours log s) wanted) _ (entry.Kept s wanted)
     ∙ ap (λ (b : Bool). if b then refused refusal.BadRetention else agrees (same_entry (entry.Kept s wanted) (entry.Kept s wanted))) (never_below wanted (hours log s))
-    ∙ rw (number s, number wanted) refl
+    ∙ rw (is_itself s, is_itself wanted) refl
 
 -- ---- listed shards
 
@@ -153,7 +154,7 @@ split_cases (Some x) true full sh at len next xs same is made = rw is (by (is_op
     by true true = refl
 
 same_split : (s sh at n m a low high : ℕ) → same_entry (entry.Split s sh at n a (a + 1)) (entry.Split s sh at m low high) ≡ ((m == n) && ((low == a) && (high == a + 1)))
-same_split s sh at n m a low high = rw (number s, number sh, number at, swapped n m, swapped a low, swapped (a + 1) high) refl
+same_split s sh at n m a low high = rw (is_itself s, is_itself sh, is_itself at, swapped n m, swapped a low, swapped (a + 1) high) refl
 
 -- the same of a merge
 abbrev merge_by : Option ShardState → Option ShardState → Bool → ℕ → ℕ → Bool → Verdict
@@ -165,7 +166,7 @@ merge_by o p listed len next same =
     agrees same
 
 same_merge : (s sh other n m a child : ℕ) → same_entry (entry.Merged s sh other n a) (entry.Merged s sh other m child) ≡ ((m == n) && (child == a))
-same_merge s sh other n m a child = rw (number s, number sh, number other, swapped n m, swapped a child) refl
+same_merge s sh other n m a child = rw (is_itself s, is_itself sh, is_itself other, swapped n m, swapped a child) refl
 
 pub split_told : (log : Journal) (clock by s sh at m low high : ℕ) (v : StreamValue) (full : Bool) → IsStream log s v → v.live ≡ true → last_clock log ≤ clock → full ≡ nat_le OPEN_SHARDS (open_count log)
     → judged (told log (entry_line clock by (entry.Split s sh at m low high)) (entry.Split s sh at m low high)) (entry.Split s sh at m low high) ≡ split_verdict v clock sh at full m low high
@@ -199,9 +200,6 @@ merge_cases (Some x) (Some y) true true sh other len next xs same is also made t
     by true false = refl
     by true true = refl
 
-no_more : (n : ℕ) → n + 0 ≡ n
-no_more n = omega arith
-
 pub merge_told : (log : Journal) (clock by s sh other m child : ℕ) (v : StreamValue) → IsStream log s v → v.live ≡ true → last_clock log ≤ clock
     → judged (told log (entry_line clock by (entry.Merged s sh other m child)) (entry.Merged s sh other m child)) (entry.Merged s sh other m child) ≡ merge_verdict v clock sh other m child
 merge_told log clock by s sh other m child v st live order =
@@ -216,4 +214,4 @@ merge_told log clock by s sh other m child v st live order =
     ∙ ap (λ (n : ℕ). merge_by (slice_get v.tree sh) (slice_get v.tree other) (a && b) (length v.tree) n (same_entry (entry.Merged s sh other n (length v.tree)) what)) st.draws
     ∙ ap (merge_by (slice_get v.tree sh) (slice_get v.tree other) (a && b) (length v.tree) v.next) (same_merge s sh other v.next m (length v.tree) child)
     ∙ merge_cases (slice_get v.tree sh) (slice_get v.tree other) a b sh other (length v.tree) v.next v.tree _ refl refl (λ h. listed_made v.live (floor_in v clock) (slice_get v.tree sh) h) (λ h. listed_made v.live (floor_in v clock) (slice_get v.tree other) h)
-    ∙ ap (λ (n : ℕ). if not (a && b) then refused refusal.NoShard else refused_by (merge_refusal v.tree sh other) (if nat_lt last_number n || v.next == last_number then refused refusal.Spent else agrees ((m == v.next) && (child == length v.tree)))) (sym (no_more (length v.tree)))
+    ∙ ap (λ (n : ℕ). if not (a && b) then refused refusal.NoShard else refused_by (merge_refusal v.tree sh other) (if nat_lt last_number n || v.next == last_number then refused refusal.Spent else agrees ((m == v.next) && (child == length v.tree)))) (sym (plus_none (length v.tree)))

@@ -1,10 +1,10 @@
 -- The closed history of a drill.
-use Rattle.std.proofs.Common.{◌≡◌, ℕ, zero, suc, ◌+◌, ◌*◌, ◌<◌, ◌≤◌, true, false, List, [], ◌∷◌, ◌++◌, length, map, Option, Some, None, refl, sym, ap, subst, ◌∙◌, arith, append_assoc, le_refl, length-append, length-take, take_all}
+use Rattle.std.proofs.Common.{◌≡◌, ℕ, zero, suc, ◌+◌, ◌*◌, ◌<◌, ◌≤◌, false, List, [], ◌∷◌, ◌++◌, length, map, Option, Some, None, refl, sym, ap, subst, ◌∙◌, arith, append_assoc, le_refl, length-append, length-take, take_all}
 use Rattle.std.specs.Prelude.{◌==◌, ◌^◌, reverse, drop, take}
 use Rattle.std.specs.List.{AllByRecursion}
-use Rattle.std.proofs.lemmas.Bool.Decides.{nat_tests}
 use Rattle.std.proofs.lemmas.List.{length-map, length-reverse, nil_from_length, reverse-append}
 use Rattle.std.proofs.lemmas.List.Elements.{filter-append}
+use Rattle.kds_base.proofs.Facts.{is_itself}
 use Rattle.kds_defs.specs.declared.command.Command.{Command}
 use Rattle.kds_defs.specs.declared.command.Command.TheVariants as command
 use Rattle.kds_defs.specs.declared.command.Turn.{Turn}
@@ -131,9 +131,6 @@ none_before n front seen none =
     let total : length (turns_by n front ++ turns_by n seen) ≡ 0 = ap length (sym (filter-append (is_by n) front seen) ∙ none) in
     nil_from_length (turns_by n seen) (omega (arith, total, length-append (turns_by n front) (turns_by n seen)))
 
-is_self : (n : ℕ) → (n == n) ≡ true
-is_self n = grind (arith, nat_tests)
-
 module _ (number records : ℕ) (root feeder : Standing) (members : List Account) (h : List Turn) (is : IsClosed number records root feeder members h) where
   abbrev create : Command
   create = command.Create drill_name FIRST_SHARDS
@@ -154,10 +151,10 @@ module _ (number records : ℕ) (root feeder : Standing) (members : List Account
   IsOther turn = (turn.by == root.by) ≡ false → (turn.by == feeder.by) ≡ false → is_service turn.what ≡ false
 
   not_root : (what : Command) → IsOther (turn_of root.by what)
-  not_root what a b = let t = sym a ∙ is_self root.by in absurd cc
+  not_root what a b = let t = sym a ∙ is_itself root.by in absurd cc
 
   not_feeder : (what : Command) → IsOther (turn_of feeder.by what)
-  not_feeder what a b = let t = sym b ∙ is_self feeder.by in absurd cc
+  not_feeder what a b = let t = sym b ∙ is_itself feeder.by in absurd cc
 
   each_turn : (P : Turn → Type 0) → P (turn_of root.by create) → AllByRecursion (λ what. P (turn_of feeder.by what)) rest → AllByRecursion (λ a. AllByRecursion P a.turns) members → AllByRecursion P h
   each_turn P of_root of_feeder of_members =

@@ -1,12 +1,14 @@
 -- The reads and gives among an actor's turns are those of its tenures in the journal.
 use Rattle.std.proofs.Common.{◌≡◌, ℕ, ◌+◌, ◌<◌, Bool, true, false, List, [], ◌∷◌, ◌++◌, Option, Some, None, Ok, Err, refl, sym, ap, subst, ◌∙◌, arith}
-use Rattle.std.specs.Prelude.{◌==◌, ◌||◌, not, cond, if◌then◌else◌, Result, map}
+use Rattle.std.specs.Prelude.{◌==◌, not, cond, if◌then◌else◌, Result, map}
 use Rattle.std.specs.List.{AllByRecursion}
 use Rattle.std.specs.Option.{option_map}
 use Rattle.std.proofs.lemmas.Bool.Decides.{nat_tests}
 use Rattle.std.proofs.lemmas.List.{append-nil}
+use Rattle.std.proofs.lemmas.Bool.{or_from, not-false}
 use Rattle.kds_base.specs.declared.lease_key.Checkpoint.{Checkpoint}
 use Rattle.kds_base.specs.declared.lease_key.ShardRef.{ShardRef}
+use Rattle.kds_base.proofs.Facts.{plus_none, equal_so, apart as apart_tests}
 use Rattle.kds_defs.specs.declared.command.Command.{Command}
 use Rattle.kds_defs.specs.declared.command.Command.TheVariants as command
 use Rattle.kds_defs.specs.declared.command.NewItem.{NewItem}
@@ -33,6 +35,7 @@ use Rattle.kds_defs.specs.Records.{Logged, left_from, stored, numbers_of, batch,
 use Rattle.kds_defs.specs.Shards.{ShardState, shard_at, shown, children}
 use Rattle.kds_defs.specs.PutCommands.{is_held_back, put_lines}
 use Rattle.kds_defs.specs.ScaleCommands.{step_lines}
+use Rattle.kds_defs.proofs.Counted.{numbers_stored}
 use Rattle.kcl_defs.proofs.WorkerLemmas.{begins, was_taken, IsNewTenure, AreNewTenures, IsQuiet}
 use Rattle.kcl_defs.specs.WorkerLives.{read_done, AreOfTenure}
 
@@ -175,17 +178,10 @@ AgreeWith by t deals (Some T) =
     ((T.by == by) ≡ true → (map read_done (reads_in t deals) ≡ T.reads) × (gives_in t deals ≡ T.given))
     × ((T.by == by) ≡ false → (reads_in t deals ≡ []) × (gives_in t deals ≡ 0))
 
-plus_none : (n : ℕ) → n + 0 ≡ n
-plus_none n = omega arith
-
-neither_so : (a b : Bool) → a ≡ false → b ≡ false → (a || b) ≡ false
-neither_so true b h g = absurd cc
-neither_so false b h g = g
-
 -- a command that adds nothing
 agree_still : (by t : ℕ) (deal : Deal) (deals : List Deal) (o : Option TenureState) → begins t deal.answer ≡ false → reads_of t deal.what deal.answer ≡ [] → gives_of t deal.what deal.answer ≡ 0 → AgreeWith by t deals o → AgreeWith by t (deal ∷ deals) o
 agree_still by t deal deals None b r g h = (
-  neither_so (begins t deal.answer) (was_taken t deals) b h.0,
+  or_from (begins t deal.answer) (was_taken t deals) b h.0,
   ap (λ rs. reads_in t deals ++ rs) r ∙ append-nil (reads_in t deals) ∙ h.1,
   ap (λ n. gives_in t deals + n) g ∙ plus_none (gives_in t deals) ∙ h.2,
 )
@@ -250,9 +246,6 @@ OwnAgrees by what deals log t lines answer = AgreeWith by t (with_answer what an
 abbrev OtherAgrees : ℕ → List Deal → Journal → ℕ → List Line → Result Reply Refusal → Type 0
 OtherAgrees by deals log t lines answer = AgreeWith by t deals (tenure (with_lines lines log) t)
 
-pub same_number : (t u : ℕ) → (t == u) ≡ true → t ≡ u
-same_number t u h = grind (arith, nat_tests)
-
 flipped : (t u : ℕ) → (u == t) ≡ false → (t == u) ≡ false
 flipped t u h = grind (arith, nat_tests)
 
@@ -261,14 +254,6 @@ own_actor a b d h g = grind (arith, nat_tests)
 
 other_actor : (a b d : ℕ) → (a == b) ≡ true → (b == d) ≡ false → (a == d) ≡ false
 other_actor a b d h g = grind (arith, nat_tests)
-
-apart_tests : (b : Bool) → b ≡ true → b ≡ false → ⊥
-apart_tests true h g = absurd cc
-apart_tests false h g = absurd cc
-
-not_not : (b : Bool) → not b ≡ false → b ≡ true
-not_not true h = refl
-not_not false h = absurd cc
 
 -- nothing of a tenure that is not there yet
 nothing_yet : (by : ℕ) (deals : List Deal) (log : Journal) → AllAgree by deals log → (was_taken (taken_count log + 1) deals ≡ false) × (reads_in (taken_count log + 1) deals ≡ []) × (gives_in (taken_count log + 1) deals ≡ 0)
@@ -306,14 +291,14 @@ agree_new by t actor key start deals r g = (λ e. (ap (λ rs. map read_done rs) 
 
 begun : (by actor : ℕ) (key : ShardRef) (start : Checkpoint) (t n : ℕ) (deals : List Deal) (before : Option TenureState) (b : Bool) → (t == n) ≡ b → (was_taken n deals ≡ false) × (reads_in n deals ≡ []) × (gives_in n deals ≡ 0) → (b ≡ false → AgreeWith by t deals before) → (b ≡ true → (reads_in t deals ≡ []) × (gives_in t deals ≡ 0) → AgreeWith by t deals (Some (new_tenure actor key start))) → AgreeWith by t deals (cond b (Some (new_tenure actor key start)) before)
 begun by actor key start t n deals before true e nothing same new =
-    let u : t ≡ n = same_number t n e in
+    let u : t ≡ n = equal_so t n e in
     new refl (subst (λ m. reads_in m deals ≡ []) (sym u) nothing.1, subst (λ m. gives_in m deals ≡ 0) (sym u) nothing.2)
 begun by actor key start t n deals before false e nothing same new = same refl
 
 -- a turn of its own that begins a tenure
 begun_own : (by actor : ℕ) (key : ShardRef) (what : Command) (from start : Checkpoint) (t n counter : ℕ) (deals : List Deal) (before : Option TenureState) (b : Bool) → (t == n) ≡ b → IsQuiet what → (was_taken n deals ≡ false) × (reads_in n deals ≡ []) × (gives_in n deals ≡ 0) → AgreeWith by t deals before → AgreeWith by t (with_answer what (Ok (reply.Taken n counter from)) deals) (cond b (Some (new_tenure actor key start)) before)
 begun_own by actor key what from start t n counter deals before true e quiet nothing h =
-    let u : t ≡ n = same_number t n e in
+    let u : t ≡ n = equal_so t n e in
     let q = quiet t (Ok (reply.Taken n counter from)) in
     agree_still_some by t (record { what = what; answer = Ok (reply.Taken n counter from) }) deals (new_tenure actor key start) q.0 q.1
     (agree_new by t actor key start deals (subst (λ m. reads_in m deals ≡ []) (sym u) nothing.1) (subst (λ m. gives_in m deals ≡ 0) (sym u) nothing.2))
@@ -331,7 +316,7 @@ take_own by actor c key counter owner deals log t h =
 -- another's turn that begins a tenure
 begun_other : (by actor : ℕ) (key : ShardRef) (start : Checkpoint) (t n : ℕ) (deals : List Deal) (before : Option TenureState) (b : Bool) → (t == n) ≡ b → (was_taken n deals ≡ false) × (reads_in n deals ≡ []) × (gives_in n deals ≡ 0) → AgreeWith by t deals before → AgreeWith by t deals (cond b (Some (new_tenure actor key start)) before)
 begun_other by actor key start t n deals before true e nothing h =
-    let u : t ≡ n = same_number t n e in
+    let u : t ≡ n = equal_so t n e in
     agree_new by t actor key start deals (subst (λ m. reads_in m deals ≡ []) (sym u) nothing.1) (subst (λ m. gives_in m deals ≡ 0) (sym u) nothing.2)
 begun_other by actor key start t n deals before false e nothing h = h
 
@@ -367,11 +352,6 @@ open_other by actor c which deals log t h =
     (agree_opened by t deals (which == t) (tenure log t) (h t)))))))
 
 -- ---- Read
-
--- the numbers of what is read are those of the line
-numbers_stored : (rs : List Logged) → map (λ (r : Stored). r.seq) (map stored rs) ≡ numbers_of rs
-numbers_stored [] = refl
-numbers_stored (r ∷ rs) = ap (λ ns. r.seq ∷ ns) (numbers_stored rs)
 
 map-append : (xs ys : List Fetched) → map read_done (xs ++ ys) ≡ map read_done xs ++ map read_done ys
 map-append [] ys = refl
@@ -417,7 +397,7 @@ gives_refused which t r = choice (which == t)
     choice false = refl
 
 same_tenure : (log : Journal) (which t : ℕ) (T : TenureState) → tenure log which ≡ Some T → (which == t) ≡ true → tenure log t ≡ Some T
-same_tenure log which t T e h = subst (λ n. tenure log n ≡ Some T) (same_number which t h) e
+same_tenure log which t T e h = subst (λ n. tenure log n ≡ Some T) (equal_so which t h) e
 
 read_own : (by actor c which position limit : ℕ) (deals : List Deal) (log : Journal) (t : ℕ) → (actor == by) ≡ true → AllAgree by deals log → Leads (OwnAgrees by (command.Read which position limit) deals log t) (read log c actor which position limit)
 read_own by actor c which position limit deals log t own h =
@@ -426,7 +406,7 @@ read_own by actor c which position limit deals log t own h =
     past_none P refused _ _ _ (λ T e. past_test P refused _ _ _ (λ a. past_test P refused _ _ _ (λ b. past_test P refused _ _ _ (λ d. past_test P refused _ _ _ (λ f. past_test P refused _ _ _ (λ g.
     let rs = batch log c T.key.stream T.key.shard (reach T) limit in
     read_at by actor which t position limit (place_after (reach T) (numbers_of rs)) deals (tenure log t) None T rs (ends_at log c T.key.stream T.key.shard (place_after (reach T) (numbers_of rs))) (which == t) refl
-    (λ x. same_tenure log which t T e x) (not_not (T.by == actor) a) own (h t)))))))
+    (λ x. same_tenure log which t T e x) (not-false (T.by == actor) a) own (h t)))))))
 
 -- a line of a tenure that is another's
 agree_other : (by t : ℕ) (deals : List Deal) (T U : TenureState) → U.by ≡ T.by → (T.by == by) ≡ false → AgreeWith by t deals (Some T) → AgreeWith by t deals (Some U)
@@ -446,7 +426,7 @@ read_other by actor c which position limit deals log t other h =
     past_none P refused _ _ _ (λ T e. past_test P refused _ _ _ (λ a. past_test P refused _ _ _ (λ b. past_test P refused _ _ _ (λ d. past_test P refused _ _ _ (λ f. past_test P refused _ _ _ (λ g.
     let rs = batch log c T.key.stream T.key.shard (reach T) limit in
     other_at (with_read (numbers_of rs) (ends_at log c T.key.stream T.key.shard (place_after (reach T) (numbers_of rs)))) (λ T. refl) by actor t deals (tenure log t) T (which == t)
-    (λ x. same_tenure log which t T e x) (not_not (T.by == actor) a) other (h t)))))))
+    (λ x. same_tenure log which t T e x) (not-false (T.by == actor) a) other (h t)))))))
 
 -- ---- Give
 
@@ -474,7 +454,7 @@ give_own by actor c which deals log t own h =
     let refused : (r : Refusal) → P [] (Err r) = λ r. own_refused by (command.Give which) deals log t r refl (gives_refused which t r) h in
     past_none P refused _ _ _ (λ T e. past_test P refused _ _ _ (λ a. past_test P refused _ _ _ (λ b.
     give_at by actor which t (delivered (with_given T)) deals (tenure log t) T (which == t) refl
-    (λ x. same_tenure log which t T e x) (not_not (T.by == actor) a) own (h t))))
+    (λ x. same_tenure log which t T e x) (not-false (T.by == actor) a) own (h t))))
 
 give_other : (by actor c which : ℕ) (deals : List Deal) (log : Journal) (t : ℕ) → (actor == by) ≡ false → AllAgree by deals log → Leads (OtherAgrees by deals log t) (give log c actor which)
 give_other by actor c which deals log t other h =
@@ -482,7 +462,7 @@ give_other by actor c which deals log t other h =
     let refused : (r : Refusal) → P [] (Err r) = λ r. h t in
     past_none P refused _ _ _ (λ T e. past_test P refused _ _ _ (λ a. past_test P refused _ _ _ (λ b.
     other_at with_given (λ T. refl) by actor t deals (tenure log t) T (which == t)
-    (λ x. same_tenure log which t T e x) (not_not (T.by == actor) a) other (h t))))
+    (λ x. same_tenure log which t T e x) (not-false (T.by == actor) a) other (h t))))
 
 -- ---- any command
 

@@ -2,6 +2,8 @@
 use Rattle.std.proofs.Common.{◌≡◌, ℕ, suc, ◌-◌, ◌≤◌, Bool, true, false, List, [], ◌∷◌, length, Option, Some, None, Err, refl, sym, ap, subst, arith}
 use Rattle.std.specs.Prelude.{◌==◌, cond, if◌then◌else◌, not, map, Result}
 use Rattle.std.proofs.lemmas.Bool.Decides.{nat_tests}
+use Rattle.std.proofs.lemmas.Bool.{not-false}
+use Rattle.kds_base.proofs.Facts.{not_true}
 use Rattle.kds_defs.specs.declared.command.Command.{Command}
 use Rattle.kds_defs.specs.declared.command.Command.TheVariants as command
 use Rattle.kds_defs.specs.declared.command.Turn.{Turn}
@@ -60,14 +62,6 @@ all_given a b c n g h i j k = small a b c n g h i j (zero_so (c - n) k)
     small : (a b c n g : ℕ) → a ≡ b → g ≡ n → b ≡ c → c - n ≡ 0 → a ≤ g
     small a b c n g h i j k = omega (arith, h, i, j, k)
 
-not_true : (b : Bool) → not b ≡ true → b ≡ false
-not_true true h = absurd cc
-not_true false h = refl
-
-not_false : (b : Bool) → not b ≡ false → b ≡ true
-not_false true h = refl
-not_false false h = absurd cc
-
 own_actor : (a b d : ℕ) → (a == b) ≡ true → (b == d) ≡ true → (a == d) ≡ true
 own_actor a b d h g = grind (arith, nat_tests)
 
@@ -81,7 +75,7 @@ give_taken by actor c t deals log own h =
     (λ T e. let a : AgreeWith by t deals (Some T) = subst (λ o. AgreeWith by t deals o) e (h t) in
     if_refused_so (GiveAnswers t deals) refusal.NotYours (not (T.by == actor)) _
     (λ n. none_le (reads_in t deals) (gives_in t deals) (a.1 (not_own_actor T.by actor by (not_true (T.by == actor) n) own)).0)
-    (λ n. let m = a.0 (own_actor T.by actor by (not_false (T.by == actor) n) own) in
+    (λ n. let m = a.0 (own_actor T.by actor by (not-false (T.by == actor) n) own) in
     if_refused_so (GiveAnswers t deals) refusal.NothingPending (pending T == 0) _
     (λ z. all_given (length (reads_in t deals)) (length (map read_done (reads_in t deals))) (length T.reads) T.given (gives_in t deals)
     (sym (length_map (reads_in t deals))) m.1 (ap length m.0) z)

@@ -1,7 +1,8 @@
 -- No batch of a retired consumer waits to be given.
 use Rattle.std.proofs.Common.{◌≡◌, ℕ, ◌+◌, ◌≤◌, Bool, true, false, List, [], ◌∷◌, ◌++◌, length, Option, Some, None, Ok, Err, refl, sym, ap, subst, ◌∙◌, arith, inl, inr, length-append}
-use Rattle.std.specs.Prelude.{◌||◌, ◌⊎◌, is_some, not, cond, if◌then◌else◌, Result}
+use Rattle.std.specs.Prelude.{◌⊎◌, is_some, not, cond, if◌then◌else◌, Result}
 use Rattle.std.specs.List.{AllByRecursion, filter}
+use Rattle.std.proofs.lemmas.Bool.{or_from}
 use Rattle.kds_defs.specs.declared.command.Command.{Command}
 use Rattle.kds_defs.specs.declared.command.Turn.{Turn}
 use Rattle.kcl_defs.specs.declared.consumer.Ask.{Ask}
@@ -70,15 +71,11 @@ no_give : (phase : Phase) (asked : Ask) → (refused_at phase (Called asked) ≡
 no_give (Giving reach waiting to known) asked = (refl, refl)
 no_give _ asked = (refl, refl)
 
-or_none : (a b : Bool) → a ≡ false → b ≡ false → (a || b) ≡ false
-or_none true b h g = absurd cc
-or_none false b h g = g
-
 pub called_unrefused : (asked : Ask) (k : Known) → IsUnrefused k → IsUnrefused (with_event (Called asked) k)
-called_unrefused asked k h = or_none (refused_at (phase_of_known k) (Called asked)) (was_refused k.made k.past) (no_give (phase_of_known k) asked).0 h
+called_unrefused asked k h = or_from (refused_at (phase_of_known k) (Called asked)) (was_refused k.made k.past) (no_give (phase_of_known k) asked).0 h
 
 pub lost_unrefused : (k : Known) → IsUnrefused k → IsUnrefused (with_event Losing k)
-lost_unrefused k h = or_none (refused_at (phase_of_known k) Losing) (was_refused k.made k.past) (no_give (phase_of_known k) ask.None).1 h
+lost_unrefused k h = or_from (refused_at (phase_of_known k) Losing) (was_refused k.made k.past) (no_give (phase_of_known k) ask.None).1 h
 
 all_passed : (p : Known → Bool) (xs : List Known) → AllByRecursion (λ k. p k ≡ true) (filter p xs)
 all_passed p [] = tt
@@ -111,7 +108,7 @@ step_kept deals k s =
 
 pub answered_unrefused : (deals : List Deal) (k : Known) (counter : ℕ) (what : Command) (answer : Result Reply Refusal) → next_command k.made (phase_of_known k) counter ≡ Some what → IsGiveTaken what answer deals → InStep deals k → IsUnrefused k → IsUnrefused (with_event (Answered answer) k)
 answered_unrefused deals k counter what answer next taken s h =
-    or_none (refused_at (phase_of_known k) (Answered answer)) (was_refused k.made k.past)
+    or_from (refused_at (phase_of_known k) (Answered answer)) (was_refused k.made k.past)
     (give_accepted k.made (phase_of_known k) counter what answer deals (calls_after k.made k.past) next taken (step_kept deals k s)) h
 
 same_known : (x k : Known) → Some x ≡ Some k → k ≡ x

@@ -2,6 +2,7 @@
 use Rattle.std.proofs.Common.{◌≡◌, ℕ, ◌+◌, Bool, true, false, List, [], ◌∷◌, ◌++◌, length, Option, Some, None, Ok, Err, refl, sym, subst, arith, inl, inr}
 use Rattle.std.specs.Prelude.{◌⊎◌, cond, if◌then◌else◌, ◌||◌, not, Result}
 use Rattle.std.proofs.lemmas.List.{append-nil}
+use Rattle.std.proofs.lemmas.Bool.{or_parts}
 use Rattle.kds_defs.specs.declared.command.Target.{Target}
 use Rattle.kcl_defs.specs.declared.consumer.Ask.{Ask}
 use Rattle.kcl_defs.specs.declared.consumer.Ask.TheVariants as ask
@@ -185,13 +186,9 @@ happens made Losing past r s =
     quiet made Losing (after_loss (phase_after made past)) (phase_after made past) (reads_after made past) (gives_after made past) (calls_after made past) n.1 n.3
     (lost made (phase_after made past) (reads_after made past) (gives_after made past) (calls_after made past) (holds made past) s)
 
-neither : (a b : Bool) → (a || b) ≡ false → (a ≡ false) × (b ≡ false)
-neither true b h = absurd cc
-neither false b h = (refl, h)
-
 -- a consumer that is over, and of which no Give was refused, has no batch that was handed and not given
 pub settles : (made : Tenancy) (past : Past) → was_refused made past ≡ false → SettlesAfter made past
 settles made [] r = tt
 settles made (event ∷ past) r =
-    let n = neither (refused_at (phase_after made past) event) (was_refused made past) r in
+    let n = or_parts (refused_at (phase_after made past) event) (was_refused made past) r in
     happens made event past n.0 (settles made past n.1)

@@ -1,8 +1,8 @@
 -- A consumer keeps in step with a history.
-use Rattle.std.proofs.Common.{◌≡◌, ℕ, ◌+◌, true, false, List, [], ◌∷◌, ◌++◌, Some, refl, sym, ap, subst, ◌∙◌, arith}
-use Rattle.std.proofs.lemmas.Bool.Decides.{nat_tests}
+use Rattle.std.proofs.Common.{◌≡◌, ℕ, ◌+◌, true, false, List, [], ◌∷◌, ◌++◌, Some, refl, sym, ap, subst, ◌∙◌}
 use Rattle.std.specs.Prelude.{◌==◌, cond, if◌then◌else◌, Result}
 use Rattle.std.proofs.lemmas.List.{append-nil}
+use Rattle.kds_base.proofs.Facts.{is_itself, plus_none}
 use Rattle.kds_defs.specs.declared.command.Command.{Command}
 use Rattle.kds_defs.specs.declared.command.Command.TheVariants as command
 use Rattle.kds_defs.specs.declared.command.Turn.{Turn}
@@ -19,17 +19,14 @@ use Rattle.kcl_defs.proofs.LifeLemmas.{life}
 
 -- ---- the reads and gives of a command are those of the phase that gives it
 
-same_number : (t : ℕ) → (t == t) ≡ true
-same_number t = grind (arith, nat_tests)
-
 same_command : (a b : Command) → Some a ≡ Some b → a ≡ b
 same_command a b e = cc
 
 own_read : (t position limit : ℕ) (answer : Result Reply Refusal) → reads_of t (command.Read t position limit) answer ≡ read_in answer
-own_read t position limit answer = ap (λ b. if b then read_in answer else []) (same_number t)
+own_read t position limit answer = ap (λ b. if b then read_in answer else []) (is_itself t)
 
 own_give : (t : ℕ) (answer : Result Reply Refusal) → gives_of t (command.Give t) answer ≡ give_in answer
-own_give t answer = ap (λ b. if b then give_in answer else 0) (same_number t)
+own_give t answer = ap (λ b. if b then give_in answer else 0) (is_itself t)
 
 -- what the answer to a command adds
 pub record Adds (made : Tenancy) (phase : Phase) (what : Command) (answer : Result Reply Refusal) : Type 0 where
@@ -50,9 +47,6 @@ adds made MarkingEnd counter what answer e = adds_as made MarkingEnd _ what answ
 adds made _ counter what answer e = absurd cc
 
 -- ---- steps
-
-plus_none : (n : ℕ) → n + 0 ≡ n
-plus_none n = omega arith
 
 -- a command that neither reads nor gives the tenure changes nothing
 pub others_keep : (deal : Deal) (deals : List Deal) (made : Tenancy) (past : Past) → reads_of made.tenure deal.what deal.answer ≡ [] → gives_of made.tenure deal.what deal.answer ≡ 0 → IsInStep deals made past → IsInStep (deal ∷ deals) made past

@@ -6,6 +6,7 @@ use Rattle.std.specs.Option.{option_map}
 use Rattle.std.proofs.lemmas.Bool.Decides.{nat_tests}
 use Rattle.kds_base.specs.declared.lease_key.Checkpoint.{Checkpoint}
 use Rattle.kds_base.specs.declared.lease_key.ShardRef.{ShardRef}
+use Rattle.kds_base.proofs.Facts.{equal_so}
 use Rattle.kds_defs.specs.declared.command.Command.{Command}
 use Rattle.kds_defs.specs.declared.command.Command.TheVariants as command
 use Rattle.kds_defs.specs.declared.command.Turn.{Turn}
@@ -26,7 +27,7 @@ use Rattle.kcl_defs.specs.Consumers.{Called, Answered, Losing}
 use Rattle.kcl_defs.specs.Lives.{Deal, deals_of}
 use Rattle.kcl_defs.specs.Workers.{Known, Pending, Chore, Surveying, Syncing, Taking, Renewing, Consuming, Finishing, Freeing, WorkerState, WorkerEvent, Made_call, Gave_command, Got_answer, Stopped, Released, Release, released, without_release, WorkerPast, worker_after, after_worker_event, deals_after, deals_with, id_of, id_of_held, same_id, is_due_known, settled, is_over, consumer_command, known_of, pending_of, pending_chore, chore_at, after_survey, after_renewal, after_take, after_chore, absorbed, with_deal, consumed, is_of, still_stands, AtTakes, AtRenewals, AtStopping, happens_to, happens_to_first}
 use Rattle.kcl_defs.specs.WorkerLives.{IsOfTenure, IsToldIn}
-use Rattle.kcl_defs.proofs.DealLemmas.{Leads, leads_so, past_none, past_test, same_number, unborn}
+use Rattle.kcl_defs.proofs.DealLemmas.{Leads, leads_so, past_none, past_test, unborn}
 use Rattle.kcl_defs.proofs.WorkerLemmas.{all_append, all_event, all_filter, all_first, all_map, all_with_known, all_without}
 
 -- ---- a tenure of the journal keeps its actor, its key and its start
@@ -45,7 +46,7 @@ kept_map f by_same key_same start_same by made (Some T) true h = (by_same T ∙ 
 taken_again : (log : Journal) (by t : ℕ) (made : Tenancy) (o : Option TenureState) (b : Bool) → (t == taken_count log + 1) ≡ b → TenureIs by made (tenure log t) → TenureIs by made (cond b o (tenure log t))
 taken_again log by t made o false e h = h
 taken_again log by t made o true e h =
-    let none : tenure log t ≡ None = ap (tenure log) (same_number t (taken_count log + 1) e) ∙ unborn log (taken_count log + 1) (above (taken_count log)) in
+    let none : tenure log t ≡ None = ap (tenure log) (equal_so t (taken_count log + 1) e) ∙ unborn log (taken_count log + 1) (above (taken_count log)) in
     absurd (subst (TenureIs by made) none h)
   where
     above : (n : ℕ) → n < n + 1
@@ -115,7 +116,7 @@ begun_turn by turn h made false e before is =
 begun_turn by turn h made true e before (inr is) =
     kept_lines (lines_of (decide (journal h) (clock (turn ∷ h)) turn.by turn.what)) (journal h) by made.tenure made (before is)
 begun_turn by turn h made true e before (inl is) =
-    subst (λ n. TenureIs n made (tenure (journal (turn ∷ h)) made.tenure)) (same_number turn.by by e)
+    subst (λ n. TenureIs n made (tenure (journal (turn ∷ h)) made.tenure)) (equal_so turn.by by e)
     (begun_now turn.by (clock (turn ∷ h)) turn.what (journal h) made is)
 
 tenure_is : (by : ℕ) (h : List Turn) (made : Tenancy) → IsBegunIn (deals_of by h) made → TenureIs by made (tenure (journal h) made.tenure)

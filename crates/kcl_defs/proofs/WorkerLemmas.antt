@@ -3,6 +3,7 @@ use Rattle.std.proofs.Common.{◌≡◌, ℕ, ◌+◌, ◌≤◌, Bool, true, fa
 use Rattle.std.specs.Prelude.{◌==◌, ◌&&◌, ◌||◌, not, cond, if◌then◌else◌, Result}
 use Rattle.std.specs.List.{AllByRecursion, filter, find}
 use Rattle.std.proofs.lemmas.Bool.Decides.{nat_tests}
+use Rattle.std.proofs.lemmas.Bool.{and_right, or_parts}
 use Rattle.kds_defs.specs.declared.command.Command.{Command}
 use Rattle.kds_defs.specs.declared.command.Command.TheVariants as command
 use Rattle.kcl_defs.specs.declared.consumer.Ask.{Ask}
@@ -162,10 +163,6 @@ no_more m n = omega (arith, n)
 rest_none : (m : ℕ) → 0 + m ≡ 0 → m ≡ 0
 rest_none m n = omega (arith, n)
 
-and_false : (a b : Bool) → b ≡ false → (a && b) ≡ false
-and_false true b h = h
-and_false false b h = refl
-
 -- consumers of other tenures keep
 pub others : (t : ℕ) (deal : Deal) (deals : List Deal) (xs : List Known) → IsAbout t deal.what → times t xs ≡ 0 → AllByRecursion (InStep deals) xs → AllByRecursion (InStep (deal ∷ deals)) xs
 others t deal deals [] is none h = tt
@@ -302,15 +299,11 @@ first_good deals test e consumers retired f g = record {
 lost_good : (deals : List Deal) (test : Known → Bool) (consumers retired : List Known) → AreGood deals consumers retired → AreGood deals (happens_to test Losing consumers) retired
 lost_good deals test consumers retired g = event_good deals test Losing consumers retired (λ k s. lost_keeps deals k.made k.past s) g
 
-neither : (a b : Bool) → (a || b) ≡ false → (a ≡ false) × (b ≡ false)
-neither true b h = absurd cc
-neither false b h = (refl, h)
-
 -- a command that is about no tenure
 pub quiet_good : (deal : Deal) (deals : List Deal) (consumers retired : List Known) → IsQuiet deal.what → AreGood deals consumers retired → AreGood (deal ∷ deals) consumers retired
 quiet_good deal deals consumers retired is g = record {
   apart = g.apart;
-  begun = λ t n. g.begun t (neither (begins t deal.answer) (was_taken t deals) n).1;
+  begun = λ t n. g.begun t (or_parts (begins t deal.answer) (was_taken t deals) n).1;
   live = quiet deal deals consumers is g.live;
   over = quiet deal deals retired is g.over;
 }
@@ -319,7 +312,7 @@ quiet_good deal deals consumers retired is g = record {
 taken_good : (deal : Deal) (deals : List Deal) (k : Known) (consumers retired : List Known) → IsQuiet deal.what → k.past ≡ [] → ((t : ℕ) → begins t deal.answer ≡ (k.made.tenure == t)) → was_taken k.made.tenure deals ≡ false → reads_in k.made.tenure deals ≡ [] → gives_in k.made.tenure deals ≡ 0 → AreGood deals consumers retired → AreGood (deal ∷ deals) (with_known k consumers) retired
 taken_good deal deals k consumers retired is no_past begun_by new no_read no_give g = record {
   apart = λ t. apart_at t (k.made.tenure == t) refl;
-  begun = λ t n. begun_at t (neither (begins t deal.answer) (was_taken t deals) n);
+  begun = λ t n. begun_at t (or_parts (begins t deal.answer) (was_taken t deals) n);
   live = all_with_known (InStep (deal ∷ deals)) k consumers first (quiet deal deals consumers is g.live);
   over = quiet deal deals retired is g.over;
 }
@@ -360,7 +353,7 @@ taken_good deal deals k consumers retired is no_past begun_by new no_read no_giv
 own_good : (id : LeaseId) (deal : Deal) (deals : List Deal) (k : Known) (counter : ℕ) (consumers retired : List Known) → next_command k.made (phase_of_known k) counter ≡ Some deal.what → IsAbout id.tenure deal.what → known_of id consumers ≡ Some k → AreGood deals consumers retired → AreGood (deal ∷ deals) (consumed id deal.answer consumers) retired
 own_good id deal deals k counter consumers retired next is found g = record {
   apart = λ t. subst (λ n. n + times t retired ≤ 1) (sym (times-first t (λ k. same_id (id_of k) id) (Answered deal.answer) consumers)) (g.apart t);
-  begun = λ t n. ap (λ n. n + times t retired) (times-first t (λ k. same_id (id_of k) id) (Answered deal.answer) consumers) ∙ g.begun t (neither (begins t deal.answer) (was_taken t deals) n).1;
+  begun = λ t n. ap (λ n. n + times t retired) (times-first t (λ k. same_id (id_of k) id) (Answered deal.answer) consumers) ∙ g.begun t (or_parts (begins t deal.answer) (was_taken t deals) n).1;
   live = own id deal deals k counter consumers next is (first_le (times id.tenure consumers) (times id.tenure retired) (g.apart id.tenure)) found g.live;
   over = others id.tenure deal deals retired is (second_none (times id.tenure consumers) (times id.tenure retired) (found_times id k consumers found) (g.apart id.tenure)) g.over;
 }
@@ -430,7 +423,7 @@ finds p k (x ∷ xs) once h = head (p x) refl h (λ o g. finds p k xs o g)
     head false e g rest =
         let r = rest (rest_le (if x.made.tenure == k.made.tenure then 1 else 0) (times k.made.tenure xs) once) g in
         let n = other_tenure (x.made.tenure == k.made.tenure) (times k.made.tenure xs) once r.2 in (
-          ap (λ b. cond b (Some x) (known_of (id_of k) xs)) (and_false _ (x.made.tenure == k.made.tenure) n) ∙ r.0,
+          ap (λ b. cond b (Some x) (known_of (id_of k) xs)) (and_right _ (x.made.tenure == k.made.tenure) n) ∙ r.0,
           r.1,
           more (if x.made.tenure == k.made.tenure then 1 else 0) (times k.made.tenure xs) r.2,
         )

@@ -1,7 +1,7 @@
 -- The summary of a drill depends on what the stream service was asked.
 use Rattle.std.proofs.Common.{◌≡◌, ℕ, suc, ◌+◌, ◌<◌, max, Bool, true, false, List, [], ◌∷◌, ◌++◌, length, Option, Some, None, refl, sym, ap, ◌∙◌, arith}
 use Rattle.std.specs.Prelude.{◌==◌, ◌&&◌, not, map, reverse, cond, if◌then◌else◌}
-use Rattle.std.specs.List.{filter, find, AllByRecursion}
+use Rattle.std.specs.List.{AllByRecursion}
 use Rattle.std.specs.Option.{option_map}
 use Rattle.std.proofs.lemmas.Bool.Decides.{nat_tests}
 use Rattle.kds_base.specs.declared.lease_key.Checkpoint.{Checkpoint}
@@ -19,6 +19,7 @@ use Rattle.kds_defs.specs.Leases.{row, checkpoint_in}
 use Rattle.kds_defs.specs.Records.{Logged, records, records_after}
 use Rattle.kds_defs.specs.Shards.{ShardState, Closing, is_open, shards, listed_among, listed_shards, was_closed_below}
 use Rattle.kds_defs.specs.Streams.{is_live, stream_named, trim_floor}
+use Rattle.kcl_laws.proofs.LegalLemmas.{live_named}
 use Rattle.kcl_drill.specs.Apart.{AreBasic, LEAST_RETENTION, is_stream_entry, service_turns}
 use Rattle.kcl_drill.specs.Generated.{drill_name, generated}
 use Rattle.kcl_drill.specs.Summed.{Summed, summed, summed_at, summary_of, summary_text, bytes_of, last_checkpoint, final_checkpoint, final_at, final_of, turns_of, drill_text, text_of, IsDrained, AreDrained}
@@ -101,21 +102,6 @@ final_kept : (f : ℕ → ℕ) (log : Journal) → final_text (kept f log) ≡ f
 final_kept f log = ap (final_of (kept f log)) (sym (named_same f log drill_name)) ∙ final_kept_of f log (stream_named log drill_name)
 
 -- ---- the summary, where each shard was read to its end
-
-found_by : (b d : Bool) (x s : ℕ) (rest : List ℕ) (p q : ℕ → Bool) → q x ≡ b → p x ≡ d → find p (cond b (x ∷ filter q rest) (filter q rest)) ≡ Some s → (find p (filter q rest) ≡ Some s → q s ≡ true) → q s ≡ true
-found_by false d x s rest p q isb isd h later = later h
-found_by true true x s rest p q isb isd h later =
-    let e : Some x ≡ Some s = ap (λ b. cond b (Some x) (find p (filter q rest))) (sym isd) ∙ h in
-    let f : x ≡ s = cc (e) in
-    ap q (sym f) ∙ isb
-found_by true false x s rest p q isb isd h later = later (ap (λ b. cond b (Some x) (find p (filter q rest))) (sym isd) ∙ h)
-
-find_filter : (p q : ℕ → Bool) (xs : List ℕ) (s : ℕ) → find p (filter q xs) ≡ Some s → q s ≡ true
-find_filter p q [] s h = absurd cc
-find_filter p q (x ∷ xs) s h = found_by (q x) (p x) x s xs p q refl refl h (find_filter p q xs s)
-
-pub live_named : (log : Journal) (name : List ℕ) (s : ℕ) → stream_named log name ≡ Some s → is_live log s ≡ true
-live_named log name s h = find_filter _ (is_live log) _ s h
 
 all_listed : (xs : List ShardState) → listed_among 0 xs ≡ xs
 all_listed [] = refl

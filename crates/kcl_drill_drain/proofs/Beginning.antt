@@ -7,6 +7,7 @@ use Rattle.kds_base.specs.declared.lease_key.Checkpoint.{Checkpoint}
 use Rattle.kds_base.specs.declared.lease_key.Checkpoint.TheVariants.{TrimHorizon, At, ShardEnd}
 use Rattle.kds_base.specs.declared.lease_key.ShardRef.{ShardRef}
 use Rattle.kds_base.specs.Checkpoints.{is_end as base_is_end}
+use Rattle.kds_base.proofs.Facts.{same_some}
 use Rattle.kds_defs.specs.declared.command.Command.TheVariants as command
 use Rattle.kds_defs.specs.declared.command.Turn.{Turn}
 use Rattle.kds_defs.specs.declared.reply.Refusal.{Refusal}
@@ -52,9 +53,6 @@ BegunLaw = (log : Journal) (c d by owner : ℕ) (key : ShardRef) (r : Row) → r
 
 pub not_last : (n : ℕ) → n < 2 ^ 64 - 1 → (n == last_number) ≡ false
 not_last n below = grind (arith, nat_tests)
-
-same_some : {A : Type 0} (x y : A) → Some x ≡ Some y → x ≡ y
-same_some x y h = cc
 
 -- both words for it are one
 pub end_same : (cp : Checkpoint) → base_is_end cp ≡ is_end cp

@@ -5,6 +5,7 @@ use Rattle.std.specs.Prelude.{◌==◌, ◌&&◌, ◌⊎◌, cond, not, slice_ge
 use Rattle.std.specs.List.{AllByRecursion, filter}
 use Rattle.std.proofs.lemmas.Bool.Decides.{nat_tests}
 use Rattle.kds_base.specs.declared.lease_key.ShardRef.{ShardRef}
+use Rattle.kds_base.proofs.Facts.{same_some}
 use Rattle.kds_defs.specs.Journal.{Journal}
 use Rattle.kds_defs.specs.Keys.{ref, same_key}
 use Rattle.kds_defs.specs.Listings.{listed_in, refs_of}
@@ -45,9 +46,6 @@ record IsRef (s n i : ℕ) (xs : List ShardState) (key : ShardRef) : Type 0 wher
   shard : key.shard ≡ n + i
   state : ShardState
   there : slice_get xs i ≡ Some state
-
-same_some : {A : Type 0} (x y : A) → Some x ≡ Some y → x ≡ y
-same_some x y h = cc
 
 ref_next : (s n i : ℕ) (x : ShardState) (xs : List ShardState) (key : ShardRef) → IsRef s (n + 1) i xs key → IsRef s n (suc i) (x ∷ xs) key
 ref_next s n i x xs key at = record { stream = at.stream; shard = omega (arith, at.shard); state = at.state; there = at.there }

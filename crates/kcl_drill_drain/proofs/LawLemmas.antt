@@ -1,9 +1,10 @@
 -- Rows at their shards' ends, and the numbers of streams.
-use Rattle.std.proofs.Common.{◌≡◌, ℕ, ◌+◌, ◌≤◌, Bool, true, false, List, [], ◌∷◌, Some, refl, sym, subst, arith}
+use Rattle.std.proofs.Common.{◌≡◌, ℕ, ◌+◌, ◌≤◌, Bool, true, false, [], ◌∷◌, Some, refl, subst, arith}
 use Rattle.std.specs.Prelude.{◌==◌, ◌||◌, ◌&&◌, not}
 use Rattle.kds_base.specs.declared.lease_key.Checkpoint.{Checkpoint}
 use Rattle.kds_base.specs.declared.lease_key.Checkpoint.TheVariants.{TrimHorizon, At, ShardEnd}
 use Rattle.kds_base.specs.declared.lease_key.ShardRef.{ShardRef}
+use Rattle.kds_base.proofs.Facts.{equal_so}
 use Rattle.kds_defs.specs.declared.entry.Entry.{Entry}
 use Rattle.kds_defs.specs.declared.entry.Entry.TheVariants as entry
 use Rattle.kds_defs.specs.declared.reply.Reply.{Reply}
@@ -14,13 +15,11 @@ use Rattle.kds_defs.specs.Leases.{row}
 use Rattle.kds_defs.specs.Legal.{IsLegal, last_clock, told}
 use Rattle.kds_defs.specs.Listings.{is_closed_at}
 use Rattle.kds_defs.specs.Streams.{is_live, is_live_after, made_count, made_count_after}
-use Rattle.kds_defs.proofs.Decisions.{passes}
 use Rattle.kcl_laws.proofs.CoverageLemmas.{CheckpointOk, all_ok}
-use Rattle.kcl_laws.proofs.Numbering.{entry_of}
-use Rattle.kcl_laws.proofs.PartitionLemmas.{equal_so}
 use Rattle.kcl_drill_drain.specs.Draining.{IsStart, records_of, shard_of}
 use Rattle.kcl_laws.specs.Recorded.{HasFrom}
 use Rattle.kds_defs.specs.Shards.{start_of}
+use Rattle.kcl_laws.proofs.Trims.{made_number}
 
 -- a row stands at its shard's end where the shard is closed
 pub ended_closed : (log : Journal) → IsLegal log → (c : ℕ) → last_clock log ≤ c → (key : ShardRef) (r : Row) → row log key ≡ Some r → r.checkpoint ≡ ShardEnd → is_closed_at (shard_of log key) ≡ true
@@ -34,16 +33,6 @@ starts log key floor (At q) first reached ended = reached q refl
 starts log key floor ShardEnd first reached ended = ended refl
 
 -- ---- streams are numbered from 1
-
-same_made : (s s' n n' : ℕ) (name name' : List ℕ) → entry.Made s name n ≡ entry.Made s' name' n' → s ≡ s'
-same_made s s' n n' name name' h = cc
-
-made_number : (log : Journal) (line : Line) (s n : ℕ) (name : List ℕ) (reply : Reply) → line.what ≡ entry.Made s name n → told log line (entry.Made s name n) ≡ Accepted (line ∷ []) reply → s ≡ made_count log + 1
-made_number log line s n name reply is h =
-    let a = passes _ _ _ _ reply h in
-    let b = passes _ _ _ _ reply a.1 in
-    let d = passes _ _ _ _ reply b.1 in
-    sym (same_made _ _ _ _ _ _ (entry_of _ line _ _ reply is d.1))
 
 live_by : (log : Journal) (line : Line) (e : Entry) (reply : Reply) (s : ℕ) → line.what ≡ e → told log line e ≡ Accepted (line ∷ []) reply → (is_live log s ≡ true → (1 ≤ s) × (s ≤ made_count log)) → is_live_after e s (is_live log s) ≡ true → (1 ≤ s) × (s ≤ made_count_after e (made_count log))
 live_by log line (entry.Made stream name count) reply s is h before live = either (stream == s) (is_live log s) refl live before

@@ -3,10 +3,11 @@
 use Rattle.std.proofs.Common.{◌≡◌, ℕ, zero, suc, ◌+◌, ◌-◌, ◌<◌, ◌≤◌, max, Bool, true, false, List, [], ◌∷◌, ◌++◌, length, map, Option, Some, refl, sym, ap, subst, ◌∙◌, arith, inl, inr}
 use Rattle.std.specs.Prelude.{nat_le, cond, slice_get, if◌then◌else◌}
 use Rattle.std.specs.Option.{option_map}
-use Rattle.std.proofs.lemmas.Bool.Decides.{nat_tests}
 use Rattle.kds_base.specs.declared.lease_key.Checkpoint.TheVariants.{TrimHorizon, At}
+use Rattle.kds_base.proofs.Facts.{le_so, above_so}
 use Rattle.kds_defs.specs.Records.{Logged, beginning, numbers_of, place_after, stored}
 use Rattle.kds_defs.specs.declared.reply.Stored.{Stored}
+use Rattle.kds_defs.proofs.Counted.{length_stored}
 use Rattle.kcl_defs.specs.Consumers.{last_number_in}
 use Rattle.kcl_drill.specs.Summed.{last_checkpoint}
 use Rattle.kcl_laws.specs.Recorded.{HasFrom, RiseBetween}
@@ -18,15 +19,9 @@ rise_up p (r ∷ rs) q is = (is.0, rise_up (r.seq + 1) rs q is.1)
 
 -- ---- at the start
 
-le_so : (p n : ℕ) → nat_le p n ≡ true → p ≤ n
-le_so p n is = grind (arith, nat_tests)
-
-lt_so : (p n : ℕ) → nat_le p n ≡ false → n < p
-lt_so p n is = grind (arith, nat_tests)
-
 none_first : (p : ℕ) (r : Logged) (rs : List Logged) (b : Bool) → nat_le p r.seq ≡ b → cond b (r ∷ from p rs) (from p rs) ≡ [] → (r.seq < p) × (from p rs ≡ [])
 none_first p r rs true is none = absurd cc
-none_first p r rs false is none = (lt_so p r.seq is, none)
+none_first p r rs false is none = (above_so p r.seq is, none)
 
 at_last : (q p : ℕ) (rs : List Logged) → IsUp p rs → HasFrom q rs → from (q + 1) rs ≡ [] → At q ≡ last_checkpoint rs
 at_last q p [] up has none = absurd has
@@ -87,10 +82,6 @@ last_seq x (y ∷ ys) = last_seq y ys
 
 abbrev seq_at : List Logged → ℕ → Option ℕ
 seq_at xs i = option_map (λ (r : Stored). r.seq) (slice_get (map stored xs) i)
-
-length_stored : (rs : List Logged) → length (map stored rs) ≡ length rs
-length_stored [] = refl
-length_stored (r ∷ rs) = ap suc (length_stored rs)
 
 last_of : (x : Logged) (xs : List Logged) → seq_at (x ∷ xs) (length xs) ≡ Some (last_seq x xs)
 unfolding last_seq

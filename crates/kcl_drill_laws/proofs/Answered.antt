@@ -1,7 +1,8 @@
 -- What a tenure that is held alone is answered.
-use Rattle.std.proofs.Common.{◌≡◌, ℕ, ◌+◌, ◌-◌, ◌<◌, Bool, true, false, List, [], ◌∷◌, drop, length, zero, suc, Some, refl, sym, ap, ◌∙◌, arith}
+use Rattle.std.proofs.Common.{◌≡◌, ℕ, ◌+◌, ◌-◌, ◌<◌, true, false, List, [], ◌∷◌, drop, length, zero, suc, Some, refl, sym, ap, ◌∙◌, arith}
 use Rattle.std.specs.Prelude.{◌==◌, ◌||◌, not, nat_le, nat_lt}
 use Rattle.std.proofs.lemmas.Bool.Decides.{nat_tests}
+use Rattle.std.proofs.lemmas.Bool.{or_from}
 use Rattle.kds_base.specs.declared.lease_key.ShardRef.{ShardRef}
 use Rattle.kds_defs.specs.declared.command.Target.{Target}
 use Rattle.kds_defs.specs.declared.command.Target.TheVariants as target
@@ -102,16 +103,13 @@ mark_answered log c x target.End holds may rest =
 
 -- ---- a taking, and the opening after it
 
-none_last : (a b : Bool) → a ≡ false → b ≡ false → (a || b) ≡ false
-none_last a b is is' = ap (λ x. x || b) is ∙ is'
-
 pub take_answered : (log : Journal) (c by owner : ℕ) (key : ShardRef) (r : Row) → row log key ≡ Some r → MayTake log r
     → take_lease log c by key r.counter owner ≡ Accepted (taken_line log c by key r owner ∷ []) (reply.Taken (taken_count log + 1) (r.counter + 1) r.checkpoint)
 take_answered log c by owner key r there may =
     with_some (row log key) refusal.NoLease _ r there
     ∙ passed_if (refusal.Moved r.counter) (not (r.counter == r.counter)) _ (same_not r.counter r.counter refl)
     ∙ passed_if refusal.Ended (is_end r.checkpoint) _ may.0
-    ∙ passed_if refusal.Spent (r.counter == last_number || taken_count log == last_number) _ (none_last (r.counter == last_number) (taken_count log == last_number) may.1 may.2)
+    ∙ passed_if refusal.Spent (r.counter == last_number || taken_count log == last_number) _ (or_from (r.counter == last_number) (taken_count log == last_number) may.1 may.2)
 
 pub open_answered : (log : Journal) (c d by owner : ℕ) (key : ShardRef) (r : Row) → row log key ≡ Some r → is_listed_key (taken_line log d by key r owner ∷ log) c key ≡ true → ArePast (taken_line log d by key r owner ∷ log) c key
     → open_shard (taken_line log d by key r owner ∷ log) c by (taken_count log + 1) ≡ Accepted (opened_line log c by ∷ []) reply.Done

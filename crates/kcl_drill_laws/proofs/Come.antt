@@ -1,22 +1,16 @@
 -- How far a tenure has come after each of its lines.
-use Rattle.std.proofs.Common.{◌≡◌, ℕ, ◌+◌, ◌≤◌, true, List, [], ◌∷◌, ◌++◌, drop, length, take, zero, suc, Option, Some, refl, ap, ◌∙◌, arith}
-use Rattle.std.specs.Prelude.{◌==◌, ◌&&◌, if◌then◌else◌}
+use Rattle.std.proofs.Common.{◌≡◌, ℕ, ◌+◌, ◌≤◌, List, [], ◌∷◌, ◌++◌, drop, length, take, zero, suc, Option, Some, refl, ap, ◌∙◌, arith}
+use Rattle.std.specs.Prelude.{◌==◌, if◌then◌else◌}
 use Rattle.std.specs.Option.{option_map}
-use Rattle.std.proofs.lemmas.Bool.Decides.{nat_tests}
 use Rattle.kds_base.specs.declared.lease_key.ShardRef.{ShardRef}
+use Rattle.kds_base.proofs.Facts.{is_itself}
 use Rattle.kds_defs.specs.declared.command.Target.{Target}
 use Rattle.kds_defs.specs.declared.reply.Row.{Row}
 use Rattle.kds_defs.specs.Journal.{Journal}
-use Rattle.kds_defs.specs.Keys.{same_key}
 use Rattle.kds_defs.specs.Leases.{TenureState, ReadDone, checkpoint_in, delivered, given_reads, is_key, key_of, last_ended, marked_row, new_tenure, place_after_reads, place_of, row, taken_count, taken_row, tenure, with_given, with_opened, with_read}
 use Rattle.kds_defs.specs.Records.{place_after}
+use Rattle.kds_defs.proofs.Keys.{key_itself}
 use Rattle.kcl_drill_laws.specs.Holding.{Holding, Holds, after_give, after_mark, after_read, begun_from, given_line, marked_line, opened_line, read_line, taken_line}
-
-same_is : (a : ℕ) → (a == a) ≡ true
-same_is a = grind (arith, nat_tests)
-
-same_key_is : (key : ShardRef) → same_key key key ≡ true
-same_key_is key = ap (λ b. b && (key.shard == key.shard)) (same_is key.stream) ∙ same_is key.shard
 
 -- ---- lists of reads
 
@@ -90,16 +84,16 @@ given_place T r rest is = ap (place_after_reads (place_of T.start)) (one_more_gi
 
 pub begun_tenure : (log : Journal) (c by owner : ℕ) (key : ShardRef) (r : Row) → row log key ≡ Some r → tenure (taken_line log c by key r owner ∷ log) (taken_count log + 1) ≡ Some (new_tenure by key r.checkpoint)
 begun_tenure log c by owner key r there =
-    ap (λ b. if b then Some (new_tenure by key (checkpoint_in (row log key))) else tenure log (taken_count log + 1)) (same_is (taken_count log + 1))
+    ap (λ b. if b then Some (new_tenure by key (checkpoint_in (row log key))) else tenure log (taken_count log + 1)) (is_itself (taken_count log + 1))
     ∙ ap (λ k. Some (new_tenure by key k)) (ap checkpoint_in there)
 
 pub begun_row : (log : Journal) (c by owner : ℕ) (key : ShardRef) (r : Row) → row log key ≡ Some r → row (taken_line log c by key r owner ∷ log) key ≡ Some (taken_row (taken_count log + 1) owner r)
 begun_row log c by owner key r there =
-    ap (λ b. if b then option_map (taken_row (taken_count log + 1) owner) (row log key) else row log key) (same_key_is key)
+    ap (λ b. if b then option_map (taken_row (taken_count log + 1) owner) (row log key) else row log key) (key_itself key)
     ∙ ap (option_map (taken_row (taken_count log + 1) owner)) there
 
 told : (t : ℕ) (o : Option TenureState) (T : TenureState) (f : TenureState → TenureState) → o ≡ Some T → (if t == t then option_map f o else o) ≡ Some (f T)
-told t o T f is = ap (λ b. if b then option_map f o else o) (same_is t) ∙ ap (option_map f) is
+told t o T f is = ap (λ b. if b then option_map f o else o) (is_itself t) ∙ ap (option_map f) is
 
 none_dropped : (rs : List ReadDone) → rs ≡ [] → drop 0 rs ≡ []
 none_dropped [] is = refl
@@ -113,7 +107,7 @@ begun_holds log c d by owner key r there =
       tenure = record {
         state = with_opened (new_tenure by key r.checkpoint);
         begun = told t (tenure now t) (new_tenure by key r.checkpoint) with_opened (begun_tenure log c by owner key r there);
-        took = ap (λ b. if b then Some key else key_of log t) (same_is t);
+        took = ap (λ b. if b then Some key else key_of log t) (is_itself t);
         own = refl;
         of_key = refl;
         opened = refl;
@@ -189,7 +183,7 @@ mark_holds log c x to holds =
       tenure = record { state = has.state; begun = has.begun; took = has.took; own = has.own; of_key = has.of_key; opened = has.opened; up_to = has.up_to; given_to = has.given_to; some = has.some; waits = has.waits; last = has.last };
       row = record {
         now = marked_row to held.now;
-        there = ap (λ b. if b then option_map (marked_row to) (row log x.key) else row log x.key) (ap (λ o. is_key o x.key) has.took ∙ same_key_is x.key) ∙ ap (option_map (marked_row to)) held.there;
+        there = ap (λ b. if b then option_map (marked_row to) (row log x.key) else row log x.key) (ap (λ o. is_key o x.key) has.took ∙ key_itself x.key) ∙ ap (option_map (marked_row to)) held.there;
         of_tenure = held.of_tenure;
         counted = ap (λ m. m + 1) held.counted;
         checkpoint = refl;

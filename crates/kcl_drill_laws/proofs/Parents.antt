@@ -1,9 +1,10 @@
 -- The parents of a shard were closed when it was made.
 use Rattle.std.proofs.Common.{◌≡◌, ℕ, zero, suc, ◌+◌, ◌<◌, Bool, true, false, List, [], ◌∷◌, ◌++◌, length, Option, Some, None, refl, subst, arith}
-use Rattle.std.specs.Prelude.{◌==◌, ◌&&◌, slice_get, if◌then◌else◌}
+use Rattle.std.specs.Prelude.{◌==◌, slice_get, if◌then◌else◌}
 use Rattle.std.specs.List.{AllByRecursion}
-use Rattle.std.proofs.lemmas.Bool.Decides.{nat_tests}
+use Rattle.std.proofs.lemmas.Bool.{and_parts}
 use Rattle.kds_base.specs.Span.{Span, joined, lower_part, upper_part, uniform}
+use Rattle.kds_base.proofs.Facts.{equal_so}
 use Rattle.kds_defs.specs.declared.entry.Entry.{Entry}
 use Rattle.kds_defs.specs.declared.entry.Entry.TheVariants as entry
 use Rattle.kds_defs.specs.declared.reply.Reply.{Reply}
@@ -15,6 +16,7 @@ use Rattle.kds_defs.specs.Records.{next_number}
 use Rattle.kds_defs.specs.Shards.{Closing, ShardState, first_shards, merged_shards, new_shard, range_of, shard_at, shards, shards_after, split_shards, with_closed}
 use Rattle.kds_defs.specs.StreamCommands.{is_open_at}
 use Rattle.kds_defs.proofs.Decisions.{passes, holds_so}
+use Rattle.kds_defs.proofs.Numbers.{length-closed}
 use Rattle.kcl_drill_laws.specs.Parents.{AreParentsClosed, IsParentClosed}
 
 -- ---- closed shards stay closed
@@ -41,11 +43,6 @@ below_length : (n : ℕ) (xs : List ShardState) → is_open_at (slice_get xs n) 
 below_length n [] is = absurd cc
 below_length zero (x ∷ xs) is = omega arith
 below_length (suc n) (x ∷ xs) is = let e = below_length n xs is in omega (arith, e)
-
-length_closed : (n : ℕ) (closing : Closing) (xs : List ShardState) → length (with_closed n closing xs) ≡ length xs
-length_closed n closing [] = refl
-length_closed zero closing (x ∷ xs) = refl
-length_closed (suc n) closing (x ∷ xs) = let e = length_closed n closing xs in omega (arith, e)
 
 -- ---- the shards of a journal
 
@@ -90,7 +87,7 @@ merged_closed xs sh other start closing below below' are =
     let old = with_closed other closing first in
     let new = new_shard (length xs) (joined (range_of (slice_get xs sh)) (range_of (slice_get xs other))) (Some sh) (Some other) start ∷ [] in
     let one = closed_more old new sh (closed_stays other sh closing first (closed_now sh closing xs below)) in
-    let two = closed_more old new other (closed_now other closing first (omega (arith, below', length_closed sh closing xs))) in
+    let two = closed_more old new other (closed_now other closing first (omega (arith, below', length-closed sh closing xs))) in
     all_more (old ++ new) old new
     (all_in xs (old ++ new) old (λ p is. closed_more old new p (closed_stays other p closing first (closed_stays sh p closing xs is))) (all_closed xs other closing first (all_closed xs sh closing xs are)))
     (((below, one), (below', two)), tt)
@@ -98,13 +95,6 @@ merged_closed xs sh other start closing below below' are =
 choice : (b : Bool) (xs ys : List ShardState) → (b ≡ true → AreParentsClosed xs) → AreParentsClosed ys → AreParentsClosed (if b then xs else ys)
 choice true xs ys new old = new refl
 choice false xs ys new old = old
-
-equal_so : (a b : ℕ) → (a == b) ≡ true → a ≡ b
-equal_so a b h = grind (arith, nat_tests)
-
-both_hold : (a b : Bool) → (a && b) ≡ true → (a ≡ true) × (b ≡ true)
-both_hold true b h = (refl, h)
-both_hold false b h = absurd cc
 
 -- an open shard of this stream
 open_below : (log : Journal) (stream s sh : ℕ) → (stream == s) ≡ true → is_open_at (shard_at log stream sh) ≡ true → sh < length (shards log s)
@@ -121,7 +111,7 @@ parents_by log line (entry.Merged stream sh other number child) reply s start h 
     let a = passes _ _ _ _ reply h in
     let b = passes _ _ _ _ reply a.1 in
     let d = passes _ _ _ _ reply b.1 in
-    let two = both_hold _ _ (holds_so _ d.0) in
+    let two = and_parts _ _ (holds_so _ d.0) in
     choice (stream == s) _ (shards log s) (λ same. merged_closed (shards log s) sh other start (record { number = number; clock = line.clock }) (open_below log stream s sh same two.0) (open_below log stream s other same two.1) old) old
 parents_by log line _ reply s start h old = old
 

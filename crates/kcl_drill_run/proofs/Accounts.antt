@@ -1,12 +1,13 @@
 -- The accounts of the workers of a drill.
-use Rattle.std.proofs.Common.{◌≡◌, ℕ, zero, suc, ◌+◌, ◌<◌, ◌≤◌, Bool, cond, List, [], ◌∷◌, ◌++◌, length, map, refl, ap, ◌∙◌, arith, eq-eqb}
+use Rattle.std.proofs.Common.{◌≡◌, ℕ, zero, suc, ◌+◌, ◌<◌, ◌≤◌, List, [], ◌∷◌, ◌++◌, length, map, refl, ap, ◌∙◌, arith}
 use Rattle.std.specs.Prelude.{flat_map}
 use Rattle.std.specs.List.{All, AllByRecursion}
 use mathlib.Core.Logic.{dite}
 use native.Mathlib.Decide.{ℕ_discrete}
 use Rattle.kds_turn.specs.declared.view.Account.{Account}
-use Rattle.kds_turn.specs.Known.{account, has, times}
+use Rattle.kds_turn.specs.Known.{account, times}
 use Rattle.kds_turn.specs.Passes.{Place, Standing}
+use Rattle.kds_turn.proofs.Turns.{has_one}
 use Rattle.kcl_closed.specs.Closed.{all_accounts}
 use Rattle.kcl_live.specs.declared.crew.Member.{Member}
 use Rattle.kcl_drill_run.specs.Running.{HavePasses, account_in, accounts_in}
@@ -43,9 +44,6 @@ module _ {M P F G : Type 0} where
   of_accounts Q (m ∷ ms) of = (of.0, of_accounts Q ms of.1)
 
 -- ---- each number is there
-
-has_one : (n : ℕ) (a : Account) → a.by ≡ n → has n a ≡ 1
-has_one n a e = ap (λ (b : Bool). cond b 1 0) (eq-eqb a.by n e)
 
 has_some : (from n : ℕ) (xs : List Account) → CountFrom from xs → from ≤ n → n < from + length xs → 0 < times n xs
 has_some from n [] are least most = absurd (omega (arith, least, most))

@@ -12,10 +12,10 @@ use Rattle.kcl_closed.specs.Closed.{AreFromHorizon, IsClosed, IsFew, IsMemberAcc
 use Rattle.kcl_drill.specs.Fed.{IsDrill}
 use Rattle.kcl_live.specs.declared.crew.Member.{Member}
 use Rattle.kcl_world.specs.Standing.{StandsFor, WorldValue}
+use Rattle.kds_turn.proofs.Turns.{continues_all}
 use Rattle.kcl_drill_run.specs.Running.{AreShort, HasDrilled, HasTaken, HaveRun, HaveStopped, IsShort, account_in}
 use Rattle.kcl_drill_run.specs.declared.participants.Participants.{Participants}
 use Rattle.kcl_drill_run.proofs.Accounts.{count_accounts, counted, each_alone, has_each, of_accounts}
-use Rattle.kcl_live.proofs.Histories.{continues_all}
 
 -- what the laws `closed` and `stopped` say
 pub record HasLaws : Type 0 where

@@ -3,6 +3,7 @@ use Rattle.std.proofs.Common.{◌≡◌, ℕ, zero, suc, ◌+◌, ◌-◌, ◌<�
 use Rattle.std.specs.Prelude.{not, nat_le, nat_lt, ◌&&◌, cond, if◌then◌else◌}
 use Rattle.std.specs.List.{AllByRecursion, filter}
 use Rattle.std.proofs.lemmas.Bool.Decides.{nat_tests}
+use Rattle.kds_base.proofs.Facts.{le_so, is_le, is_above, above_so}
 use Rattle.kds_defs.specs.Records.{Logged, beginning, left_among, logged, numbers_of, place_after, stored}
 use Rattle.kcl_laws.specs.Recorded.{IsSized}
 use Rattle.kcl_drill_summary.specs.Counting.{AreAbove}
@@ -19,18 +20,6 @@ IsUp p (r ∷ rs) = (p ≤ r.seq) × IsUp (r.seq + 1) rs
 -- the records from a number on
 abbrev pub from : ℕ → List Logged → List Logged
 from p rs = filter (λ (r : Logged). nat_le p r.seq) rs
-
-le_so : (p n : ℕ) → nat_le p n ≡ true → p ≤ n
-le_so p n is = grind (arith, nat_tests)
-
-so_le : (p n : ℕ) → p ≤ n → nat_le p n ≡ true
-so_le p n is = grind (arith, nat_tests)
-
-not_le : (p n : ℕ) → n < p → nat_le p n ≡ false
-not_le p n is = grind (arith, nat_tests)
-
-lt_so : (p n : ℕ) → nat_le p n ≡ false → n < p
-lt_so p n is = grind (arith, nat_tests)
 
 pub up_weaker : (p m : ℕ) (rs : List Logged) → p ≤ m → IsUp m rs → IsUp p rs
 up_weaker p m [] le up = tt
@@ -55,7 +44,7 @@ up_from p m (r ∷ rs) up = up_head p r rs (nat_le p r.seq) refl up.1 (up_from p
 pub all_from : (p : ℕ) (rs : List Logged) → IsUp p rs → from p rs ≡ rs
 all_from p [] up = refl
 all_from p (r ∷ rs) up =
-    ap (λ b. cond b (r ∷ from p rs) (from p rs)) (so_le p r.seq up.0)
+    ap (λ b. cond b (r ∷ from p rs) (from p rs)) (is_le p r.seq up.0)
     ∙ ap (λ xs. r ∷ xs) (all_from p rs (up_weaker p (r.seq + 1) rs (omega (arith, up.0)) up.1))
 
 pub place_up : (limit room p : ℕ) (rs : List Logged) → IsUp p rs → p ≤ place_after p (numbers_of (beginning limit room rs))
@@ -72,7 +61,7 @@ part_head : (p : ℕ) (r : Logged) (rs bs : List Logged) (b : Bool) → p ≤ r.
 part_head p r rs bs true le up above rest =
     let place = place_after (r.seq + 1) (numbers_of bs) in
     ap (λ xs. r ∷ xs) rest
-    ∙ ap (λ b. r ∷ (bs ++ cond b (r ∷ from place rs) (from place rs))) (sym (not_le place r.seq (omega (arith, above))))
+    ∙ ap (λ b. r ∷ (bs ++ cond b (r ∷ from place rs) (from place rs))) (sym (is_above place r.seq (omega (arith, above))))
 part_head p r rs bs false le up above rest = sym (all_from p (r ∷ rs) (le, up))
 
 -- a batch, and those from the place after it on, are all
@@ -87,7 +76,7 @@ twice_head : (p place : ℕ) (r : Logged) (rs : List Logged) → p ≤ place →
     → from place (cond b (r ∷ from p rs) (from p rs)) ≡ cond d (r ∷ from place rs) (from place rs)
 twice_head p place r rs le true true is at so = ap (λ b. cond b (r ∷ from place (from p rs)) (from place (from p rs))) at ∙ ap (λ xs. r ∷ xs) so
 twice_head p place r rs le true false is at so = ap (λ b. cond b (r ∷ from place (from p rs)) (from place (from p rs))) at ∙ so
-twice_head p place r rs le false true is at so = absurd (omega (arith, le, le_so place r.seq at, lt_so p r.seq is))
+twice_head p place r rs le false true is at so = absurd (omega (arith, le, le_so place r.seq at, above_so p r.seq is))
 twice_head p place r rs le false false is at so = so
 
 pub from_twice : (p place : ℕ) (rs : List Logged) → p ≤ place → from place (from p rs) ≡ from place rs
@@ -113,7 +102,7 @@ sized_from p (r ∷ rs) are = either (nat_le p r.seq) (sized_from p rs are.1)
 
 pub stuck : (limit p : ℕ) (rs : List Logged) → IsUp p rs → AreSized rs → nat_lt p (place_after p (numbers_of (beginning (suc limit) 10485760 rs))) ≡ false → rs ≡ []
 stuck limit p [] up are is = refl
-stuck limit p (r ∷ rs) up are is = absurd (either (nat_le r.bytes 10485760) (so_le r.bytes 10485760 (omega (arith, are.0.1))) is)
+stuck limit p (r ∷ rs) up are is = absurd (either (nat_le r.bytes 10485760) (is_le r.bytes 10485760 (omega (arith, are.0.1))) is)
   where
     either : (b : Bool) → b ≡ true → nat_lt p (place_after p (numbers_of (if b then r ∷ beginning limit (10485760 - r.bytes) rs else []))) ≡ false → ⊥
     either false fits h = absurd cc
@@ -131,10 +120,6 @@ bytes_append (x ∷ xs) ys = let n = bytes_append xs ys in omega (arith, n)
 pub length_append : (xs ys : List Logged) → length (xs ++ ys) ≡ length xs + length ys
 length_append [] ys = omega arith
 length_append (x ∷ xs) ys = let n = length_append xs ys in omega (arith, n)
-
-pub length_stored : (rs : List Logged) → length (map stored rs) ≡ length rs
-length_stored [] = refl
-length_stored (r ∷ rs) = let n = length_stored rs in omega (arith, n)
 
 pub bytes_stored : (rs : List Logged) → bytes_of (map logged (map stored rs)) ≡ bytes_of rs
 bytes_stored [] = refl

@@ -1,7 +1,8 @@
 -- One read further: what is counted and what is left stay all the records.
 use Rattle.std.proofs.Common.{◌≡◌, ℕ, ◌+◌, ◌*◌, ◌<◌, ◌≤◌, ◌^◌, Bool, true, false, List, [], ◌∷◌, ◌++◌, length, map, Option, Some, None, refl, sym, ap, subst, ◌∙◌, arith}
-use Rattle.std.specs.Prelude.{◌&&◌, not, nat_lt, if◌then◌else◌, Result, Ok}
+use Rattle.std.specs.Prelude.{not, nat_lt, if◌then◌else◌, Result, Ok}
 use Rattle.std.proofs.lemmas.Bool.Decides.{nat_tests}
+use Rattle.std.proofs.lemmas.Bool.{and_parts}
 use Rattle.kds_defs.specs.declared.command.Command.TheVariants as command
 use Rattle.kds_defs.specs.declared.limits.TheConstants.{BATCH_BYTES}
 use Rattle.kds_defs.specs.declared.reply.Iter.{Iter}
@@ -16,15 +17,12 @@ use Rattle.kds_defs.specs.Records.{Logged, batch, beginning, left_among, left_fr
 use Rattle.kds_defs.specs.Shards.{children, is_listed, shard_at, shown, start_of}
 use Rattle.kds_defs.specs.Streams.{is_live, trim_floor}
 use Rattle.kds_defs.proofs.Decisions.{passed_if}
+use Rattle.kds_defs.proofs.Counted.{length_stored}
 use Rattle.kcl_laws.specs.Recorded.{AreDrawn, RiseBetween}
 use Rattle.kcl_drill_summary.specs.Counting.{CanCount, CountsTo, GoesOn, next_above}
 use Rattle.kcl_drill.specs.Summed.{bytes_of}
 use Rattle.kcl_drill_summary.specs.Summing.{Absorbs}
-use Rattle.kcl_drill_summary.proofs.BatchLemmas.{AreSized, IsUp, from, up_from, parts, place_up, from_twice, left_all, sized_from, stuck, up_weaker, all_from, bytes_append, length_append, length_stored, bytes_stored}
-
-both_hold : (a b : Bool) → (a && b) ≡ true → (a ≡ true) × (b ≡ true)
-both_hold true b h = (refl, h)
-both_hold false b h = absurd cc
+use Rattle.kcl_drill_summary.proofs.BatchLemmas.{AreSized, IsUp, from, up_from, parts, place_up, from_twice, left_all, sized_from, stuck, up_weaker, all_from, bytes_append, length_append, bytes_stored}
 
 -- ---- what holds of the records of each shard
 
@@ -102,7 +100,7 @@ all_counted count bytes rest all none counts =
 
 ended : (log : Journal) (c s sh p place count bytes count' bytes' : ℕ) (next' : Option Iter) → CanCount log c s sh → ends_at log c s sh place ≡ true → CountsTo count' bytes' (from place (records log s sh)) (records log s sh) → next' ≡ next_above p None → GoesOn log c s sh count' bytes' next'
 ended log c s sh p place count bytes count' bytes' next' can ends counts is =
-    let none = none_so (left_from log c s sh place) (both_hold (is_closed_at (shard_at log s sh)) (are_none (left_from log c s sh place)) ends).1 in
+    let none = none_so (left_from log c s sh place) (and_parts (is_closed_at (shard_at log s sh)) (are_none (left_from log c s sh place)) ends).1 in
     subst (GoesOn log c s sh count' bytes') (sym is) (all_counted count' bytes' (from place (records log s sh)) (records log s sh) (sym (left_is log c s sh place can) ∙ none) counts)
 
 goes_on : (log : Journal) (c s sh p place count' bytes' : ℕ) (next' : Option Iter) (b : Bool) → CanCount log c s sh → nat_lt p place ≡ b → (nat_lt p place ≡ false → from place (records log s sh) ≡ [])

@@ -39,9 +39,6 @@ iterated log c by s sh name a is named can told =
 
 -- ---- the iterator, where it is of the key's stream
 
-same_number : (a b : ℕ) → (a == b) ≡ true → a ≡ b
-same_number a b h = grind (arith, nat_tests)
-
 turned : (a b : ℕ) (d : Bool) → (a == b) ≡ d → (b == a) ≡ d
 turned a b true h = grind (arith, nat_tests)
 turned a b false h = grind (arith, nat_tests)

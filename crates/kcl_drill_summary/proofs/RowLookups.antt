@@ -1,7 +1,6 @@
 -- The first row of a key among all rows is the key's row.
-use Rattle.std.proofs.Common.{◌≡◌, ℕ, ◌+◌, arith, Bool, true, false, List, [], ◌∷◌, Option, Some, None, refl, sym, ap, ◌∙◌}
-use Rattle.std.specs.Prelude.{cond, ◌==◌, ◌&&◌, ◌||◌, if◌then◌else◌}
-use Rattle.std.proofs.lemmas.Bool.Decides.{nat_tests}
+use Rattle.std.proofs.Common.{◌≡◌, ◌+◌, Bool, true, false, List, [], ◌∷◌, Option, Some, None, refl, sym, ap, ◌∙◌}
+use Rattle.std.specs.Prelude.{cond, ◌||◌, if◌then◌else◌}
 use Rattle.std.specs.Option.{option_map}
 use Rattle.std.specs.List.{cons_option}
 use Rattle.kds_base.specs.declared.lease_key.ShardRef.{ShardRef}
@@ -11,21 +10,8 @@ use Rattle.kds_defs.specs.declared.reply.Row.{Row}
 use Rattle.kds_defs.specs.Journal.{Line, Journal}
 use Rattle.kds_defs.specs.Keys.{is_before, same_key}
 use Rattle.kds_defs.specs.Leases.{row, row_after, rows, rows_at, row_keys, row_keys_after, with_key, without_key, key_of, is_key, made_row, taken_count, taken_row, renewed_row, freed_row, marked_row}
+use Rattle.kds_defs.proofs.Keys.{same_ref}
 use Rattle.kcl_drill_summary.specs.Counting.{row_in}
-
-both_hold : (a b : Bool) → (a && b) ≡ true → (a ≡ true) × (b ≡ true)
-both_hold true b h = (refl, h)
-both_hold false b h = absurd cc
-
-equal_so : (a b : ℕ) → (a == b) ≡ true → a ≡ b
-equal_so a b h = grind (arith, nat_tests)
-
-same_ref : (a b : ShardRef) → same_key a b ≡ true → a ≡ b
-same_ref a b h =
-    let p = both_hold (a.stream == b.stream) (a.shard == b.shard) h in
-    let s = equal_so a.stream b.stream p.0 in
-    let t = equal_so a.shard b.shard p.1 in
-    λ i. record { stream = s i; shard = t i }
 
 mapped : (f : Row → Row) (o : Option Row) (y : Row) → option_map f o ≡ Some y → (x : Row) × (o ≡ Some x) × (f x ≡ y)
 mapped f None y h = absurd cc

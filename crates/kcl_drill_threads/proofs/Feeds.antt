@@ -6,10 +6,11 @@ use Rattle.kds_defs.specs.declared.command.Turn.{Turn}
 use Rattle.kds_turn.specs.declared.pass.TurnErr.{TurnErr}
 use Rattle.kds_turn.specs.Known.{Continues, turns_by}
 use Rattle.kds_turn.specs.Passes.{Standing}
+use Rattle.kds_turn.proofs.Turns.{continues_all}
 use Rattle.kcl_drill.specs.Generated.{generated}
 use Rattle.kcl_drill_threads.specs.Asking.{Asks, HasAsked, HasBegun, IsAskErr, IsKept, turn_of}
 use Rattle.kcl_drill_threads.specs.Feeding.{Feeds, HasFed, HasFedSoFar, IsAfter, IsAtOwn, IsCrowdErr, IsFeedErr}
-use Rattle.kcl_drill_threads.proofs.Passing.{asked_all, asked_more, asked_same, begun_by, continues_all, kept_all, kept_same, none_before, none_before_one}
+use Rattle.kcl_drill_threads.proofs.Passing.{asked_all, asked_more, asked_same, begun_by, kept_all, kept_same, none_before, none_before_one}
 
 -- ---- the root
 

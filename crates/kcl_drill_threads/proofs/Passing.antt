@@ -1,24 +1,18 @@
 -- Passes that take commands one after another.
-use Rattle.std.proofs.Common.{◌≡◌, ℕ, ◌+◌, true, List, [], ◌∷◌, ◌++◌, length, map, refl, sym, ap, ◌∙◌, arith, append_assoc, length-append}
-use Rattle.std.specs.Prelude.{◌==◌, cond, take}
-use Rattle.std.proofs.lemmas.Bool.Decides.{nat_tests}
+use Rattle.std.proofs.Common.{◌≡◌, ℕ, ◌+◌, List, [], ◌∷◌, ◌++◌, length, map, refl, sym, ap, ◌∙◌, arith, length-append}
+use Rattle.std.specs.Prelude.{cond, take}
 use Rattle.std.proofs.lemmas.List.{append-nil, reverse-append}
 use Rattle.std.proofs.lemmas.List.Elements.{filter-append}
 use Rattle.std.proofs.Math.Seq.{take-append_seam}
+use Rattle.kds_base.proofs.Facts.{is_equal}
 use Rattle.kds_defs.specs.declared.command.Command.{Command}
 use Rattle.kds_defs.specs.declared.command.Turn.{Turn}
 use Rattle.kds_turn.specs.Known.{Continues, is_by, turns_by}
 use Rattle.kds_turn.specs.Passes.{Standing}
+use Rattle.kds_turn.proofs.Turns.{continues_all, no_length}
 use Rattle.kcl_drill_threads.specs.Asking.{HasAsked, HasBegun, IsKept, turn_of, turns_of}
 
 -- ---- lists of turns that go on with one another
-
-pub continues_all : (a b c : List Turn) → Continues a b → Continues b c → Continues a c
-continues_all a b c p q = (p.0 ++ q.0, p.1 ∙ (ap (λ l. p.0 ++ l) q.1 ∙ sym (append_assoc p.0 q.0 c)))
-
-no_length : (l : List Turn) → length l ≡ 0 → l ≡ []
-no_length [] e = refl
-no_length (x ∷ l) e = absurd (omega (arith, e))
 
 -- an actor without turns had none before
 pub none_before : (n : ℕ) (h seen : List Turn) → Continues h seen → turns_by n h ≡ [] → turns_by n seen ≡ []
@@ -27,13 +21,10 @@ none_before n h seen c none =
     let total : length (turns_by n c.0 ++ turns_by n seen) ≡ 0 = ap length (sym cut ∙ none) in
     no_length (turns_by n seen) (omega (arith, total, length-append (turns_by n c.0) (turns_by n seen)))
 
-is_self : (n m : ℕ) → n ≡ m → (n == m) ≡ true
-is_self n m e = grind (arith, nat_tests)
-
 -- before an actor's only turn it has none
 pub none_before_one : (n : ℕ) (turn : Turn) (place : List Turn) → turn.by ≡ n → turns_by n (turn ∷ place) ≡ turn ∷ [] → turns_by n place ≡ []
 none_before_one n turn place by one =
-    let two : turn ∷ turns_by n place ≡ turn ∷ [] = sym (ap (λ b. cond b (turn ∷ turns_by n place) (turns_by n place)) (is_self turn.by n by)) ∙ one in
+    let two : turn ∷ turns_by n place ≡ turn ∷ [] = sym (ap (λ b. cond b (turn ∷ turns_by n place) (turns_by n place)) (is_equal turn.by n by)) ∙ one in
     let count = ap length two in
     no_length (turns_by n place) (omega (arith, count))
 

@@ -6,6 +6,7 @@ use Rattle.std.proofs.lemmas.Bool.Decides.{nat_tests}
 use Rattle.std.proofs.lemmas.List.{take-append-drop}
 use Rattle.kds_base.specs.declared.lease_key.Checkpoint.{Checkpoint}
 use Rattle.kds_base.specs.declared.lease_key.Checkpoint.TheVariants.{TrimHorizon, At, ShardEnd}
+use Rattle.kds_base.proofs.Facts.{same_some}
 use Rattle.kds_defs.specs.declared.command.Turn.{Turn}
 use Rattle.kds_defs.specs.declared.reply.Row.{Row}
 use Rattle.kds_defs.specs.declared.reply.Stored.{Stored}
@@ -15,7 +16,6 @@ use Rattle.kds_defs.specs.Leases.{ReadDone, TenureState, checkpoint_in, given_re
 use Rattle.kds_defs.specs.Safe.{IsAmong, RiseFrom, all_numbers}
 use Rattle.kcl_laws.proofs.CoverageLemmas.{all_covered}
 use Rattle.kcl_laws.proofs.LegalLemmas.{journals}
-use Rattle.kcl_laws.proofs.Steps.{same_some}
 use Rattle.kcl_defs.specs.declared.consumer.Fetched.{Fetched}
 use Rattle.kcl_defs.specs.declared.consumer.Tenancy.{Tenancy}
 use Rattle.kcl_defs.specs.declared.consumer.WorkerMade.{WorkerMade}

@@ -1,7 +1,7 @@
 -- A number in a range, a hash key, a name, a switch and the sizes of a put each have one text.
 use Rattle.std.proofs.Common.{◌≡◌, ℕ, ◌+◌, ◌<◌, ◌≤◌, ◌^◌, List, ◌∷◌, ◌++◌, Bool, true, false, Option, Some, None, refl, sym, ap, ◌∙◌, arith, codes, decimal, inl, inr, subst}
 use Rattle.std.proofs.lemmas.Grind.{common_steps}
-use Rattle.std.proofs.lemmas.Bool.{cases_Bool}
+use Rattle.std.proofs.lemmas.Bool.{cases_Bool, and_parts}
 use Rattle.std.proofs.lemmas.Slice.Eq.{bytes_eq-Decides}
 use Rattle.std.specs.Char.{is_ascii_digit}
 use Rattle.std.specs.Prelude.{◌&&◌, if◌then◌else◌, option_map, option_and_then, nat_le}
@@ -12,7 +12,7 @@ use Rattle.kds_base.proofs.NumberLemmas.{decimal_of_number, decimal_plain, few_d
 use Rattle.kds_defs.specs.declared.limits.TheConstants.{RECORD_BYTES}
 use Rattle.kcl_script_fields.specs.Fields.{Lacks, two}
 use Rattle.kcl_script_fields.proofs.Forms.{IsForm, decimal_lacks, two_form}
-use Rattle.kcl_script_fields.proofs.Parts.{both, kind_lacks, map_some}
+use Rattle.kcl_script_fields.proofs.Parts.{kind_lacks, map_some}
 use Rattle.kcl_script_fields.proofs.RawLemmas.{choose}
 use Rattle.kcl_journal.specs.declared.line.TheConstants.{FIRST_RECORD_BYTES, KEY_BYTES}
 use Rattle.kcl_journal.specs.Entries.{counter_of, fitting, greatest64, hash_of, sizes_by, sizes_text_by, switch_of, switch_text, within, within_of}
@@ -92,7 +92,7 @@ pub name_form : IsForm IsName name_of same_text
 name_form = record { spells = λ text name h. name_is (is_name text) text name refl h; again = name_again }
 
 pub name_without : (sep : ℕ) (name : List ℕ) → is_name_byte sep ≡ false → IsName name → Lacks sep name
-name_without sep name other v = kind_lacks is_name_byte sep name other (both _ _ v).1
+name_without sep name other v = kind_lacks is_name_byte sep name other (and_parts _ _ v).1
 
 pub name_lacks : (name : List ℕ) → IsName name → Lacks 32 name
 name_lacks name v = name_without 32 name refl v

@@ -1,27 +1,21 @@
 -- Lines that are added to a legal journal, and what a decision is once its tests passed.
-use Rattle.std.proofs.Common.{◌≡◌, ℕ, suc, ◌+◌, ◌≤◌, Bool, true, false, List, refl, ap, arith}
+use Rattle.std.proofs.Common.{◌≡◌, ℕ, suc, ◌+◌, ◌≤◌, true, false, List, ap, arith}
 use Rattle.std.specs.Prelude.{◌==◌, not, nat_lt, if◌then◌else◌}
 use Rattle.std.proofs.lemmas.Bool.Decides.{nat_tests}
-use Rattle.kds_defs.specs.declared.reply.Refusal.{Refusal}
 use Rattle.kds_defs.specs.declared.reply.Refusal.TheVariants as refusal
-use Rattle.kds_defs.specs.Decision.{Decision, refuse◌if◌else◌}
+use Rattle.kds_defs.specs.Decision.{Decision}
 use Rattle.kds_defs.specs.Journal.{Line, Journal, with_lines}
 use Rattle.kds_defs.specs.Legal.{in_stream, IsLegal, last_clock}
 use Rattle.kds_defs.specs.Streams.{is_live}
+use Rattle.kds_defs.proofs.Decisions.{passed_if}
 
 -- the journal with these lines is legal, and its clock is at most c
 pub record Adds (log : Journal) (lines : List Line) (c : ℕ) : Type 0 where
   pub legal : IsLegal (with_lines lines log)
   pub clock : last_clock (with_lines lines log) ≤ c
 
--- a test that does not refuse
-pub retested : (r : Refusal) (b : Bool) (d : Decision) → b ≡ false → (refuse r if b else d) ≡ d
-unfolding refuse◌if◌else◌
-retested r true d h = absurd cc
-retested r false d h = refl
-
 pub in_live : (log : Journal) (s : ℕ) (d : Decision) → is_live log s ≡ true → in_stream log s d ≡ d
-in_live log s d live = retested refusal.NoStream (not (is_live log s)) d (ap not live)
+in_live log s d live = passed_if refusal.NoStream (not (is_live log s)) d (ap not live)
 
 pub draws_one : (s n m : ℕ) → n ≡ m → n + 1 ≡ (if s == s then 1 else 0) + m
 draws_one s n m h = grind (arith, nat_tests)

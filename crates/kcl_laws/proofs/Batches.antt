@@ -3,6 +3,8 @@ use Rattle.std.proofs.Common.{◌≡◌, ℕ, zero, suc, ◌+◌, ◌-◌, ◌<�
 use Rattle.std.specs.Prelude.{◌==◌, ◌&&◌, ◌||◌, ◌⊎◌, not, nat_le, nat_lt, cond, if◌then◌else◌}
 use Rattle.std.specs.List.{AllByRecursion, filter}
 use Rattle.std.proofs.lemmas.Bool.Decides.{nat_tests}
+use Rattle.std.proofs.lemmas.Bool.{and_parts}
+use Rattle.kds_base.proofs.Facts.{equal_so}
 use Rattle.kds_defs.specs.declared.entry.Entry.{Entry}
 use Rattle.kds_defs.specs.declared.entry.Entry.TheVariants as entry
 use Rattle.kds_defs.specs.declared.limits.TheConstants.{BATCH_BYTES}
@@ -14,7 +16,6 @@ use Rattle.kds_defs.specs.Safe.{IsAmong, IsPlaced, RiseFrom}
 use Rattle.kds_defs.specs.Shards.{ShardState, shard_at, is_open}
 use Rattle.kds_defs.specs.Streams.{is_live, is_trimmed, trim_floor}
 use Rattle.kcl_laws.proofs.Numbering.{all_placed}
-use Rattle.kcl_laws.proofs.PartitionLemmas.{both_hold, equal_so}
 
 -- ---- all of a list
 
@@ -155,7 +156,7 @@ records_step_put : (log : Journal) (line : Line) (stream shard number hash bytes
     → RecordsStep log line s sh
 records_step_put log line stream shard number hash bytes key_bytes s sh at false is r num recs next = SameRecords (sym recs)
 records_step_put log line stream shard number hash bytes key_bytes s sh at true is r num recs next =
-    let two = both_hold (stream == s) (shard == sh) is in
+    let two = and_parts (stream == s) (shard == sh) is in
     let to = equal_so stream s two.0 in
     let to' = equal_so shard sh two.1 in
     let n : number ≡ next_number log s = at.1 ∙ ap (next_number log) to in
@@ -247,7 +248,7 @@ below_or log c s place r false is h = inl (grind (arith, nat_tests))
 
 pub end_is : (log : Journal) (c s sh place : ℕ) → ends_at log c s sh place ≡ true → (is_closed_at (shard_at log s sh) ≡ true) × AllByRecursion (λ r. (r.seq < place) ⊎ (is_trimmed log c s r.arrival ≡ true)) (records log s sh)
 end_is log c s sh place h =
-    let two = both_hold (is_closed_at (shard_at log s sh)) (are_none (left_from log c s sh place)) h in
+    let two = and_parts (is_closed_at (shard_at log s sh)) (are_none (left_from log c s sh place)) h in
     let f : Logged → Bool = λ r. not (is_trimmed log c s r.arrival) && nat_le place r.seq in (
       two.0,
       all_map (λ (r : Logged). f r ≡ false) (λ (r : Logged). (r.seq < place) ⊎ (is_trimmed log c s r.arrival ≡ true)) (records log s sh)

@@ -5,6 +5,7 @@ use Rattle.std.specs.List.{AllByRecursion, filter}
 use Rattle.kds_base.specs.declared.lease_key.Checkpoint.{Checkpoint}
 use Rattle.kds_base.specs.declared.lease_key.Checkpoint.TheVariants.{TrimHorizon, At}
 use Rattle.kds_base.specs.declared.lease_key.ShardRef.{ShardRef}
+use Rattle.kds_base.proofs.Facts.{same_some}
 use Rattle.kds_defs.specs.declared.command.Origin.{Origin}
 use Rattle.kds_defs.specs.declared.command.Origin.TheVariants as origin
 use Rattle.kds_defs.specs.declared.command.Target.{Target}
@@ -24,7 +25,7 @@ use Rattle.kcl_laws.proofs.Batches.{all_map, RecordsStep, SameRecords, NewRecord
 use Rattle.kcl_laws.proofs.CoverageLemmas.{TargetOk, read_told, mark_told, take_told}
 use Rattle.kcl_laws.proofs.DeliveryLemmas.{row_made, same_self, tenure_made}
 use Rattle.kcl_laws.proofs.StartLemmas.{origin_before, begins_shard}
-use Rattle.kcl_laws.proofs.Steps.{TenureStep, Begun, Same, Opening, Reading, Giving, tenure_step, tenure_key, same_some, RowStep, NewRow, SameCheckpoint, MarkedRow, row_step}
+use Rattle.kcl_laws.proofs.Steps.{TenureStep, Begun, Same, Opening, Reading, Giving, tenure_step, tenure_key, RowStep, NewRow, SameCheckpoint, MarkedRow, row_step}
 
 -- ---- a place of a shard: none of its numbers is needed, or one above it is a record or more
 

@@ -1,8 +1,9 @@
 -- The journal of a history is legal.
 use Rattle.std.proofs.Common.{◌≡◌, ℕ, ◌+◌, ◌-◌, ◌^◌, ◌<◌, ◌≤◌, Bool, true, false, List, [], ◌∷◌, length, Option, Some, None, refl, sym, ap, subst, ◌∙◌, arith}
-use Rattle.std.specs.Prelude.{◌||◌, is_some, not, nat_lt, cond, if◌then◌else◌}
+use Rattle.std.specs.Prelude.{is_some, not, nat_lt, cond, if◌then◌else◌}
 use Rattle.std.specs.List.{AllByRecursion, find, filter}
 use Rattle.std.proofs.lemmas.Bool.Decides.{nat_tests}
+use Rattle.std.proofs.lemmas.Bool.{or_parts}
 use Rattle.kds_defs.specs.declared.command.Command.{Command}
 use Rattle.kds_defs.specs.declared.command.Command.TheVariants as command
 use Rattle.kds_defs.specs.declared.command.NewItem.{NewItem}
@@ -10,6 +11,7 @@ use Rattle.kds_defs.specs.declared.command.Origin.{Origin}
 use Rattle.kds_defs.specs.declared.command.Origin.TheVariants as origin
 use Rattle.kds_defs.specs.declared.command.Turn.{Turn}
 use Rattle.kds_base.specs.declared.lease_key.ShardRef.{ShardRef}
+use Rattle.kds_base.proofs.Facts.{equal_unless}
 use Rattle.kds_defs.specs.declared.entry.Entry.TheVariants as entry
 use Rattle.kds_defs.specs.declared.reply.Refusal.TheVariants as refusal
 use Rattle.kds_defs.specs.declared.reply.Reply.{Reply}
@@ -27,10 +29,10 @@ use Rattle.kds_defs.specs.Shards.{ShardState, home}
 use Rattle.kds_defs.specs.PutCommands.{is_held_back, put_lines}
 use Rattle.kds_defs.specs.StreamCommands.{last_number, put_place, put_line}
 use Rattle.kds_defs.specs.Streams.{is_live, stream_named, hours}
-use Rattle.kds_defs.proofs.Decisions.{passes, found, same_lines}
-use Rattle.kcl_laws.proofs.Added.{Adds, retested, in_live, draws_one, not_spent, not_past}
+use Rattle.kds_defs.proofs.Decisions.{passes, found, same_lines, passed_if}
+use Rattle.kcl_laws.proofs.Added.{Adds, in_live, draws_one, not_spent, not_past}
 use Rattle.kcl_laws.proofs.ScalingLemmas.{adds_scaling}
-use Rattle.kcl_laws.proofs.FenceLemmas.{same_number, held, past_the_target}
+use Rattle.kcl_laws.proofs.FenceLemmas.{held, past_the_target}
 
 -- no line is added
 adds_none : (log : Journal) (lines : List Line) (reply reply' : Reply) (c : ℕ) → Accepted [] reply' ≡ Accepted lines reply → IsLegal log → last_clock log ≤ c → Adds log lines c
@@ -46,7 +48,7 @@ adds_one log line lines reply reply' h allowed range legal order =
     })
 
 -- a stream that a name finds is live
-found_by : (b d : Bool) (x s : ℕ) (rest : List ℕ) (p q : ℕ → Bool) → q x ≡ b → p x ≡ d → find p (cond b (x ∷ filter q rest) (filter q rest)) ≡ Some s → (find p (filter q rest) ≡ Some s → q s ≡ true) → q s ≡ true
+pub found_by : (b d : Bool) (x s : ℕ) (rest : List ℕ) (p q : ℕ → Bool) → q x ≡ b → p x ≡ d → find p (cond b (x ∷ filter q rest) (filter q rest)) ≡ Some s → (find p (filter q rest) ≡ Some s → q s ≡ true) → q s ≡ true
 found_by false d x s rest p q isb isd h later = later h
 found_by true true x s rest p q isb isd h later =
     let e : Some x ≡ Some s = ap (λ b. cond b (Some x) (find p (filter q rest))) (sym isd) ∙ h in
@@ -54,7 +56,7 @@ found_by true true x s rest p q isb isd h later =
     ap q (sym f) ∙ isb
 found_by true false x s rest p q isb isd h later = later (ap (λ b. cond b (Some x) (find p (filter q rest))) (sym isd) ∙ h)
 
-find_filter : (p q : ℕ → Bool) (xs : List ℕ) (s : ℕ) → find p (filter q xs) ≡ Some s → q s ≡ true
+pub find_filter : (p q : ℕ → Bool) (xs : List ℕ) (s : ℕ) → find p (filter q xs) ≡ Some s → q s ≡ true
 find_filter p q [] s h = absurd cc
 find_filter p q (x ∷ xs) s h = found_by (q x) (p x) x s xs p q refl refl h (find_filter p q xs s)
 
@@ -90,7 +92,7 @@ adds_item false item items log c by s is hash live fits legal order skip take =
       in_order = order;
       in_range = hash;
       reply = told_reply;
-      allowed = in_live log s _ live ∙ retested (refusal.Throttled (home log s item.hash)) _ _ is ∙ retested refusal.Spent _ _ (not_spent (next_number log s) last_number more fits);
+      allowed = in_live log s _ live ∙ passed_if (refusal.Throttled (home log s item.hash)) _ _ is ∙ passed_if refusal.Spent _ _ (not_spent (next_number log s) last_number more fits);
     } in
     let rest = take (line ∷ log) refl (omega (arith, fits, draws_one s (next_number log s) (next_number log s) refl)) (good, legal) (omega arith) in
     record { legal = rest.legal; clock = rest.clock }
@@ -114,7 +116,7 @@ pub owned : (log : Journal) (by t : ℕ) (next : TenureState → Decision) (line
 owned log by t next lines reply h =
     let a = found (tenure log t) refusal.NoTenure _ lines reply h in
     let b = passes refusal.NotYours _ _ lines reply a.2 in
-    record { state = a.0; begun = a.1; own = same_number _ _ b.0; rest = b.1 }
+    record { state = a.0; begun = a.1; own = equal_unless _ _ b.0; rest = b.1 }
 
 -- a parent that is read
 abbrev pub IsParentRead : Journal → ℕ → ℕ → Option ℕ → Type 0
@@ -147,10 +149,6 @@ lease_with log c by key from =
 counts_once : (b : Bool) (from : Origin) → (if b then origin.TrimHorizon else (if b then origin.TrimHorizon else from)) ≡ (if b then origin.TrimHorizon else from)
 counts_once true from = refl
 counts_once false from = refl
-
-neither : (a b : Bool) → (a || b) ≡ false → (a ≡ false) × (b ≡ false)
-neither true b h = absurd cc
-neither false b h = (refl, h)
 
 accepted_legal : (log : Journal) (c by : ℕ) (what : Command) (lines : List Line) (reply : Reply) → IsLawfulCommand what → decide log c by what ≡ Accepted lines reply → IsLegal log → last_clock log ≤ c → Adds log lines c
 accepted_legal log c by (command.Create name count) lines reply lawful h legal order =
@@ -200,7 +198,7 @@ accepted_legal log c by (command.Scale name target) lines reply lawful h legal o
     let f = found _ _ _ _ reply h in
     let a = passes _ _ _ _ reply f.2 in
     let b = passes _ _ _ _ reply a.1 in
-    let fits = neither _ _ b.0 in
+    let fits = or_parts _ _ b.0 in
     subst (λ ls. Adds log ls c) (same_lines _ lines _ reply b.1)
     (adds_scaling log c by f.0 target (live_named log name f.0 f.1) lawful.1.0 lawful.1.1 (not_past _ _ a.0) (not_past _ _ fits.0) (not_past _ _ fits.1) legal order)
 accepted_legal log c by (command.Enforce name on) lines reply lawful h legal order =
@@ -224,7 +222,7 @@ accepted_legal log c by (command.Merge name sh other) lines reply lawful h legal
 accepted_legal log c by (command.Keep name wanted raise) lines reply lawful h legal order =
     let f = found _ _ _ _ reply h in
     let a = passes _ _ _ _ reply f.2 in
-    adds_one log _ lines reply _ a.1 (in_live log f.0 _ (live_named log name f.0 f.1) ∙ retested refusal.BadRetention _ _ (not_both wanted (hours log f.0) raise a.0) ∙ a.1) lawful.1 legal order
+    adds_one log _ lines reply _ a.1 (in_live log f.0 _ (live_named log name f.0 f.1) ∙ passed_if refusal.BadRetention _ _ (not_both wanted (hours log f.0) raise a.0) ∙ a.1) lawful.1 legal order
 accepted_legal log c by command.Survey lines reply lawful h legal order = adds_none log lines reply _ c h legal order
 accepted_legal log c by (command.MakeLease key from) lines reply lawful h legal order =
     let a = passes _ _ _ _ reply h in
@@ -236,7 +234,7 @@ accepted_legal log c by (command.Take key counter owner) lines reply lawful h le
     let a = passes _ _ _ _ reply f.2 in
     let b = passes _ _ _ _ reply a.1 in
     let d = passes _ _ _ _ reply b.1 in
-    let same = same_number f.0.counter counter a.0 in
+    let same = equal_unless f.0.counter counter a.0 in
     let n : counter ≡ f.0.counter + 1 - 1 = omega (arith, same) in
     adds_one log _ lines reply _ d.1 (subst (λ m. take_lease log c by key m owner ≡ Accepted lines reply) n h) tt legal order
 accepted_legal log c by (command.Renew t counter) lines reply lawful h legal order =
@@ -263,7 +261,7 @@ accepted_legal log c by (command.Read t position limit) lines reply lawful h leg
     let b = passes _ _ _ _ reply a.1 in
     let d = passes _ _ _ _ reply b.1 in
     let e = passes _ _ _ _ reply d.1 in
-    let place = same_number position (reach f.state) e.0 ∙ sym (ap reach_in f.begun) in
+    let place = equal_unless position (reach f.state) e.0 ∙ sym (ap reach_in f.begun) in
     adds_one log _ lines reply _ e.1 (subst (λ p. read log c by t p limit ≡ Accepted lines reply) place h) tt legal order
 accepted_legal log c by (command.Give t) lines reply lawful h legal order =
     let f = owned log by t _ _ reply h in

@@ -2,6 +2,7 @@
 use Rattle.std.proofs.Common.{◌≡◌, ℕ, zero, suc, ◌+◌, ◌<◌, ◌≤◌, Bool, true, false, List, [], ◌∷◌, ◌++◌, length, Option, Some, None, refl, sym, ap, subst, ◌∙◌, arith, inl, inr, length-append}
 use Rattle.std.specs.Prelude.{◌==◌, ◌&&◌, ◌⊎◌, not, slice_get, if◌then◌else◌}
 use Rattle.std.specs.List.{AllByRecursion}
+use Rattle.std.proofs.lemmas.Bool.{and_parts}
 use Rattle.kds_base.specs.Span.{Span}
 use Rattle.kds_defs.specs.declared.entry.Entry.{Entry}
 use Rattle.kds_defs.specs.declared.entry.Entry.TheVariants as entry
@@ -14,13 +15,13 @@ use Rattle.kds_defs.specs.Records.{next_number}
 use Rattle.kds_defs.specs.Safe.{IsPast, IsExpiredState, ArePastState, AreParentsPast, IsOpening, WasOpened, IsInLine, AreInLine}
 use Rattle.kds_defs.specs.Shards.{ShardState, Closing, shards, shards_after, first_shards, new_shard, with_closed, shard_at, is_expired, is_listed_state}
 use Rattle.kds_base.specs.Span.{uniform}
+use Rattle.kds_base.proofs.Facts.{equal_so}
 use Rattle.kds_defs.specs.StreamCommands.{is_open_at}
 use Rattle.kds_defs.specs.Keys.{ref}
 use Rattle.kds_defs.proofs.Decisions.{passes, holds_so}
 use Rattle.kcl_laws.proofs.FenceLemmas.{held}
 use Rattle.kcl_laws.proofs.LegalLemmas.{owned, past_the_parents, AreParentsRead, IsParentRead}
 use Rattle.kds_defs.proofs.Numbers.{length-closed}
-use Rattle.kcl_laws.proofs.PartitionLemmas.{both_hold, equal_so}
 use Rattle.kcl_laws.proofs.Steps.{TenureStep, Begun, Same, Opening, Reading, Giving, tenure_step, tenure_key}
 
 -- ---- the parents of a shard are shards of its stream
@@ -103,7 +104,7 @@ parents_after log line (entry.Merged stream sh other number child) reply h s sta
     let a = passes _ _ _ _ reply h in
     let b = passes _ _ _ _ reply a.1 in
     let d = passes _ _ _ _ reply b.1 in
-    let opens = both_hold _ _ (holds_so _ d.0) in
+    let opens = and_parts _ _ (holds_so _ d.0) in
     parents_choice (stream == s) _ _
     (λ same.
     let to = equal_so stream s same in

@@ -1,7 +1,7 @@
 -- The open shards of each stream partition the keys.
-use Rattle.std.proofs.Common.{◌≡◌, ℕ, Bool, true, false, List, [], ◌∷◌, ◌++◌, Option, Some, None, refl, subst, ◌∙◌, arith}
-use Rattle.std.specs.Prelude.{◌==◌, ◌&&◌, ◌||◌, slice_get, if◌then◌else◌}
-use Rattle.std.proofs.lemmas.Bool.Decides.{nat_tests}
+use Rattle.std.proofs.Common.{◌≡◌, ℕ, Bool, true, false, List, [], ◌∷◌, ◌++◌, Option, Some, None, refl, subst, ◌∙◌}
+use Rattle.std.specs.Prelude.{◌==◌, ◌||◌, slice_get, if◌then◌else◌}
+use Rattle.std.proofs.lemmas.Bool.{and_parts}
 use Rattle.kds_defs.specs.declared.entry.Entry.{Entry}
 use Rattle.kds_defs.specs.declared.entry.Entry.TheVariants as entry
 use Rattle.kds_defs.specs.declared.reply.Reply.{Reply}
@@ -11,19 +11,13 @@ use Rattle.kds_defs.specs.Legal.{told, IsLegal, IsInRange}
 use Rattle.kds_defs.specs.Records.{next_number}
 use Rattle.kds_defs.specs.Safe.{HasPartitions}
 use Rattle.kds_base.specs.Span.{is_inside, are_adjacent, lower_part, upper_part, joined}
+use Rattle.kds_base.proofs.Facts.{equal_so}
 use Rattle.kds_defs.specs.Shards.{ShardState, Closing, shards, shards_after, new_shard, with_closed, range_of, shard_at}
 use Rattle.kds_defs.specs.StreamCommands.{is_open_at}
 use Rattle.kds_defs.specs.Streams.{was_made, was_made_after}
 use Rattle.kds_defs.specs.Tiled.{IsTiled}
 use Rattle.kds_defs.proofs.Decisions.{passes, holds_so}
 use Rattle.kds_defs.proofs.Tiles.{same_times, tiled_new, tiled_split, tiled_merge}
-
-pub both_hold : (a b : Bool) → (a && b) ≡ true → (a ≡ true) × (b ≡ true)
-both_hold true b h = (refl, h)
-both_hold false b h = absurd cc
-
-pub equal_so : (a b : ℕ) → (a == b) ≡ true → a ≡ b
-equal_so a b h = grind (arith, nat_tests)
 
 -- the same of shards that may not be there
 split_there : (xs : List ShardState) (sh n m at start : ℕ) (closing : Closing) (p q : Option ℕ) (o : Option ShardState) → slice_get xs sh ≡ o → is_open_at o ≡ true → is_inside (range_of o) at ≡ true → IsTiled xs
@@ -69,7 +63,7 @@ tiled_after log line (entry.Merged stream sh other number child) reply range h s
     let b = passes _ _ _ _ reply a.1 in
     let d = passes _ _ _ _ reply b.1 in
     let e = passes _ _ _ _ reply d.1 in
-    let opens = both_hold _ _ (holds_so _ d.0) in
+    let opens = and_parts _ _ (holds_so _ d.0) in
     chosen (stream == s) _ _
     (λ same.
     let to = equal_so stream s same in

@@ -1,8 +1,9 @@
 -- The numbers of a shard's records, and their bytes.
 use Rattle.std.proofs.Common.{◌≡◌, ℕ, ◌+◌, ◌≤◌, Bool, true, false, List, [], ◌∷◌, ◌++◌, length, Option, Some, None, refl, sym, ap, subst, arith}
-use Rattle.std.specs.Prelude.{◌==◌, ◌&&◌, ◌||◌, if◌then◌else◌}
+use Rattle.std.specs.Prelude.{◌==◌, ◌&&◌, if◌then◌else◌}
 use Rattle.std.specs.List.{AllByRecursion}
 use Rattle.std.proofs.lemmas.Bool.Decides.{nat_tests}
+use Rattle.kds_base.proofs.Facts.{equal_so, neither_right}
 use Rattle.kds_defs.specs.declared.command.Command.{Command}
 use Rattle.kds_defs.specs.declared.command.Command.TheVariants as command
 use Rattle.kds_defs.specs.declared.command.NewItem.{NewItem}
@@ -30,7 +31,6 @@ use Rattle.kds_defs.specs.Shards.{ShardState, shard_at, shards, start_of}
 use Rattle.kds_defs.specs.StreamCommands.{last_number, put_line}
 use Rattle.kds_defs.proofs.Decisions.{passes}
 use Rattle.kcl_laws.proofs.Batches.{IsRising, rising, all_push}
-use Rattle.kcl_laws.proofs.PartitionLemmas.{equal_so}
 use Rattle.kcl_laws.proofs.StartLemmas.{IsFrom, records_from, starts_at, starts_below}
 use Rattle.kcl_laws.specs.Recorded.{AreDrawn, IsSized, RiseBetween}
 
@@ -55,10 +55,6 @@ all_drawn log legal s sh =
 
 -- ---- the next number
 
-second_false : (a b : Bool) → (a || b) ≡ false → b ≡ false
-second_false true b h = absurd cc
-second_false false b h = h
-
 one_more : (b : Bool) (s stream n : ℕ) → (stream == s) ≡ b → (n == last_number) ≡ false → (b ≡ true → n ≤ last_number) → (m : ℕ) → m ≤ last_number → (b ≡ true → n ≡ m) → (if b then 1 else 0) + m ≤ last_number
 one_more true s stream n is free fits m le same = let e = same refl in grind (arith, nat_tests)
 one_more false s stream n is free fits m le same = omega (arith, le)
@@ -76,14 +72,14 @@ next_by log line (entry.Split stream shard at number low high) reply s h le =
     let e = passes _ _ _ _ reply d.1 in
     let f = passes _ _ _ _ reply e.1 in
     let g = passes _ _ _ _ reply f.1 in
-    one_more (stream == s) s stream (next_number log stream) refl (second_false _ _ g.0) (λ is. subst (λ k. next_number log k ≤ last_number) (sym (equal_so stream s is)) le) (next_number log s) le (λ is. ap (next_number log) (equal_so stream s is))
+    one_more (stream == s) s stream (next_number log stream) refl (neither_right _ _ g.0) (λ is. subst (λ k. next_number log k ≤ last_number) (sym (equal_so stream s is)) le) (next_number log s) le (λ is. ap (next_number log) (equal_so stream s is))
 next_by log line (entry.Merged stream shard other number child) reply s h le =
     let a = passes _ _ _ _ reply h in
     let b = passes _ _ _ _ reply a.1 in
     let d = passes _ _ _ _ reply b.1 in
     let e = passes _ _ _ _ reply d.1 in
     let f = passes _ _ _ _ reply e.1 in
-    one_more (stream == s) s stream (next_number log stream) refl (second_false _ _ f.0) (λ is. subst (λ k. next_number log k ≤ last_number) (sym (equal_so stream s is)) le) (next_number log s) le (λ is. ap (next_number log) (equal_so stream s is))
+    one_more (stream == s) s stream (next_number log stream) refl (neither_right _ _ f.0) (λ is. subst (λ k. next_number log k ≤ last_number) (sym (equal_so stream s is)) le) (next_number log s) le (λ is. ap (next_number log) (equal_so stream s is))
 next_by log line _ reply s h le = omega (arith, le)
 
 pub next_fits : (log : Journal) → IsLegal log → (s : ℕ) → next_number log s ≤ last_number

@@ -4,6 +4,7 @@ use Rattle.std.specs.Prelude.{◌==◌, ◌&&◌, ◌||◌, cond, is_none, not, 
 use Rattle.std.specs.List.{AllByRecursion, filter}
 use Rattle.std.proofs.lemmas.Bool.Decides.{nat_tests}
 use Rattle.kds_base.specs.Span.{Span, is_inside, are_adjacent}
+use Rattle.kds_base.proofs.Facts.{equal_unless, is_itself}
 use Rattle.kds_defs.specs.declared.entry.Entry.{Entry}
 use Rattle.kds_defs.specs.declared.entry.Entry.TheVariants as entry
 use Rattle.kds_defs.specs.declared.limits.TheConstants.{OPEN_SHARDS}
@@ -20,13 +21,12 @@ use Rattle.kds_defs.specs.Scaling.{LeadTo, is_start, left_out, uniform_starts, w
 use Rattle.kds_defs.specs.Shards.{ShardState, Closing, closing_of, home, is_closed_below, is_listed_state, is_open, merged_shards, open_count, open_in, open_shards, range_of, shard_at, shards, shards_after, split_shards, was_closed_below}
 use Rattle.kds_defs.specs.StreamCommands.{is_open_at, last_number}
 use Rattle.kds_defs.specs.Streams.{is_live, live_streams, made_count, numbers_from, trim_floor, was_made}
-use Rattle.kds_defs.proofs.Decisions.{passes, holds_so}
+use Rattle.kds_defs.proofs.Decisions.{passes, holds_so, passed_if}
 use Rattle.kds_defs.proofs.Numbers.{length-closed}
 use Rattle.kds_scale.proofs.Leading.{leads}
-use Rattle.kds_scale.proofs.Members.{key_itself}
 use Rattle.kds_scale.proofs.Partitions.{IsBounded, IsScalable, Joins, Cuts, after_cut, after_join, below_wanted, bounded_merged, bounded_new, bounded_split, cuts, joins, joins_touch, length_starts, length_wanted, length_with, open_starts, range_bounded, rise_open, scalable_cut, scalable_joined, starts_cut, starts_joined}
 use Rattle.kds_scale.proofs.Starts.{rise_wanted, wanted_zero}
-use Rattle.kcl_laws.proofs.Added.{Adds, retested, in_live, draws_one}
+use Rattle.kcl_laws.proofs.Added.{Adds, in_live, draws_one}
 use Rattle.kcl_laws.proofs.Numbering.{numbered, made_if_live}
 use Rattle.kcl_laws.proofs.PartitionLemmas.{tiled}
 
@@ -103,16 +103,16 @@ join_good log c by s b live j more made order =
       in_range = tt;
       reply = replies.Done;
       allowed = in_live log s _ live
-          ∙ retested refusal.NoShard _ _ listed
-          ∙ retested refusal.ShardClosed _ _ opens
-          ∙ retested refusal.NotAdjacent _ _ (ap not touch)
-          ∙ retested refusal.Spent _ _ (room_join last_number (length (shards log s)) (next_number log s) more made);
+          ∙ passed_if refusal.NoShard _ _ listed
+          ∙ passed_if refusal.ShardClosed _ _ opens
+          ∙ passed_if refusal.NotAdjacent _ _ (ap not touch)
+          ∙ passed_if refusal.Spent _ _ (room_join last_number (length (shards log s)) (next_number log s) more made);
     }
 
 shards_join : (log : Journal) (c by s b : ℕ) → shards (join_line log c by s b ∷ log) s ≡ after_join (shards log s) b (record { number = next_number log s; clock = c }) (next_number (join_line log c by s b ∷ log) s)
 unfolding join_line
 shards_join log c by s b =
-    ap (λ r. if r then after_join (shards log s) b (record { number = next_number log s; clock = c }) (next_number (join_line log c by s b ∷ log) s) else shards log s) (key_itself s)
+    ap (λ r. if r then after_join (shards log s) b (record { number = next_number log s; clock = c }) (next_number (join_line log c by s b ∷ log) s) else shards log s) (is_itself s)
 
 length_join : (xs : List ShardState) (sh other : ℕ) (closing : Closing) (start : ℕ) → length (merged_shards sh other closing start xs) ≡ length xs + 1
 length_join xs sh other closing start =
@@ -139,17 +139,17 @@ cut_good log c by s b live k few more made order =
       in_range = tt;
       reply = replies.Done;
       allowed = in_live log s _ live
-          ∙ retested refusal.NoShard _ _ (ap not (listed_open log c s _ k.shard at.stands live at.is_open_now))
-          ∙ retested refusal.ShardClosed _ _ (ap not (ap is_open_at at.stands ∙ at.is_open_now))
-          ∙ retested refusal.BadSplit _ _ (ap not inside)
-          ∙ retested refusal.Full _ _ (not_full (open_count log) few)
-          ∙ retested refusal.Spent _ _ (room_cut last_number (length (shards log s)) (next_number log s) more made);
+          ∙ passed_if refusal.NoShard _ _ (ap not (listed_open log c s _ k.shard at.stands live at.is_open_now))
+          ∙ passed_if refusal.ShardClosed _ _ (ap not (ap is_open_at at.stands ∙ at.is_open_now))
+          ∙ passed_if refusal.BadSplit _ _ (ap not inside)
+          ∙ passed_if refusal.Full _ _ (not_full (open_count log) few)
+          ∙ passed_if refusal.Spent _ _ (room_cut last_number (length (shards log s)) (next_number log s) more made);
     }
 
 shards_cut : (log : Journal) (c by s b : ℕ) → shards (cut_line log c by s b ∷ log) s ≡ after_cut (shards log s) b (record { number = next_number log s; clock = c }) (next_number (cut_line log c by s b ∷ log) s)
 unfolding cut_line
 shards_cut log c by s b =
-    ap (λ r. if r then after_cut (shards log s) b (record { number = next_number log s; clock = c }) (next_number (cut_line log c by s b ∷ log) s) else shards log s) (key_itself s)
+    ap (λ r. if r then after_cut (shards log s) b (record { number = next_number log s; clock = c }) (next_number (cut_line log c by s b ∷ log) s) else shards log s) (is_itself s)
 
 length_cut : (xs : List ShardState) (sh at : ℕ) (closing : Closing) (start : ℕ) → length (split_shards sh at closing start xs) ≡ length xs + 2
 length_cut xs sh at closing start = length-append _ _ ∙ ap (λ n. n + 2) (length-closed sh closing xs)
@@ -211,17 +211,14 @@ one_by true false log t s us is more alone same =
 one_by false true log t s us is more alone same = more refl
 one_by false false log t s us is more alone same = omega (arith, alone refl)
 
-equal_if : (t s : ℕ) → not (t == s) ≡ false → t ≡ s
-equal_if t s h = grind (arith, nat_tests)
-
 once : (log : Journal) (s k n : ℕ) → open_in log (filter (is_live log) (numbers_from k n)) ≤ length (open_shards log s) + open_in log (others s (filter (is_live log) (numbers_from k n)))
 unfolding others
 once log s k zero = omega arith
 once log s k (suc n) =
     one_by (is_live log k) (not (k == s)) log k s _ refl
     (λ e. once log s (k + 1) n)
-    (λ e. beyond log s (k + 1) n (omega (arith, equal_if k s e)))
-    (equal_if k s)
+    (λ e. beyond log s (k + 1) n (omega (arith, equal_unless k s e)))
+    (equal_unless k s)
 
 open_bound : (log : Journal) (s : ℕ) → open_count log ≤ length (open_shards log s) + open_elsewhere log s
 unfolding others

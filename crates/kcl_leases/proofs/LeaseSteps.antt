@@ -2,17 +2,18 @@
 use Rattle.std.proofs.Common.{◌≡◌, ◌≢◌, ℕ, zero, suc, ◌+◌, ◌-◌, ◌<◌, ◌≤◌, Bool, true, false, List, [], ◌∷◌, ◌++◌, length, map, slice_set, Option, Some, None, refl, sym, ap, subst, ◌∙◌, arith}
 use Rattle.std.specs.Prelude.{◌==◌, if◌then◌else◌, IfSome}
 use Rattle.std.specs.Option.{option_map}
-use Rattle.std.proofs.lemmas.Bool.Decides.{nat_tests}
 use Rattle.kds_base.specs.declared.lease_key.Checkpoint.TheVariants.{TrimHorizon, At}
 use Rattle.kds_base.specs.declared.lease_key.ShardRef.{ShardRef}
+use Rattle.kds_base.proofs.Facts.{equal_so}
 use Rattle.kds_defs.specs.declared.reply.Row.{Row}
 use Rattle.kds_defs.specs.Journal.{Journal, Line}
 use Rattle.kds_defs.specs.Keys.{same_key}
 use Rattle.kds_defs.specs.Leases.{TenureState, checkpoint_in, row, row_after, row_keys, row_keys_after, taken_count, taken_count_after, tenure, tenure_after}
 use Rattle.kds_defs.specs.StreamCommands.{last_number}
+use Rattle.kds_defs.proofs.Keys.{same_ref}
 use Rattle.kcl_book.specs.Tenures.{TenureValue, tenure_at}
 use Rattle.kcl_table.specs.Rows.{changed, row_of, with_row, without_row}
-use Rattle.kcl_leases.proofs.RowChanges.{distinct_changed, distinct_with, distinct_without, keys_changed, row_changed, row_with, row_without, same_ref}
+use Rattle.kcl_leases.proofs.RowChanges.{distinct_changed, distinct_with, distinct_without, keys_changed, row_changed, row_with, row_without}
 use Rattle.kcl_leases.proofs.TenureChanges.{tenure_push, tenure_set}
 use Rattle.kcl_leases.specs.Standing.{AreBounded, AreDistinct, Facing, IsGiven, KeepsShards, Stands, kept, leases}
 
@@ -138,9 +139,6 @@ map_if false g T o y x here is same = same
 given_if : (b : Bool) (g : TenureState → TenureState) (T : TenureState) (o : Option TenureState) → (b ≡ true → o ≡ Some T) → IsGiven (g T) → IfSome o IsGiven → IfSome (if b then option_map g o else o) IsGiven
 given_if true g T o here new old = subst (λ p. IfSome (option_map g p) IsGiven) (sym (here refl)) new
 given_if false g T o here new old = old
-
-equal_so : (a b : ℕ) → (a == b) ≡ true → a ≡ b
-equal_so a b h = grind (arith, nat_tests)
 
 same_length : {A : Type 0} (xs : List A) (i : ℕ) (x : A) → length (slice_set xs i x) ≡ length xs
 same_length [] i x = refl

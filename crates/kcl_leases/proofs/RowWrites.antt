@@ -3,9 +3,11 @@ use Rattle.std.proofs.Common.{◌≡◌, ◌≢◌, ℕ, ◌+◌, ◌<◌, ◌�
 use Rattle.std.specs.Prelude.{◌==◌, ◌||◌, not, is_some, if◌then◌else◌, Result, Ok, Err}
 use Rattle.std.specs.Option.{option_map}
 use Rattle.std.proofs.lemmas.Bool.Decides.{nat_tests}
+use Rattle.std.proofs.lemmas.Bool.{or_parts}
 use Rattle.kds_base.specs.declared.lease_key.Checkpoint.{Checkpoint}
 use Rattle.kds_base.specs.declared.lease_key.Checkpoint.TheVariants.{At}
 use Rattle.kds_base.specs.declared.lease_key.ShardRef.{ShardRef}
+use Rattle.kds_base.proofs.Facts.{equal_unless}
 use Rattle.kds_defs.specs.declared.command.Command.TheVariants as command
 use Rattle.kds_defs.specs.declared.command.Origin.{Origin}
 use Rattle.kds_defs.specs.declared.command.Origin.TheVariants as origin
@@ -27,11 +29,12 @@ use Rattle.kds_defs.specs.Shards.{ShardState, adjacent_of, is_closed_below, is_l
 use Rattle.kds_defs.specs.StreamCommands.{last_number}
 use Rattle.kds_defs.specs.Streams.{is_live, trim_floor}
 use Rattle.kds_defs.proofs.Decisions.{after_accepted, after_refused, passed_if, refused_if, with_none, with_some}
+use Rattle.kds_defs.proofs.Keys.{same_ref}
 use Rattle.kcl_book.specs.Tenures.{TenureValue, begun}
 use Rattle.kcl_table.specs.Rows.{changed, row_of, with_row, without_row}
 use Rattle.kcl_table.specs.Writes.{counted, cut_answer, take_answer}
 use Rattle.kcl_leases.proofs.LeaseSteps.{LeaseLines, changed_rows, made_rows, removed_rows, rows_of, same_tenures, stands_of, tenure_begins, tenures_of}
-use Rattle.kcl_leases.proofs.RowChanges.{keys_with, keys_without, same_ref}
+use Rattle.kcl_leases.proofs.RowChanges.{keys_with, keys_without}
 use Rattle.kcl_leases.specs.Conditions.{counting_from, parent_reaches, start_answer}
 use Rattle.kcl_leases.specs.Standing.{Facing, Leads, Stands, leases, live_shard}
 
@@ -40,9 +43,6 @@ err_same r q h = cc
 
 ok_same : {A : Type 0} (x y : A) → ◌≡◌ {A = Result A Refusal} (Ok x) (Ok y) → x ≡ y
 ok_same x y h = cc
-
-equal_so : (a b : ℕ) → not (a == b) ≡ false → a ≡ b
-equal_so a b h = grind (arith, nat_tests)
 
 -- ---- a row is made
 
@@ -175,10 +175,6 @@ if_ok : {A : Type 0} (b : Bool) (r : Refusal) (n : A) (x : Result A Refusal) →
 if_ok true r n x h = absurd cc
 if_ok false r n x h = (refl, h)
 
-neither : (a b : Bool) → (a || b) ≡ false → (a ≡ false) × (b ≡ false)
-neither true b h = absurd cc
-neither false b h = (refl, h)
-
 pub record IsTaken (o : Option Row) (counter : ℕ) (spent : Bool) (start : Checkpoint) : Type 0 where
   pub before : Row
   pub at : o ≡ Some before
@@ -195,12 +191,12 @@ is_taken (Some x) counter spent start h =
     let moved = if_ok (not (x.counter == counter)) _ start _ h in
     let ended = if_ok (is_end x.checkpoint) _ start _ moved.1 in
     let full = if_ok ((x.counter == last_number) || spent) _ start _ ended.1 in
-    let both = neither (x.counter == last_number) spent full.0 in
+    let both = or_parts (x.counter == last_number) spent full.0 in
     record {
       before = x;
       at = refl;
       start_is = ok_same start x.checkpoint full.1;
-      counter_is = equal_so x.counter counter moved.0;
+      counter_is = equal_unless x.counter counter moved.0;
       room = both.0;
       unspent = both.1;
       goes = λ next. with_some _ _ _ x refl ∙ passed_if _ _ _ moved.0 ∙ passed_if _ _ _ ended.0 ∙ passed_if _ _ _ full.0;

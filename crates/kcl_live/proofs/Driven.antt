@@ -17,10 +17,11 @@ use Rattle.kds_turn.specs.declared.pass.TurnErr.{TurnErr}
 use Rattle.kds_turn.specs.declared.pass.TurnErr.TheVariants as failed
 use Rattle.kds_turn.specs.Known.{Continues, turns_by}
 use Rattle.kds_turn.specs.Passes.{IsAnswered, Standing}
+use Rattle.kds_turn.proofs.Turns.{continues_all}
 use Rattle.kcl_live.specs.Records.{IsAtOnce, IsDriven, turns_in, with_calls, with_turn}
 use Rattle.kcl_live.specs.Runs.{WasCut}
 use Rattle.kcl_live.specs.Steps.{HasTurned}
-use Rattle.kcl_live.proofs.Histories.{before_own, continues_all, none_told, told_more}
+use Rattle.kcl_live.proofs.Histories.{before_own, none_told, told_more}
 
 -- ---- events that are no turns
 

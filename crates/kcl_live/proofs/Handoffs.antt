@@ -29,8 +29,9 @@ use Rattle.kcl_worker.specs.Standing.{StandsFor, WorkerStanding}
 use Rattle.kds_turn.specs.declared.pass.TurnErr.{TurnErr}
 use Rattle.kds_turn.specs.Known.{Continues, turns_by}
 use Rattle.kds_turn.specs.Passes.{IsAnswered, Standing}
+use Rattle.kds_turn.proofs.Turns.{continues_same, continues_all}
 use Rattle.kcl_live.specs.Hands.{AreAnswered, AreServedJointly, Goes, HandWasCut, HasHandedOff, HasReleased, IsAlong, IsAnsweredAt, StoodStill, TellsJointly, hand_commands, hand_deals, release_state, turns_at}
-use Rattle.kcl_live.proofs.Histories.{before_own, continues_all, continues_same, told_more}
+use Rattle.kcl_live.proofs.Histories.{before_own, told_more}
 
 -- ---- going on
 

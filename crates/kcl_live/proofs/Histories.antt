@@ -1,20 +1,12 @@
 -- The turns of an actor in longer histories.
-use Rattle.std.proofs.Common.{◌≡◌, ℕ, ◌≤◌, Bool, true, false, List, [], ◌∷◌, ◌++◌, length, refl, sym, ap, ◌∙◌, arith, append_assoc}
+use Rattle.std.proofs.Common.{◌≡◌, ℕ, ◌≤◌, Bool, true, false, List, [], ◌∷◌, ◌++◌, length, refl, sym, ap, ◌∙◌, arith}
 use Rattle.std.specs.Prelude.{◌==◌, cond, if◌then◌else◌}
-use Rattle.std.proofs.lemmas.Bool.Decides.{nat_tests}
+use Rattle.kds_base.proofs.Facts.{is_itself}
 use Rattle.kds_defs.specs.declared.command.Turn.{Turn}
 use Rattle.kds_defs.specs.Histories.{answer}
 use Rattle.kcl_defs.specs.Lives.{Deal, deals_of}
 use Rattle.kds_turn.specs.Known.{Continues, turns_by}
-
-pub continues_same : (h : List Turn) → Continues h h
-continues_same h = ([], refl)
-
-pub continues_all : (a b c : List Turn) → Continues a b → Continues b c → Continues a c
-continues_all a b c p q = (p.0 ++ q.0, p.1 ∙ (ap (λ l. p.0 ++ l) q.1 ∙ sym (append_assoc p.0 q.0 c)))
-
-pub is_self : (n : ℕ) → (n == n) ≡ true
-is_self n = grind (arith, nat_tests)
+use Rattle.kds_turn.proofs.Turns.{tail_of}
 
 no_fewer : (by : ℕ) (newer h : List Turn) → length (turns_by by h) ≤ length (turns_by by (newer ++ h))
 no_fewer by [] h = omega arith
@@ -34,15 +26,11 @@ same_deals by (t ∷ newer) h e = one (t.by == by) e (same_deals by newer h)
     one true e rest = absurd (omega (arith, e, no_fewer by newer h))
     one false e rest = rest e
 
-tail_of : List Turn → List Turn
-tail_of [] = []
-tail_of (x ∷ xs) = xs
-
 -- the actor's turns before one of its own
 pub before_own : (t : Turn) (place own : List Turn) → turns_by t.by (t ∷ place) ≡ t ∷ own → turns_by t.by place ≡ own
 unfolding tail_of
 before_own t place own e =
-    ap tail_of (sym (ap (λ b. cond b (t ∷ turns_by t.by place) (turns_by t.by place)) (is_self t.by)) ∙ e)
+    ap tail_of (sym (ap (λ b. cond b (t ∷ turns_by t.by place) (turns_by t.by place)) (is_itself t.by)) ∙ e)
 
 -- what was told of a place is told of each history that goes on with one more of the actor's turns there
 pub told_more : (t : Turn) (place own h : List Turn) (deals : List Deal) → turns_by t.by (t ∷ place) ≡ t ∷ own → Continues h (t ∷ place) → turns_by t.by h ≡ t ∷ own → deals_of t.by place ≡ deals
@@ -50,7 +38,7 @@ pub told_more : (t : Turn) (place own h : List Turn) (deals : List Deal) → tur
 told_more t place own h deals all c alone told =
     let same : length (turns_by t.by (c.0 ++ (t ∷ place))) ≡ length (turns_by t.by (t ∷ place)) = ap length (sym (ap (turns_by t.by) c.1) ∙ alone ∙ sym all) in
     ap (deals_of t.by) c.1 ∙ same_deals t.by c.0 (t ∷ place) same
-    ∙ ap (λ b. if b then record { what = t.what; answer = answer place t } ∷ deals_of t.by place else deals_of t.by place) (is_self t.by)
+    ∙ ap (λ b. if b then record { what = t.what; answer = answer place t } ∷ deals_of t.by place else deals_of t.by place) (is_itself t.by)
     ∙ ap (λ (ds : List Deal). record { what = t.what; answer = answer place t } ∷ ds) told
 
 -- an actor without turns

@@ -2,6 +2,7 @@
 use Rattle.std.proofs.Common.{◌≡◌, ℕ, suc, ◌+◌, ◌≤◌, Bool, true, false, List, [], ◌∷◌, length, Option, Some, None, Result, Ok, Err, refl, sym, ap, ap₂, subst, ◌∙◌, arith}
 use Rattle.std.specs.Prelude.{◌&&◌, ◌||◌, cond, if◌then◌else◌, is_some, not}
 use Rattle.std.specs.List.{AllByRecursion, filter, find, list_any}
+use Rattle.kds_base.proofs.Facts.{is_itself, apart}
 use Rattle.kds_defs.specs.declared.command.Command.TheVariants as command
 use Rattle.kds_defs.specs.declared.reply.Refusal.{Refusal}
 use Rattle.kds_defs.specs.declared.reply.Refusal.TheVariants as refusal
@@ -17,7 +18,6 @@ use Rattle.kcl_defs.specs.Workers.{Finishing, Freeing, Gave_command, Got_answer,
 use Rattle.kcl_live.specs.Records.{with_calls}
 use Rattle.kcl_live.specs.Steps.{IsLost, IsStopped, turns_left}
 use Rattle.kcl_live.proofs.Bounds.{filter_less}
-use Rattle.kcl_live.proofs.Histories.{is_self}
 
 abbrev AreLost : List Known → Type 0
 AreLost ks = AllByRecursion (λ k. IsLost (phase_of_known k)) ks
@@ -105,16 +105,12 @@ called_lost made a Ending l d = absurd l
 called_lost made a MarkingEnd l d = absurd l
 called_lost made a (Over why) l d = absurd l
 
-not_both : (b : Bool) → b ≡ true → b ≡ false → ⊥
-not_both true h g = absurd cc
-not_both false h g = absurd cc
-
 calling_lost : (a : Ask) (ks : List Known) → AreLost ks → AreLostOrOver (happens_to_first is_due_known (Called a) ks)
 calling_lost a [] all = tt
 calling_lost a (k ∷ ks) all = one (is_due_known k) refl (calling_lost a ks all.1)
   where
     one : (b : Bool) → is_due_known k ≡ b → AreLostOrOver (happens_to_first is_due_known (Called a) ks) → AreLostOrOver (if b then with_event (Called a) k ∷ ks else k ∷ happens_to_first is_due_known (Called a) ks)
-    one true e rest = ((λ over. absurd (not_both (is_over (with_event (Called a) k)) (called_lost k.made a (phase_of_known k) all.0 e).0 over)), lost_or_over ks all.1)
+    one true e rest = ((λ over. absurd (apart (is_over (with_event (Called a) k)) (called_lost k.made a (phase_of_known k) all.0 e).0 over)), lost_or_over ks all.1)
     one false e rest = ((λ over. all.0), rest)
 
 calling_fewer : (a : Ask) (ks : List Known) → AreLost ks → givings (happens_to_first is_due_known (Called a) ks) ≤ givings ks
@@ -165,7 +161,7 @@ first_of k j rest true e h = cc
 first_of k j rest false e h = absurd cc
 
 same_id_self : (id : LeaseId) → same_id id id ≡ true
-same_id_self id = ap₂ (λ a b. a && b) (ap₂ (λ a b. a && b) (is_self id.key.stream) (is_self id.key.shard)) (is_self id.tenure)
+same_id_self id = ap₂ (λ a b. a && b) (ap₂ (λ a b. a && b) (is_itself id.key.stream) (is_itself id.key.shard)) (is_itself id.tenure)
 
 -- the first of them gives its batch
 giving_first : (a : Result Reply Refusal) (ks : List Known) (k : Known) → AreLost ks → find is_due_known ks ≡ None → find is_giving ks ≡ Some k
@@ -228,7 +224,7 @@ idle_then s stopped due giving held =
 turned_by : (made : WorkerMade) (at : ℕ) (a : Result Reply Refusal) (s : WorkerState) (f : Option Known) (held : List Held) → IsStopped s → find is_due_known s.consumers ≡ None → find is_giving s.consumers ≡ f → s.held ≡ held → is_idle s ≡ false
     → Leaves s (absorbed made at a (record s { waiting = next_pending made at s }) (next_pending made at s))
 turned_by made at a s (Some k) held stopped due giving is busy = finished made at a s k stopped due giving (next_pending made at s) refl
-turned_by made at a s None [] stopped due giving is busy = absurd (not_both (is_idle s) (idle_then s stopped due giving is) busy)
+turned_by made at a s None [] stopped due giving is busy = absurd (apart (is_idle s) (idle_then s stopped due giving is) busy)
 turned_by made at a s None (h ∷ hs) stopped due giving is busy = freed made at a s h hs stopped is giving (next_pending made at s) refl
 
 -- after a command and its answer there is less to do

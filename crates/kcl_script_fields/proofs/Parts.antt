@@ -1,7 +1,7 @@
 -- Parts of a text, which a byte parts.
 use Rattle.std.proofs.Common.{◌≡◌, ℕ, zero, suc, ◌+◌, ◌<◌, List, length, [], ◌∷◌, ◌++◌, take, drop, Bool, true, false, Option, Some, None, refl, ap, ◌∙◌, inl, inr, subst, arith}
-use Rattle.std.proofs.lemmas.Bool.{cases_Bool, eqb-true}
-use Rattle.std.specs.Prelude.{◌==◌, ◌&&◌, if◌then◌else◌, option_map}
+use Rattle.std.proofs.lemmas.Bool.{cases_Bool, eqb-true, and_parts}
+use Rattle.std.specs.Prelude.{◌==◌, if◌then◌else◌, option_map}
 use Rattle.std.specs.List.{list_all}
 use Rattle.memchr.specs.Find.{NoneBefore, Passes, is_byte}
 use Rattle.kcl_script_fields.specs.Fields.{◌>>=◌, parted, Lacks}
@@ -69,11 +69,6 @@ parted_spells sep (b ∷ bs) p e = parted_cases sep (b == sep) b bs p refl (part
 
 -- ---- bytes of a kind
 
-pub both : (a b : Bool) → (a && b) ≡ true → (a ≡ true) × (b ≡ true)
-both true true h = (refl, refl)
-both true false h = absurd (cc)
-both false b h = absurd (cc)
-
 kind_not : (p : ℕ → Bool) (sep b : ℕ) → p sep ≡ false → p b ≡ true → (b == sep) ≡ false
 kind_not p sep b lacks has = elim (cases_Bool (b == sep)) [
   | inl same ↦ let bad : p sep ≡ true = subst (λ (z : ℕ). p z ≡ true) (eqb-true b sep same) has in absurd (cc)
@@ -83,7 +78,7 @@ kind_not p sep b lacks has = elim (cases_Bool (b == sep)) [
 -- bytes of a kind lack each byte of another
 pub kind_lacks : (p : ℕ → Bool) (sep : ℕ) (text : List ℕ) → p sep ≡ false → list_all p text ≡ true → Lacks sep text
 kind_lacks p sep [] lacks all = tt
-kind_lacks p sep (b ∷ bs) lacks all = let h = both (p b) (list_all p bs) all in (kind_not p sep b lacks h.0, kind_lacks p sep bs lacks h.1)
+kind_lacks p sep (b ∷ bs) lacks all = let h = and_parts (p b) (list_all p bs) all in (kind_not p sep b lacks h.0, kind_lacks p sep bs lacks h.1)
 
 -- ---- options
 

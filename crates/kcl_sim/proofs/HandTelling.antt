@@ -1,8 +1,8 @@
 -- A hand-off that runs is told in the joint record of its worker.
-use Rattle.std.proofs.Common.{◌≡◌, ℕ, zero, suc, true, List, [], ◌∷◌, ◌++◌, length, Option, Some, None, refl, sym, ap, subst, ◌∙◌, arith}
-use Rattle.std.specs.Prelude.{◌==◌, IsSome, if◌then◌else◌, map}
-use Rattle.std.proofs.lemmas.Bool.Decides.{nat_tests}
+use Rattle.std.proofs.Common.{◌≡◌, ℕ, zero, suc, List, [], ◌∷◌, ◌++◌, length, Option, Some, None, refl, sym, ap, subst, ◌∙◌}
+use Rattle.std.specs.Prelude.{IsSome, if◌then◌else◌, map}
 use Rattle.kds_base.specs.declared.lease_key.ShardRef.{ShardRef}
+use Rattle.kds_base.proofs.Facts.{is_itself}
 use Rattle.kds_defs.specs.declared.command.Command.{Command}
 use Rattle.kds_defs.specs.declared.command.Turn.{Turn}
 use Rattle.kds_defs.specs.Histories.{answer}
@@ -48,9 +48,6 @@ pub record IsTellingHand (by : ℕ) (h : List Turn) (key : ShardRef) (made : Wor
   pub orderly : AreOrderly made (with_hand key since made past)
   pub told : AreToldIn by h made (with_hand key since made past)
 
-same_actor : (by : ℕ) → (by == by) ≡ true
-same_actor by = grind (arith, nat_tests)
-
 module _ (at by : ℕ) (key : ShardRef) (made : WorkerMade) (past : JointPast) (r : Release) (which : released key (worker_in made past) ≡ Some r) where
   -- the command that comes next was answered
   answered_tells : (h : List Turn) (since : HandPast) (what : Command) → hand_command r.held r.known.made (state_of (hand_of r since)) ≡ Some what
@@ -59,7 +56,7 @@ module _ (at by : ℕ) (key : ShardRef) (made : WorkerMade) (past : JointPast) (
   answered_tells h since what is t =
       let a = answer h (turn_of at by what) in
       let own : deals_of by (turn_of at by what ∷ h) ≡ record { what = what; answer = a } ∷ deals_of by h =
-      ap (λ b. if b then record { what = what; answer = a } ∷ deals_of by h else deals_of by h) (same_actor by) in
+      ap (λ b. if b then record { what = what; answer = a } ∷ deals_of by h else deals_of by h) (is_itself by) in
       let next : command_in (length (hands_after made past)) (hands_after made (with_hand key since made past)) ≡ Some what =
       ap (command_in (length (hands_after made past))) (hands_with key made past r which since) ∙ command_last (hands_after made past) (hand_of r since) ∙ is in
       record {

@@ -1,6 +1,7 @@
 -- What the lines of workers make of a run.
 use Rattle.std.proofs.Common.{◌≡◌, ℕ, ◌+◌, ◌<◌, Bool, true, false, List, [], ◌∷◌, ◌++◌, length, Option, Some, None, Result, Ok, Err, codes, decimal, sym, ap, subst, ◌∙◌, arith, inl, inr, ◌⊎◌}
 use Rattle.std.specs.Prelude.{IsSome, MatchOption, OnErr, OnOk, get_or, slice_get, slice_set}
+use Rattle.kds_base.proofs.Facts.{same_some, apart}
 use Rattle.kds_defs.specs.declared.command.Command.{Command}
 use Rattle.kds_defs.specs.declared.command.Origin.{Origin}
 use Rattle.kds_defs.specs.declared.command.Turn.{Turn}
@@ -14,9 +15,6 @@ use Rattle.kcl_sim.specs.Output.{Ran, command_output, raw_turn, step_output, sto
 use Rattle.kcl_sim.specs.Standing.{ChangedAt, EmployAll, Employs, GoesOn, HasAsked, IsFree, MayHaveRun, RunsSo, SimValue, StepsAt, Stepped, TookAnswer, TurnRan, employed_after, history_after, place_among}
 use Rattle.kcl_sim.specs.Workers.{Employed, actor_at, all_called, command_at, employed_by, hired, place_of, stopped}
 use Rattle.kcl_sim.proofs.Employing.{employ_at, employ_length, employ_more, employ_set, got_set, got_there, lent_again, nobody, set_again, somebody}
-
-same_some : {A : Type 0} (x y : A) → Some x ≡ Some y → x ≡ y
-same_some x y h = cc
 
 pub on_any : {A B : Type 0} {P : Type 0} (r : Result A B) → P → OnOk r P
 on_any (Ok x) h = h
@@ -128,20 +126,16 @@ step_goes old new ran at by place before after s going there t still =
 
 -- ---- want of memory
 
-over_now : (b : Bool) → b ≡ true → b ≡ false → ⊥
-over_now true h g = absurd cc
-over_now false h g = absurd cc
-
 pub step_may : (old new : SimValue) (ran : Ran) (at by place : ℕ) → RunsSo old ran → old.over ≡ false → place_among by (length old.workers) ≡ Some place → new.over ≡ true
     → (new.history ≡ old.history) ⊎ TurnRan at by place old new → MayHaveRun new ran (line.Step at by)
 step_may old new ran at by place s going there over (inl same) =
-    inl (record { history = same ∙ s.history; workers = λ g. absurd (over_now new.over over g) })
+    inl (record { history = same ∙ s.history; workers = λ g. absurd (apart new.over over g) })
 step_may old new ran at by place s going there over (inr t) =
     let w = works old ran by place t.was s going there t.stood in
     let next = t.next w.e w.employs in
     inr (subst (λ o. RunsSo new (with_step ran at by o)) (sym w.is)
     (subst (λ o. RunsSo new (with_command ran at by (all_called w.e) o)) (sym next)
-    (record { history = t.history ∙ ap (λ h. raw_turn at by t.what ∷ h) s.history; workers = λ g. absurd (over_now new.over over g) })))
+    (record { history = t.history ∙ ap (λ h. raw_turn at by t.what ∷ h) s.history; workers = λ g. absurd (apart new.over over g) })))
 
 pub err_so : {A B : Type 0} {P Q : Type 0} (r : Result A B) → OnErr r P → (P → Q) → OnErr r Q
 err_so (Ok x) h f = tt

@@ -4,6 +4,7 @@ use Rattle.std.specs.Prelude.{◌==◌, if◌then◌else◌, nat_le, option_map,
 use Rattle.std.specs.List.{AllByRecursion}
 use Rattle.std.proofs.lemmas.Bool.Decides.{nat_tests}
 use Rattle.kds_base.specs.declared.lease_key.ShardRef.{ShardRef}
+use Rattle.kds_base.proofs.Facts.{is_itself}
 use Rattle.kds_defs.specs.declared.command.Command.{Command}
 use Rattle.kds_defs.specs.declared.command.Origin.{Origin}
 use Rattle.kds_defs.specs.declared.command.Turn.{Turn}
@@ -109,9 +110,6 @@ pending_by true o what h = absurd cc
 pending_by false None what h = absurd cc
 pending_by false (Some p) what h = (p, refl, cc)
 
-same_actor : (by : ℕ) → (by == by) ≡ true
-same_actor by = grind (arith, nat_tests)
-
 told_answered : (h : List Turn) (at by : ℕ) (e : Employed) (what : Command) → command_at at e ≡ Some what → IsTold h by e
     → IsTold (raw_turn at by what ∷ h) by (answered at (answer h (raw_turn at by what)) e)
 told_answered h at by e what next t =
@@ -119,7 +117,7 @@ told_answered h at by e what next t =
     let a = answer h turn in
     let p = pending_by (is_idle (state_of e)) (next_pending e.made at (state_of e)) what next in
     let own : deals_of by (turn ∷ h) ≡ record { what = what; answer = a } ∷ deals_of by h =
-    ap (λ b. if b then record { what = what; answer = a } ∷ deals_of by h else deals_of by h) (same_actor by) in
+    ap (λ b. if b then record { what = what; answer = a } ∷ deals_of by h else deals_of by h) (is_itself by) in
     let dealt : joint_deals e.made (answered at a e).past ≡ record { what = what; answer = a } ∷ joint_deals e.made e.past =
     ap (λ o. with_deal o a (joint_deals e.made e.past)) p.1 ∙ ap (λ c. record { what = c; answer = a } ∷ joint_deals e.made e.past) p.2 in
     record {

@@ -13,12 +13,6 @@ found_is P p (y ∷ ys) x all h = elim (cases_Bool (p y)) [
   | inr there ↦ let e : find p ys ≡ Some x = rw there at h in found_is P p ys x all.1 e
 ]
 
--- what a test keeps
-pub kept : {A : Type 0} (P : A → Type 0) (p : A → Bool) (xs : List A) → AllByRecursion P xs → AllByRecursion P (filter p xs)
-kept P p [] all = tt
-kept P p (x ∷ xs) all = elim (cases_Bool (p x)) [
-  | inl here ↦ rw here (all.0, kept P p xs all.1)
-  | inr there ↦ rw there (kept P p xs all.1)
 ]
 
 pub mapped : {A B : Type 0} (P : A → Type 0) (Q : B → Type 0) (f : A → B) (xs : List A) → ((x : A) → P x → Q (f x)) → AllByRecursion P xs → AllByRecursion Q (map f xs)

@@ -1,28 +1,20 @@
 -- What a scribe knows of a journal after the making of a stream.
-use Rattle.std.proofs.Common.{◌≡◌, ℕ, zero, suc, ◌+◌, ◌^◌, ◌/◌, ◌≤◌, List, [], ◌∷◌, ◌++◌, length, Bool, true, false, refl, sym, ap, ◌∙◌, arith, inl, inr, subst}
+use Rattle.std.proofs.Common.{◌≡◌, ℕ, suc, ◌+◌, ◌^◌, ◌/◌, ◌≤◌, List, [], ◌∷◌, ◌++◌, length, Bool, false, refl, sym, ap, ◌∙◌, arith, inl, inr, subst}
 use Rattle.std.proofs.lemmas.Bool.{cases_Bool, eqb-true}
-use Rattle.std.proofs.lemmas.Bool.Decides.{nat_tests}
 use Rattle.std.proofs.lemmas.List.Elements.{filter-append}
 use Rattle.std.specs.List.{AllByRecursion, filter}
 use Rattle.std.specs.Prelude.{◌==◌, ◌||◌}
-use Rattle.kds_base.specs.Span.{Span, uniform, uniform_from}
+use Rattle.kds_base.specs.Span.{uniform}
+use Rattle.kds_base.proofs.Facts.{is_itself}
 use Rattle.kds_defs.specs.declared.entry.Entry.TheVariants as entry
 use Rattle.kds_defs.specs.Journal.{Journal, Line, plain_line}
 use Rattle.kds_defs.specs.Records.{next_number}
-use Rattle.kds_defs.specs.Shards.{first_shards, made_shards}
+use Rattle.kds_defs.specs.Shards.{made_shards}
 use Rattle.kds_defs.specs.Streams.{is_live, live_streams, made_count, numbers_from}
+use Rattle.kds_defs.proofs.Counted.{length_first, length_uniform}
 use Rattle.kcl_sim_scribe.specs.Known.{IsKnown, Known, Knows, new_known}
 use Rattle.kcl_sim_scribe.proofs.Lists.{all_but, all_push, both_all, map_push, one_more, same_kept, unmapped, up_to}
 use Rattle.kcl_sim_scribe.proofs.Readings.{live_below, no_of}
-
-length_first : (n start : ℕ) (ranges : List Span) → length (first_shards n start ranges) ≡ length ranges
-length_first n start [] = refl
-length_first n start (r ∷ rs) = ap suc (length_first (n + 1) start rs)
-
-length_uniform : (width start n : ℕ) → length (uniform_from width start n) ≡ n
-length_uniform width start zero = refl
-length_uniform width start (suc zero) = refl
-length_uniform width start (suc (suc n)) = ap suc (length_uniform width (start + width) (suc n))
 
 length_made : (count start : ℕ) → length (made_shards count start) ≡ count
 length_made count start = length_first 0 start (uniform count) ∙ length_uniform (2 ^ 128 / count) 0 count
@@ -32,9 +24,6 @@ above m n below = elim (cases_Bool (m + 1 == n)) [
   | inl same ↦ let e : m + 1 ≡ n = eqb-true (m + 1) n same in absurd (omega (arith, e, below))
   | inr other ↦ other
 ]
-
-itself : (n : ℕ) → (n == n) ≡ true
-itself n = grind (arith, nat_tests)
 
 module _ (log : Journal) (c by count : ℕ) (name : List ℕ) where
   abbrev line : Line
@@ -50,7 +39,7 @@ module _ (log : Journal) (c by count : ℕ) (name : List ℕ) where
       let p : ℕ → Bool = λ s. (m + 1 == s) || is_live log s in
       let next : m + 1 ≡ suc m = omega arith in
       let last : 1 + m ≡ m + 1 = omega arith in
-      let new : filter p ((m + 1) ∷ []) ≡ (m + 1) ∷ [] = rw (itself (m + 1)) refl in
+      let new : filter p ((m + 1) ∷ []) ≡ (m + 1) ∷ [] = rw (is_itself (m + 1)) refl in
       ap (λ n. filter p (numbers_from 1 n)) next
       ∙ ap (filter p) (one_more 1 m ∙ ap (λ n. numbers_from 1 m ++ n ∷ []) last)
       ∙ filter-append p (numbers_from 1 m) ((m + 1) ∷ [])
@@ -73,9 +62,9 @@ module _ (log : Journal) (c by count : ℕ) (name : List ℕ) where
       let old = all_but (λ (v : Known). (v.no ≤ m) × IsKnown log v) (IsKnown (line ∷ log)) vs old_known (both_all (λ (v : Known). v.no ≤ m) (IsKnown log) vs below k.known) in
       let fresh : next_number log (m + 1) ≡ 1 = k.unmade (m + 1) (omega arith) in
       let is_new : IsKnown (line ∷ log) (new_known (m + 1) name count) = record {
-        named = rw (itself (m + 1)) refl;
+        named = rw (is_itself (m + 1)) refl;
         next = omega (arith, fresh);
-        many = rw (itself (m + 1)) (length_made count _ ∙ omega (arith, some));
+        many = rw (is_itself (m + 1)) (length_made count _ ∙ omega (arith, some));
         left = omega arith;
       } in
       record {

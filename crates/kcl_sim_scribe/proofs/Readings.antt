@@ -1,18 +1,19 @@
 -- What a scribe knows of a journal, after a line of it other than the making of a stream.
-use Rattle.std.proofs.Common.{◌≡◌, ℕ, ◌+◌, ◌<◌, ◌≤◌, List, [], ◌∷◌, length, map, Bool, true, false, Option, Some, refl, sym, ap, ◌∙◌, arith, inl, inr, subst, length-append}
+use Rattle.std.proofs.Common.{◌≡◌, ℕ, ◌+◌, ◌<◌, ◌≤◌, List, [], ◌∷◌, length, map, Bool, true, false, Option, Some, refl, sym, ap, ◌∙◌, arith, inl, inr, subst}
 use Rattle.std.proofs.lemmas.Bool.{cases_Bool, eqb-true}
 use Rattle.std.specs.List.{AllByRecursion, filter, find}
 use Rattle.std.specs.Prelude.{◌==◌, ◌&&◌, not, option_map, if◌then◌else◌}
+use Rattle.kds_base.proofs.Facts.{all_filter}
 use Rattle.kds_defs.specs.declared.entry.Entry.{Entry}
 use Rattle.kds_defs.specs.declared.entry.Entry.TheVariants as entry
 use Rattle.kds_defs.specs.Journal.{Journal, Line, with_lines}
 use Rattle.kds_defs.specs.Records.{draws, next_number}
-use Rattle.kds_defs.specs.Shards.{ShardState, Closing, closing_of, merged_shards, shards, shards_after, split_shards, with_closed}
+use Rattle.kds_defs.specs.Shards.{closing_of, shards, shards_after}
 use Rattle.kds_defs.specs.StreamCommands.{last_number}
 use Rattle.kds_defs.specs.Streams.{is_live, is_live_after, live_streams, made_count, made_count_after, name_of, name_of_after, numbers_from, same_name, stream_named}
-use Rattle.kds_defs.proofs.Numbers.{length-closed}
+use Rattle.kds_defs.proofs.Counted.{length_split, length_merged}
 use Rattle.kcl_sim_scribe.specs.Known.{IsKnown, Known, Knows, changed, changed_by, is_gone, known_as, renumbered}
-use Rattle.kcl_sim_scribe.proofs.Lists.{all_kept, both_tests, kept, mapped, same_kept, up_to}
+use Rattle.kcl_sim_scribe.proofs.Lists.{all_kept, both_tests, mapped, same_kept, up_to}
 
 abbrev pub no_of : Known → ℕ
 no_of v = v.no
@@ -38,7 +39,7 @@ named_is log made vs name k = ap (find (λ s. same_name (name_of log s) name)) k
 
 -- a live stream was made
 pub live_below : (log : Journal) → AllByRecursion (λ s. s ≤ made_count log) (live_streams log)
-live_below log = kept (λ s. s ≤ made_count log) (is_live log) (numbers_from 1 (made_count log)) (up_to 1 (made_count log) (made_count log) (omega arith))
+live_below log = all_filter (λ s. s ≤ made_count log) (is_live log) (numbers_from 1 (made_count log)) (up_to 1 (made_count log) (made_count log) (omega arith))
 
 -- ---- lines
 
@@ -137,13 +138,6 @@ none_drawn log (entry.Marked t c to) n f h = refl
 none_drawn log (entry.LeaseCut key c) n f h = refl
 
 -- ---- a stream that is known
-
-length_split : (sh at start : ℕ) (closing : Closing) (xs : List ShardState) → length (split_shards sh at closing start xs) ≡ length xs + 2
-length_split sh at start closing xs = length-append (with_closed sh closing xs) _ ∙ ap (λ n. n + 2) (length-closed sh closing xs)
-
-length_merged : (sh other start : ℕ) (closing : Closing) (xs : List ShardState) → length (merged_shards sh other closing start xs) ≡ length xs + 1
-length_merged sh other start closing xs =
-    length-append (with_closed other closing (with_closed sh closing xs)) _ ∙ ap (λ n. n + 1) (length-closed other closing (with_closed sh closing xs) ∙ length-closed sh closing xs)
 
 -- what an entry leaves of a stream's readings
 record Kept (log : Journal) (line : Line) (e : Entry) (v w : Known) : Type 0 where
@@ -291,7 +285,7 @@ pub knows_after : (log : Journal) (line : Line) (made : ℕ) (vs : List Known) �
 knows_after log line made vs f k = record {
   made_is = made_same log line.what (made_count log) f ∙ k.made_is;
   live = live_after log line made vs f k;
-  known = kept (IsKnown (line ∷ log)) (λ (v : Known). not (is_gone line.what v.no)) (map (renumbered line.what) vs)
+  known = all_filter (IsKnown (line ∷ log)) (λ (v : Known). not (is_gone line.what v.no)) (map (renumbered line.what) vs)
       (mapped (IsKnown log) (IsKnown (line ∷ log)) (renumbered line.what) vs (λ v known. known_after log line v f known) k.known);
   unmade = λ s above.
       let none = none_drawn log line.what s f (subst (λ (n : ℕ). n < s) (sym k.made_is) above) in

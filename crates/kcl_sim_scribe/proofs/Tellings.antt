@@ -1,9 +1,10 @@
 -- The lines of a command that was accepted are those that a scribe tells.
 use Rattle.std.proofs.Common.{◌≡◌, ℕ, suc, ◌+◌, ◌<◌, ◌≤◌, List, [], ◌∷◌, length, map, Bool, true, false, Option, Some, None, refl, sym, ap, ◌∙◌, arith, inl, inr, ◌⊎◌, subst}
-use Rattle.std.proofs.lemmas.Bool.{cases_Bool}
+use Rattle.std.proofs.lemmas.Bool.{cases_Bool, or_parts}
 use Rattle.std.proofs.lemmas.Bool.Decides.{nat_tests}
 use Rattle.std.specs.List.{filter}
-use Rattle.std.specs.Prelude.{◌==◌, ◌||◌, nat_lt, option_map, if◌then◌else◌}
+use Rattle.std.specs.Prelude.{◌==◌, nat_lt, option_map, if◌then◌else◌}
+use Rattle.kds_base.proofs.Facts.{is_itself}
 use Rattle.kds_defs.specs.declared.command.Command.{Command}
 use Rattle.kds_defs.specs.declared.command.Command.TheVariants as command
 use Rattle.kds_defs.specs.declared.command.NewItem.{NewItem}
@@ -61,15 +62,8 @@ one_of (Some v) s h = let e : v.no ≡ s = cc in (v, refl, e)
 below_last : (n d : ℕ) → n ≡ d + 1 → d < last_number → (n == last_number) ≡ false → n < last_number
 below_last n d e l h = grind (arith, nat_tests, e, l, h)
 
-neither : (a b : Bool) → (a || b) ≡ false → (a ≡ false) × (b ≡ false)
-neither true b h = absurd (cc)
-neither false b h = (refl, h)
-
 at_most : (n m : ℕ) → nat_lt n m ≡ false → m ≤ n
 at_most n m h = grind (arith, nat_tests, h)
-
-itself : (s : ℕ) → (s == s) ≡ true
-itself s = grind (arith, nat_tests)
 
 -- ---- puts and steps, one after another
 
@@ -81,7 +75,7 @@ puts_fit log c by s (item ∷ items) below fits =
       | inl held ↦ rw held (puts_fit log c by s items below (let h : next_number log s + length (put_lines log c by s items) ≤ last_number = rw held at fits in h))
       | inr free ↦
           let h : next_number log s + suc (length (put_lines (line ∷ log) c by s items)) ≤ last_number = rw free at fits in
-          let next : next_number (line ∷ log) s ≡ 1 + next_number log s = rw (itself s) refl in
+          let next : next_number (line ∷ log) s ≡ 1 + next_number log s = rw (is_itself s) refl in
           rw free ((below, (refl, omega (arith, h))), puts_fit (line ∷ log) c by s items below (omega (arith, h, next)))
     ]
 
@@ -105,11 +99,11 @@ steps_fit : (log : Journal) (c by s : ℕ) (steps : List ScaleStep) → s ≤ ma
 steps_fit log c by s [] below fits = tt
 steps_fit log c by s (Join b ∷ steps) below fits =
     let line : Line = plain_line c by (step_entry log s (Join b)) in
-    let next : next_number (line ∷ log) s ≡ 1 + next_number log s = rw (itself s) refl in
+    let next : next_number (line ∷ log) s ≡ 1 + next_number log s = rw (is_itself s) refl in
     ((below, ((refl, omega (arith, fits)), refl)), steps_fit (line ∷ log) c by s steps below (omega (arith, fits, next)))
 steps_fit log c by s (Cut b ∷ steps) below fits =
     let line : Line = plain_line c by (step_entry log s (Cut b)) in
-    let next : next_number (line ∷ log) s ≡ 1 + next_number log s = rw (itself s) refl in
+    let next : next_number (line ∷ log) s ≡ 1 + next_number log s = rw (is_itself s) refl in
     ((below, ((refl, omega (arith, fits)), refl)), steps_fit (line ∷ log) c by s steps below (omega (arith, fits, next)))
 
 steps_told : (log : Journal) (c by s : ℕ) (steps : List ScaleStep) → map told_by (step_lines log c by s steps) ≡ lines_by c by (filter is_step (map (λ (line : Line). line.what) (step_lines log c by s steps)))
@@ -166,7 +160,7 @@ module _ (log : Journal) (c by made : ℕ) (vs : List Known) (k : Knows log made
   tells_split : (name : List ℕ) (sh at : ℕ) → Gives (Says (command.Split name sh at)) (decide log c by (command.Split name sh at))
   tells_split name sh at = in_named _ name _ (λ v is below known.
       past _ _ _ _ (λ a. past _ _ _ _ (λ b. past _ _ _ _ (λ d. past _ _ _ _ (λ e. past _ _ _ _ (λ spent.
-      let parts = neither (nat_lt last_number (length (shards log v.no) + 1)) _ spent in
+      let parts = or_parts (nat_lt last_number (length (shards log v.no) + 1)) _ spent in
       let room : length (shards log v.no) + 1 ≤ last_number = at_most _ _ parts.0 in
       let upper : length (shards log v.no) + 1 ≡ v.shard + 2 = omega (arith, known.many) in
       record {
@@ -178,7 +172,7 @@ module _ (log : Journal) (c by made : ℕ) (vs : List Known) (k : Knows log made
   tells_merge : (name : List ℕ) (sh other : ℕ) → Gives (Says (command.Merge name sh other)) (decide log c by (command.Merge name sh other))
   tells_merge name sh other = in_named _ name _ (λ v is below known.
       past _ _ _ _ (λ a. past _ _ _ _ (λ b. past _ _ _ _ (λ d. past _ _ _ _ (λ spent.
-      let parts = neither (nat_lt last_number (length (shards log v.no))) _ spent in
+      let parts = or_parts (nat_lt last_number (length (shards log v.no))) _ spent in
       let room : length (shards log v.no) ≤ last_number = at_most _ _ parts.0 in
       record {
         can = rw is (known.left, omega (arith, room, known.many));
@@ -195,7 +189,7 @@ module _ (log : Journal) (c by made : ℕ) (vs : List Known) (k : Knows log made
   tells_scale : (name : List ℕ) (wanted : ℕ) → Gives (Says (command.Scale name wanted)) (decide log c by (command.Scale name wanted))
   tells_scale name wanted = in_named _ name _ (λ v is below known.
       past _ _ _ _ (λ full. past _ _ _ _ (λ spent.
-      let parts = neither (nat_lt last_number (next_number log v.no + length (steps_to log v.no wanted))) _ spent in
+      let parts = or_parts (nat_lt last_number (next_number log v.no + length (steps_to log v.no wanted))) _ spent in
       record {
         can = rw is tt;
         fits = steps_fit log c by v.no (steps_to log v.no wanted) below (at_most _ _ parts.0);

@@ -1,29 +1,16 @@
 -- What a write at a row's place makes of the rows, and that it keeps their order.
 use Rattle.std.proofs.Common.{◌≡◌, ℕ, suc, ◌+◌, ◌<◌, ◌≤◌, Bool, true, false, List, [], ◌∷◌, length, slice_set, Some, None, refl, sym, ap, subst, ◌∙◌, arith}
-use Rattle.std.specs.Prelude.{◌==◌, ◌&&◌, if◌then◌else◌}
+use Rattle.std.specs.Prelude.{if◌then◌else◌}
 use Rattle.std.specs.List.{insert, remove}
 use Rattle.std.proofs.lemmas.Bool.Decides.{nat_tests}
 use Rattle.kds_base.specs.declared.lease_key.ShardRef.{ShardRef}
 use Rattle.kds_defs.specs.declared.reply.Row.{Row}
 use Rattle.kds_defs.specs.Keys.{is_before, same_key}
 use Rattle.kds_defs.specs.Leases.{is_other, taken_row}
+use Rattle.kds_defs.proofs.Keys.{same_ref}
 use Rattle.kcl_table.specs.Rows.{AreCounted, AreInOrder, IsBeforeAll, IsTable, changed, place_of, row_of, with_row, without_row}
 use Rattle.kcl_table.proofs.Keys.{after_else, before_all, not_same}
 use Rattle.kcl_table.proofs.Places.{absent}
-
-both_hold : (a b : Bool) → (a && b) ≡ true → (a ≡ true) × (b ≡ true)
-both_hold true b h = (refl, h)
-both_hold false b h = absurd cc
-
-equal_so : (a b : ℕ) → (a == b) ≡ true → a ≡ b
-equal_so a b h = grind (arith, nat_tests)
-
-pub same_ref : (a b : ShardRef) → same_key a b ≡ true → a ≡ b
-same_ref a b h =
-    let p = both_hold (a.stream == b.stream) (a.shard == b.shard) h in
-    let s = equal_so a.stream b.stream p.0 in
-    let t = equal_so a.shard b.shard p.1 in
-    λ i. record { stream = s i; shard = t i }
 
 same_some : (r x : Row) → Some x ≡ Some r → x ≡ r
 same_some r x h = cc

@@ -1,7 +1,8 @@
 -- What the end of an audit tells, by what the reading of its input tells.
-use Rattle.std.proofs.Common.{◌≡◌, ℕ, Bool, true, false, List, [], ◌∷◌, ◌++◌, Option, Some, None, refl, sym, ap, ◌∙◌, subst}
+use Rattle.std.proofs.Common.{◌≡◌, ℕ, Bool, true, false, List, [], ◌∷◌, ◌++◌, Option, refl, sym, ap, ◌∙◌, subst}
 use Rattle.std.proofs.lemmas.List.{append_assoc, append-nil}
 use Rattle.std.specs.Io.KnownBytes.{Appends}
+use Rattle.std.proofs.KnownBytes.{Appends-trans}
 use Rattle.kds_ends.specs.Causes.{AppendsFront}
 use Rattle.kds_ends.specs.declared.status.Status.{Status}
 use Rattle.kds_ends.specs.declared.status.Status.TheVariants as status
@@ -13,16 +14,6 @@ use Rattle.kds_audit.specs.Audited.{TellsAudit, TellsEnd}
 use Rattle.kds_audit.proofs.Ends.{bad_is, ended, found_in, sound_is, too_long_is, unreported, unsound_is}
 
 -- ---- known bytes
-
-pub appends_both : (a b c : Option (List ℕ)) (xs ys : List ℕ) → Appends a b xs → Appends b c ys → Appends a c (xs ++ ys)
-appends_both None b c xs ys h k = tt
-appends_both (Some a) None c xs ys h k = absurd h
-appends_both (Some a) (Some b) None xs ys h k = absurd k
-appends_both (Some a) (Some b) (Some c) xs ys h k = k ∙ ap (λ z. z ++ ys) h ∙ append_assoc a xs ys
-
-pub appends_none : (a : Option (List ℕ)) → Appends a a []
-appends_none None = tt
-appends_none (Some a) = sym (append-nil a)
 
 empty_front : (xs ys : List ℕ) → [] ≡ xs ++ ys → xs ≡ []
 empty_front [] ys h = refl
@@ -81,7 +72,7 @@ module _ (bytes : List ℕ) (texts rest : List (List ℕ)) (front back : List �
 
       -- what is added goes behind what was written
       wrote_all : (added : List ℕ) → report (progress texts) ++ added ≡ audit_text (finish (progress texts) (end_by b)) → Appends mid now added → Appends held now (audit_text (audit_of bytes))
-      wrote_all added text w = subst (λ (z : List ℕ). Appends held now z) (whole_text added text) (appends_both held mid now front added written w)
+      wrote_all added text w = subst (λ (z : List ℕ). Appends held now z) (whole_text added text) (Appends-trans held mid now front added written w)
 
       pub end_tells : (s : Status) → TellsEnd s (finish (progress texts) (end_by b)) (report (progress texts)) mid now → TellsAudit s bytes held now
       end_tells status.Done t =
@@ -92,8 +83,8 @@ module _ (bytes : List ℕ) (texts rest : List (List ℕ)) (front back : List �
           (n.0, n.1, said ∙ n.2, wrote_all t.1.0 t.1.1 t.1.2)
       end_tells status.Write t =
           let f = t.2 in
-          (front ++ f.0, f.1, sym (whole_text t.0 t.1) ∙ ap (λ z. front ++ z) f.2 ∙ sym (append_assoc front f.0 f.1), appends_both held mid now front f.0 written f.3)
+          (front ++ f.0, f.1, sym (whole_text t.0 t.1) ∙ ap (λ z. front ++ z) f.2 ∙ sym (append_assoc front f.0 f.1), Appends-trans held mid now front f.0 written f.3)
       end_tells status.Memory t =
           let f = front_told in
-          (f.0, f.1, f.2, subst (λ (z : List ℕ). Appends held now z) (append-nil f.0) (appends_both held mid now f.0 [] f.3 t))
+          (f.0, f.1, f.2, subst (λ (z : List ℕ). Appends held now z) (append-nil f.0) (Appends-trans held mid now f.0 [] f.3 t))
       end_tells _ t = absurd t

@@ -1,3 +1,4 @@
 pub mod Digests
+pub mod Facts
 pub mod NumberLemmas
 pub mod Uniform

@@ -4,10 +4,11 @@ use Rattle.std.proofs.lemmas.List.{append_assoc, append-nil, length-append, reve
 use mathlib.Core.List.{reverse_aux}
 use Rattle.std.specs.Io.KnownBytes.{Appends}
 use Rattle.std.specs.Option.{IfSome}
+use Rattle.std.proofs.KnownBytes.{Appends-nil, Appends-trans}
 use Rattle.kds_defs.specs.declared.command.Turn.{Turn}
 use Rattle.kds_defs.specs.Histories.{clock}
 use Rattle.kds_defs.specs.Lawful.{IsHistory}
-use Rattle.kds_ends.proofs.Writing.{appends_more, appends_nothing, front_later, front_longer, front_part, part_front, part_later}
+use Rattle.kds_ends.proofs.Writing.{front_later, front_longer, front_part, part_front, part_later}
 use Rattle.kds_ends.specs.Causes.{AppendsFront, AppendsPart}
 use Rattle.kds_ends.specs.declared.status.Status.{Status}
 use Rattle.kds_ends.specs.declared.status.Status.TheVariants.{Done, BadLine, Read, Write, Memory, TooLong}
@@ -25,7 +26,7 @@ use Rattle.kds_cli_runs.specs.Journal.{EndTells, IsAuditedSound, JournalTells, e
 use Rattle.kds_cli_runs.specs.Told.{TellsBy}
 
 pub nothing_written : (held : Option (List ℕ)) (xs : List ℕ) → AppendsFront held held xs
-nothing_written held xs = ([], xs, refl, appends_nothing held)
+nothing_written held xs = ([], xs, refl, Appends-nil held)
 
 -- ---- a front that isn't all
 
@@ -43,7 +44,7 @@ no_last : (c : ℕ) (held now : Option (List ℕ)) → Appends held now [] → A
 no_last c held now e = ([], last_line c, some_last c, refl, e)
 
 pub nothing_recorded : (h : List Turn) (held : Option (List ℕ)) → AppendsPart held held (journal_text h)
-nothing_recorded h held = ([], journal_text h, some_behind (first_line ++ entries_text (history_entries h)) (clock h), refl, appends_nothing held)
+nothing_recorded h held = ([], journal_text h, some_behind (first_line ++ entries_text (history_entries h)) (clock h), refl, Appends-nil held)
 
 -- ---- the first line
 
@@ -66,9 +67,9 @@ part_of_all bytes held now f = front_part held now (first_line ++ entries bytes)
 
 begins : (st : Status) (bytes : List ℕ) (left a b c : Option (List ℕ)) → (st ≡ Done → ⊥) → Appends a b first_line → TellsBy entries st bytes left b c → JournalTells st bytes left a c
 begins Done bytes left a b c not_done h t = absurd (not_done refl)
-begins (BadLine n) bytes left a b c not_done h t = (t.0, appends_more a b c first_line (entries bytes) h t.1)
-begins TooLong bytes left a b c not_done h t = (t.0, appends_more a b c first_line (entries bytes) h t.1)
-begins Read bytes left a b c not_done h t = (t.0, t.1, t.2, t.3, appends_more a b c first_line (entries t.0) h t.4)
+begins (BadLine n) bytes left a b c not_done h t = (t.0, Appends-trans a b c first_line (entries bytes) h t.1)
+begins TooLong bytes left a b c not_done h t = (t.0, Appends-trans a b c first_line (entries bytes) h t.1)
+begins Read bytes left a b c not_done h t = (t.0, t.1, t.2, t.3, Appends-trans a b c first_line (entries t.0) h t.4)
 begins Write bytes left a b c not_done h t = part_of_all bytes a c (front_later a b c first_line (entries bytes) h t)
 begins Memory bytes left a b c not_done h t = part_of_all bytes a c (front_later a b c first_line (entries bytes) h t)
 begins _ bytes left a b c not_done h t = absurd t
@@ -88,11 +89,11 @@ all_ran bytes b c s r =
 ends_at : (st : Status) (bytes : List ℕ) (left a b c d : Option (List ℕ)) → Appends a b first_line → TellsBy entries Done bytes left b c
     → EndTells st (clock (history bytes)) c d → JournalTells st bytes left a d
 ends_at Done bytes left a b c d h t e =
-    (t.0, appends_more a c d (first_line ++ entries bytes) (last_line (clock (history bytes))) (appends_more a b c first_line (entries bytes) h t.1) e)
+    (t.0, Appends-trans a c d (first_line ++ entries bytes) (last_line (clock (history bytes))) (Appends-trans a b c first_line (entries bytes) h t.1) e)
 ends_at Write bytes left a b c d h t e =
-    part_later a c d (first_line ++ entries bytes) (last_line (clock (history bytes))) (appends_more a b c first_line (entries bytes) h t.1) e
+    part_later a c d (first_line ++ entries bytes) (last_line (clock (history bytes))) (Appends-trans a b c first_line (entries bytes) h t.1) e
 ends_at Memory bytes left a b c d h t e =
-    part_later a c d (first_line ++ entries bytes) (last_line (clock (history bytes))) (appends_more a b c first_line (entries bytes) h t.1)
+    part_later a c d (first_line ++ entries bytes) (last_line (clock (history bytes))) (Appends-trans a b c first_line (entries bytes) h t.1)
     (no_last (clock (history bytes)) c d e)
 ends_at _ bytes left a b c d h t e = absurd e
 
@@ -170,7 +171,7 @@ ran_behind Write bytes a b c s not_done h r = record {
   front = first_line ++ r.front;
   back = r.back ++ last_line (clock (with_schedule fresh r.lines).history);
   output_is = between first_line (lines_journal r.lines) r.front r.back (last_line (clock (with_schedule fresh r.lines).history)) r.output_is;
-  written = appends_more a b c first_line r.front h r.written;
+  written = Appends-trans a b c first_line r.front h r.written;
   remains = tt;
 }
 ran_behind Memory bytes a b c s not_done h r = record {
@@ -181,7 +182,7 @@ ran_behind Memory bytes a b c s not_done h r = record {
   front = first_line ++ r.front;
   back = r.back ++ last_line (clock (with_schedule fresh r.lines).history);
   output_is = between first_line (lines_journal r.lines) r.front r.back (last_line (clock (with_schedule fresh r.lines).history)) r.output_is;
-  written = appends_more a b c first_line r.front h r.written;
+  written = Appends-trans a b c first_line r.front h r.written;
   remains = tt;
 }
 ran_behind _ bytes a b c s not_done h r = record {
@@ -192,7 +193,7 @@ ran_behind _ bytes a b c s not_done h r = record {
   front = first_line ++ r.front;
   back = r.back;
   output_is = behind first_line (lines_journal r.lines) r.front r.back r.output_is;
-  written = appends_more a b c first_line r.front h r.written;
+  written = Appends-trans a b c first_line r.front h r.written;
   remains = r.remains;
 }
 
@@ -205,7 +206,7 @@ ran_behind_all st (Some bytes) a b c s not_done h r = ran_behind st bytes a b c 
 ran_whole : (bytes : List ℕ) (a b c : Option (List ℕ)) (s : SimValue) → Appends a b first_line → (r : RanBy lines_journal Done bytes b c s)
     → Appends a c (first_line ++ lines_journal r.lines)
 ran_whole bytes a b c s h r =
-    appends_more a b c first_line (lines_journal r.lines) h
+    Appends-trans a b c first_line (lines_journal r.lines) h
     (subst (λ (z : List ℕ). Appends b c z) (sym (r.output_is ∙ ap (λ z. r.front ++ z) r.remains.1 ∙ append-nil r.front)) r.written)
 
 ran_front : (st : Status) (bytes : List ℕ) (a b c d : Option (List ℕ)) (s : SimValue) (r : RanBy lines_journal Done bytes b c s)
@@ -228,7 +229,7 @@ ran_ended : (st : Status) (bytes : List ℕ) (a b c d : Option (List ℕ)) (s : 
 ran_ended Done bytes a b c d s h r e =
     let line = last_line (clock (with_schedule fresh r.lines).history) in
     ran_front Done bytes a b c d s r (recorded Done r.lines) [] r.made (sym (append-nil _)) (r.remains.0, refl)
-    (appends_more a c d (first_line ++ lines_journal r.lines) line (ran_whole bytes a b c s h r) e)
+    (Appends-trans a c d (first_line ++ lines_journal r.lines) line (ran_whole bytes a b c s h r) e)
 ran_ended Write bytes a b c d s h r e =
     let last = last_line (clock (with_schedule fresh r.lines).history) in
     let f = front_later a c d (first_line ++ lines_journal r.lines) last (ran_whole bytes a b c s h r) (part_front c d last e) in

@@ -1,12 +1,12 @@
 -- Want of memory before anything is read is an end of each task.
 use Rattle.std.proofs.Common.{◌≡◌, ℕ, Bool, true, false, List, [], ◌++◌, Option, Some, None, refl, inl, inr}
 use Rattle.std.specs.Option.{IfSome}
+use Rattle.std.proofs.KnownBytes.{Appends-nil}
 use Rattle.kds_defs.specs.declared.command.Turn.{Turn}
 use Rattle.kds_defs.specs.Histories.{journal, clock}
 use Rattle.kds_defs.specs.Lawful.{IsHistory}
 use Rattle.kds_defs.specs.Safe.{IsSafe}
 use Rattle.kds_audit.specs.Audited.{TellsAudit}
-use Rattle.kds_ends.proofs.Writing.{appends_nothing}
 use Rattle.kds_ends.specs.Moments.{Gives}
 use Rattle.kds_ends.specs.declared.status.Status.TheVariants.{Done, Memory, Unsound}
 use Rattle.kds_cli_tasks.specs.declared.task.Task.{Task}
@@ -37,7 +37,7 @@ none_ran output bytes held = record {
   front = [];
   back = output [];
   output_is = refl;
-  written = appends_nothing held;
+  written = Appends-nil held;
   remains = tt;
 }
 
@@ -102,5 +102,5 @@ module _ (lawful : (bytes : List ℕ) (lines later : List Line) → (judged byte
   wanting (Replay journal) bytes left moments held listens = unreplayed journal bytes left held
   wanting Answer bytes left moments held listens = unserved bytes left moments held
   wanting Audit bytes left moments held listens = unaudited bytes held
-  wanting (Serve port passes) bytes left moments held listens = inr (appends_nothing held)
-  wanting (Drill number workers records) bytes left moments held listens = appends_nothing held
+  wanting (Serve port passes) bytes left moments held listens = inr (Appends-nil held)
+  wanting (Drill number workers records) bytes left moments held listens = Appends-nil held

@@ -8,6 +8,7 @@ use Rattle.std.specs.Str.Parse.{digits_value}
 use Rattle.std.proofs.lemmas.Bool.Decides.{nat_tests}
 use Rattle.clap.specs.Words.{Text, takes, subcommand_of}
 use Rattle.kds_base.specs.NumberText.{is_plain, number_of}
+use Rattle.kds_base.proofs.Facts.{both_left, both_right, equal_so}
 use Rattle.kds_cli_words.specs.Apps.{kds_app}
 use Rattle.kds_cli_tasks.specs.Words.{task_of, serve_of, drill_of, within, number_in, port_of, members_of, records_of}
 use Rattle.kds_cli_words.specs.Words.{told}
@@ -18,23 +19,12 @@ use Rattle.kds_cli_words.proofs.Taken.{IsValue, is_value, takes_replay, takes_jo
 
 -- ---- texts
 
-pub left : (a b : Bool) → (a && b) ≡ true → a ≡ true
-left true b h = refl
-left false b h = absurd cc
-
-pub right : (a b : Bool) → (a && b) ≡ true → b ≡ true
-right true b h = h
-right false b h = absurd cc
-
-same_number : (x y : ℕ) → (x == y) ≡ true → x ≡ y
-same_number x y h = grind (arith, nat_tests)
-
 pub same_text : (a b : Text) → bytes_eq a b ≡ true → a ≡ b
 same_text [] [] h = refl
 same_text [] (y ∷ ys) h = absurd cc
 same_text (x ∷ xs) [] h = absurd cc
 same_text (x ∷ xs) (y ∷ ys) h =
-    ap (λ z. z ∷ xs) (same_number x y (left (x == y) (bytes_eq xs ys) h)) ∙ ap (λ zs. y ∷ zs) (same_text xs ys (right (x == y) (bytes_eq xs ys) h))
+    ap (λ z. z ∷ xs) (equal_so x y (both_left (x == y) (bytes_eq xs ys) h)) ∙ ap (λ zs. y ∷ zs) (same_text xs ys (both_right (x == y) (bytes_eq xs ys) h))
 
 -- ---- a number has no leading hyphen
 
@@ -48,11 +38,11 @@ digit_is_no_hyphen d h = grind (arith, nat_tests)
 plain_value : (w : Text) → is_plain w ≡ true → IsValue w
 plain_value [] h = absurd cc
 plain_value (d ∷ w) h =
-    let digits = right (nat_lt 0 (length (d ∷ w)) && (length (d ∷ w) == 1 || not (d == 48))) (list_all is_ascii_digit (d ∷ w)) h in
-    is_value d w (digit_is_no_hyphen d (left (is_ascii_digit d) (list_all is_ascii_digit w) digits))
+    let digits = both_right (nat_lt 0 (length (d ∷ w)) && (length (d ∷ w) == 1 || not (d == 48))) (list_all is_ascii_digit (d ∷ w)) h in
+    is_value d w (digit_is_no_hyphen d (both_left (is_ascii_digit d) (list_all is_ascii_digit w) digits))
 
 number_value : (w : Text) (n : ℕ) → number_of 64 w ≡ Some n → IsValue w
-number_value w n h = plain_value w (left (is_plain w) (nat_lt (digits_value 10 w) (2 ^ 64)) (some_if (is_plain w && nat_lt (digits_value 10 w) (2 ^ 64)) (digits_value 10 w) n h))
+number_value w n h = plain_value w (both_left (is_plain w) (nat_lt (digits_value 10 w) (2 ^ 64)) (some_if (is_plain w && nat_lt (digits_value 10 w) (2 ^ 64)) (digits_value 10 w) n h))
 
 -- ---- each value of a task that is there was there
 
@@ -94,8 +84,8 @@ then_some false o task h = absurd cc
 two_words : (word a : Text) (task : Task) → task_of (word ∷ a ∷ []) ≡ Some task → Reads (word ∷ a ∷ []) task
 two_words word a task h =
     let is = then_some (bytes_eq word (codes "replay") && bytes_eq a (codes "--journal")) (Some (Replay true)) task h in
-    let w = same_text word (codes "replay") (left (bytes_eq word (codes "replay")) (bytes_eq a (codes "--journal")) is.0) in
-    let f = same_text a (codes "--journal") (right (bytes_eq word (codes "replay")) (bytes_eq a (codes "--journal")) is.0) in
+    let w = same_text word (codes "replay") (both_left (bytes_eq word (codes "replay")) (bytes_eq a (codes "--journal")) is.0) in
+    let f = same_text a (codes "--journal") (both_right (bytes_eq word (codes "replay")) (bytes_eq a (codes "--journal")) is.0) in
     let t : Replay true ≡ task = cc (is.1) in
     subst (λ x. Reads (x ∷ a ∷ []) task) (sym w) (subst (λ x. Reads (codes "replay" ∷ x ∷ []) task) (sym f) (subst (λ x. Reads (codes "replay" ∷ codes "--journal" ∷ []) x) t (record { taken = takes_journal; read = told_journal })))
 

@@ -9,6 +9,8 @@ use Rattle.std.specs.List.{AllByRecursion, list_all}
 use Rattle.std.specs.Option.{option_map}
 use Rattle.std.specs.Str.{bytes_eq}
 use Rattle.std.specs.Box.{box_value}
+use Rattle.std.proofs.lemmas.Bool.{or_right}
+use Rattle.kds_base.proofs.Facts.{both_left, both_right}
 use Rattle.clap.specs.Matches.{first_value, found_of, subcommand_name_of}
 use Rattle.clap.specs.Simple.{subcommand_rows, subcommand_rows_of}
 use Rattle.clap.specs.Walk.{Row, Text, first_of, rows_of}
@@ -25,7 +27,7 @@ use Rattle.kds_cli_words.specs.Words.{drill_told, has_hyphen, is_told, is_word, 
 use Rattle.kds_cli_tasks.specs.declared.task.Task.{Task}
 use Rattle.kds_cli_tasks.specs.declared.ranges.TheConstants.{MOST_MEMBERS, MOST_PORT, MOST_RECORDS}
 use Rattle.kds_cli_tasks.specs.declared.task.Task.TheVariants.{Replay, Answer, Audit}
-use Rattle.kds_cli_words.proofs.Accepted.{and_then, chosen, digit_is_no_hyphen, left, reads, right, same_text, some_if, then_some}
+use Rattle.kds_cli_words.proofs.Accepted.{and_then, chosen, digit_is_no_hyphen, reads, same_text, some_if, then_some}
 use Rattle.kds_cli_words.proofs.Exact.{IsWord, exact}
 use Rattle.kds_cli_words.proofs.Taken.{is_value}
 
@@ -95,18 +97,14 @@ read_exactly words are few fine = exact words (words_are words are) few fine
 
 -- ---- the words of a task may be seen by clap
 
-or_true : (a b : Bool) → b ≡ true → (a || b) ≡ true
-or_true true b h = refl
-or_true false b h = h
-
 digit_word : (w : Text) → is_plain w ≡ true → is_word w ≡ true
 digit_word [] h = absurd cc
 digit_word (d ∷ w) h =
-    let digits = right (nat_lt 0 (length (d ∷ w)) && (length (d ∷ w) == 1 || not (d == 48))) (list_all is_ascii_digit (d ∷ w)) h in
-    or_true (bytes_eq (d ∷ w) (codes "--journal")) (not (d == 45)) (ap not (digit_is_no_hyphen d (left (is_ascii_digit d) (list_all is_ascii_digit w) digits)))
+    let digits = both_right (nat_lt 0 (length (d ∷ w)) && (length (d ∷ w) == 1 || not (d == 48))) (list_all is_ascii_digit (d ∷ w)) h in
+    or_right (bytes_eq (d ∷ w) (codes "--journal")) (not (d == 45)) (ap not (digit_is_no_hyphen d (both_left (is_ascii_digit d) (list_all is_ascii_digit w) digits)))
 
 number_word : (w : Text) (n : ℕ) → number_of 64 w ≡ Some n → is_word w ≡ true
-number_word w n h = digit_word w (left (is_plain w) (nat_lt (digits_value 10 w) (2 ^ 64)) (some_if (is_plain w && nat_lt (digits_value 10 w) (2 ^ 64)) (digits_value 10 w) n h))
+number_word w n h = digit_word w (both_left (is_plain w) (nat_lt (digits_value 10 w) (2 ^ 64)) (some_if (is_plain w && nat_lt (digits_value 10 w) (2 ^ 64)) (digits_value 10 w) n h))
 
 in_word : (low high : ℕ) (w : Text) (n : ℕ) → number_in low high w ≡ Some n → is_word w ≡ true
 in_word low high w n h = let a = and_then (number_of 64 w) (within low high) n h in number_word w a.0 a.1
@@ -132,8 +130,8 @@ worded (word ∷ []) task h =
     none_some task h = cc
 worded (word ∷ a ∷ []) task h =
     let is = then_some (bytes_eq word (codes "replay") && bytes_eq a (codes "--journal")) (Some (Replay true)) task h in
-    let w = same_text word (codes "replay") (left (bytes_eq word (codes "replay")) (bytes_eq a (codes "--journal")) is.0) in
-    let f = same_text a (codes "--journal") (right (bytes_eq word (codes "replay")) (bytes_eq a (codes "--journal")) is.0) in
+    let w = same_text word (codes "replay") (both_left (bytes_eq word (codes "replay")) (bytes_eq a (codes "--journal")) is.0) in
+    let f = same_text a (codes "--journal") (both_right (bytes_eq word (codes "replay")) (bytes_eq a (codes "--journal")) is.0) in
     subst (λ x. list_all is_word (x ∷ a ∷ []) ≡ true) (sym w) (subst (λ x. list_all is_word (codes "replay" ∷ x ∷ []) ≡ true) (sym f) refl)
 worded (word ∷ p ∷ m ∷ []) task h =
     let is = then_some (bytes_eq word (codes "serve")) (serve_of p m) task h in

@@ -8,3 +8,8 @@ pub mod Homes
 pub mod ScalingExamples
 pub mod ThroughputExamples
 mod LastPlaces
+pub mod Batches
+pub mod Counted
+pub mod Keys
+pub mod Members
+pub mod Rising

@@ -4,14 +4,12 @@ use Rattle.std.specs.Prelude.{nat_le, slice_get, cond, if◌then◌else◌}
 use Rattle.std.specs.List.{AllByRecursion, filter}
 use Rattle.std.proofs.lemmas.Bool.Decides.{nat_tests}
 use Rattle.kds_base.specs.Span.{Span, is_inside, lower_part, upper_part, follows, are_adjacent, joined, last_key, uniform_from, uniform}
+use Rattle.kds_base.proofs.Facts.{same_some}
 use Rattle.kds_defs.specs.Safe.{times_covered}
 use Rattle.kds_defs.specs.Shards.{ShardState, Closing, is_open, new_shard, first_shards, with_closed}
 use Rattle.kds_defs.specs.Tiled.{one, count_if, open_times, IsOrdered, IsTiled}
 
-some_same : {A : Type 0} (x y : A) → Some x ≡ Some y → x ≡ y
-some_same x y h = cc
-
-counted : (b : Bool) (n : ℕ) → b ≡ true → count_if b n ≡ n
+pub counted : (b : Bool) (n : ℕ) → b ≡ true → count_if b n ≡ n
 counted true n h = refl
 counted false n h = absurd cc
 
@@ -47,7 +45,7 @@ ordered-append : (xs ys : List ShardState) → AllByRecursion IsOrdered xs → A
 ordered-append [] ys h g = g
 ordered-append (x ∷ xs) ys h g = (h.0, ordered-append xs ys h.1 g)
 
-ordered-at : (xs : List ShardState) (sh : ℕ) (x : ShardState) → slice_get xs sh ≡ Some x → AllByRecursion IsOrdered xs → x.range.start ≤ x.range.end
+pub ordered-at : (xs : List ShardState) (sh : ℕ) (x : ShardState) → slice_get xs sh ≡ Some x → AllByRecursion IsOrdered xs → x.range.start ≤ x.range.end
 ordered-at [] sh x is h = absurd cc
 ordered-at (y ∷ ys) zero x is h = let e : y ≡ x = cc in omega (arith, h.0, ap (λ (z : ShardState). z.range.start) e, ap (λ (z : ShardState). z.range.end) e)
 ordered-at (y ∷ ys) (suc sh) x is h = ordered-at ys sh x is h.1
@@ -84,7 +82,7 @@ no_self : (a b : Span) → a.start ≤ a.end → are_adjacent a b ≡ true → a
 no_self a b oa h e = let s : a.start ≡ b.start = ap (λ (r : Span). r.start) e in let t : a.end ≡ b.end = ap (λ (r : Span). r.end) e in grind (arith, nat_tests)
 
 same_at : (xs : List ShardState) (sh other : ℕ) (x y : ShardState) → slice_get xs sh ≡ Some x → slice_get xs other ≡ Some y → sh ≡ other → x.range ≡ y.range
-same_at xs sh other x y is is' e = let s : Some x ≡ Some y = sym is ∙ ap (slice_get xs) e ∙ is' in ap (λ (z : ShardState). z.range) (some_same x y s)
+same_at xs sh other x y is is' e = let s : Some x ≡ Some y = sym is ∙ ap (slice_get xs) e ∙ is' in ap (λ (z : ShardState). z.range) (same_some x y s)
 
 -- a split
 pub tiled_split : (xs : List ShardState) (sh n m at start : ℕ) (closing : Closing) (p q : Option ℕ) (x : ShardState) → slice_get xs sh ≡ Some x → is_open x ≡ true → is_inside x.range at ≡ true → IsTiled xs

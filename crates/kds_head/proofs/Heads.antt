@@ -7,6 +7,7 @@ use Rattle.std.proofs.lemmas.Bool.Decides.{nat_tests}
 use Rattle.std.proofs.lemmas.List.{append_assoc, append-nil, length-append, length-take}
 use Rattle.std.proofs.lemmas.List.Elements.{All-nil, All-cons, All-head, All-tail}
 use Rattle.std.specs.List.{flat_map}
+use Rattle.kds_base.proofs.Facts.{equal_so}
 use Rattle.httparse.proofs.GrammarLemmas.{request_unique, ReadsRequest-append}
 use Rattle.httparse.specs.Grammar.{NeverHasRequest, HasNoRequest, MayBecomeRequest, LineEnd, crlf, lf, print_end, print_blank, Field, IsField, print_field, RequestHead, IsRequestHead, IsToken, AllPass, is_token_byte, is_uri_byte, print_request}
 use Rattle.httparse.specs.Spans.{RequestExceeds, name_and_value}
@@ -145,9 +146,6 @@ open_is : (b : Bool) (found : Found) → found ≡ (if b then Refused 431 else N
 open_is true found e n = refl
 open_is false found e n = absurd (n e)
 
-same_number : (n k : ℕ) → (n == k) ≡ true → n ≡ k
-same_number n k e = grind (arith, nat_tests)
-
 no_room : (front m : List ℕ) → length front ≡ 16384 → length (front ++ m) ≤ 16384 → m ≡ []
 no_room front [] e l = refl
 no_room front (x ∷ m) e l = absurd (omega (arith, length-append front (x ∷ m)))
@@ -156,7 +154,7 @@ pub stays_in : (front m : List ℕ) (found : Found) → length (front ++ m) ≤ 
 stays_in front m found l (inl a) n = inl (a.0, (a.1.0 ++ m, ReadsRequest-append front a.0 a.1.0 m a.1.1), a.2)
 stays_in front m found l (inr (inl b)) n = inr (inl ((never_more front m b.0.0, λ e. never_may front b.0 (may_before front m (inr e))), b.1))
 stays_in front m found l (inr (inr c)) n =
-    let full : length front ≡ 16384 = same_number _ _ (open_is (length front == 16384) found c.1 n) in
+    let full : length front ≡ 16384 = equal_so _ _ (open_is (length front == 16384) found c.1 n) in
     let same : front ++ m ≡ front = ap (λ z. front ++ z) (no_room front m full l) ∙ append-nil front in
     subst (λ (z : List ℕ). IsFoundIn z found) (sym same) (inr (inr c))
 

@@ -2,9 +2,10 @@
 use Rattle.std.proofs.Common.{◌≡◌, ℕ, ◌+◌, List, [], ◌∷◌, ◌++◌, length, Bool, true, false, Option, Some, None, refl, sym, ap, ◌∙◌, subst, ◌<◌, ◌≤◌, ◌⊎◌, arith, inl, inr}
 use Rattle.std.proofs.lemmas.Grind.{common_steps}
 use Rattle.std.proofs.lemmas.List.{append_assoc, append-nil, length-append}
-use Rattle.std.specs.Io.KnownBytes.{Appends, Consumes, IsAtEnd, Keeps}
+use Rattle.std.specs.Io.KnownBytes.{Appends, IsAtEnd, Keeps}
 use Rattle.std.specs.Option.{IfSome}
 use Rattle.std.specs.Prelude.{◌==◌, if◌then◌else◌, OnOk, OnErr, IfErr, Result, Ok, Err}
+use Rattle.std.proofs.KnownBytes.{Appends-nil, Appends-trans, Consumes-nil, Consumes-kept}
 use Rattle.kds_ends.specs.Causes.{AppendsFront}
 use Rattle.kds_defs.specs.declared.limits.TheConstants.{LINE_BYTES, INPUT_BYTES}
 use Rattle.kds_lines.specs.declared.outcome.Outcome.{Outcome}
@@ -19,22 +20,12 @@ use Rattle.kds_lines.proofs.Pieces.{fed_nothing, line_fed, line_over, more_fed, 
 
 -- ---- what is written
 
-appends_nothing : (held : Option (List ℕ)) → Appends held held []
-appends_nothing None = tt
-appends_nothing (Some xs) = sym (append-nil xs)
-
-appends_more : (a b c : Option (List ℕ)) (xs ys : List ℕ) → Appends a b xs → Appends b c ys → Appends a c (xs ++ ys)
-appends_more None b c xs ys h k = tt
-appends_more (Some us) None c xs ys h k = absurd h
-appends_more (Some us) (Some vs) None xs ys h k = absurd k
-appends_more (Some us) (Some vs) (Some ws) xs ys h k = k ∙ ap (λ z. z ++ ys) h ∙ append_assoc us xs ys
-
 -- what waited is written
 pub flushed : (start before now : Option (List ℕ)) (output waits missing : List ℕ) → Wrote start before output waits missing → Appends before now waits → Wrote start now output [] missing
 flushed start before now output waits missing w a = record {
   front = w.front ++ waits;
   parts = w.parts ∙ sym (append_assoc w.front waits missing);
-  written = appends_more start before now w.front waits w.written a;
+  written = Appends-trans start before now w.front waits w.written a;
 }
 
 -- a front of it is
@@ -44,7 +35,7 @@ lost start before now output waits missing w a = (
   record {
     front = w.front ++ a.0;
     parts = w.parts ∙ ap (λ z. w.front ++ (z ++ missing)) a.2 ∙ ap (λ z. w.front ++ z) (append_assoc a.0 a.1 missing) ∙ sym (append_assoc w.front a.0 (a.1 ++ missing));
-    written = appends_more start before now w.front a.0 w.written a.3;
+    written = Appends-trans start before now w.front a.0 w.written a.3;
   },
 )
 
@@ -373,22 +364,6 @@ feed_is_no_read o h e = let bad : IsFeedStop Read = subst (λ (z : Outcome). IsF
 
 -- ---- the source
 
-consumes_nothing : (a : Option (List ℕ)) → Consumes a a []
-consumes_nothing None = tt
-consumes_nothing (Some xs) = refl
-
-pub consumes_more : (a b c : Option (List ℕ)) (xs ys : List ℕ) → Consumes a b xs → Consumes b c ys → Consumes a c (xs ++ ys)
-consumes_more None b c xs ys h k = tt
-consumes_more (Some us) None c xs ys h k = absurd h
-consumes_more (Some us) (Some vs) None xs ys h k = absurd k
-consumes_more (Some us) (Some vs) (Some ws) xs ys h k = h ∙ ap (λ z. xs ++ z) k ∙ sym (append_assoc xs ys ws)
-
-consumes_and_keeps : (a b c : Option (List ℕ)) (xs : List ℕ) → Consumes a b xs → Keeps b c → Consumes a c xs
-consumes_and_keeps None b c xs h k = tt
-consumes_and_keeps (Some us) None c xs h k = absurd h
-consumes_and_keeps (Some us) (Some vs) None xs h k = absurd k
-consumes_and_keeps (Some us) (Some vs) (Some ws) xs h k = h ∙ ap (λ z. xs ++ z) (sym k)
-
 not_over : (len used : ℕ) → len ≤ LINE_BYTES → used + len ≤ INPUT_BYTES → is_over len (used + len) ≡ false
 not_over len used a b = grind (arith, common_steps)
 
@@ -399,13 +374,13 @@ module _ (took : List (List ℕ) → Type 0) (broke refuses : List (List ℕ) �
       → output [] ≡ [] → Running took output left left reading start start
   runs_from left start reading eh eo ec eu t none = record {
     fed = [];
-    consumed = consumes_nothing left;
+    consumed = Consumes-nil left;
     stands = record {
       texts = [];
       bytes = rw (eh, eu) fed_nothing;
       count = ec;
       taken = t;
-      wrote = rw eo (record { front = []; parts = none; written = appends_nothing start });
+      wrote = rw eo (record { front = []; parts = none; written = Appends-nil start });
     };
     flushed = eo;
   }
@@ -416,7 +391,7 @@ module _ (took : List (List ℕ) → Type 0) (broke refuses : List (List ℕ) �
   halted_read all left after start now reading r keeps =
       let st = r.stands in record {
         fed = r.fed;
-        consumed = consumes_and_keeps all left after r.fed r.consumed keeps;
+        consumed = Consumes-kept all left after r.fed r.consumed keeps;
         halted = record {
           texts = st.texts;
           begins = fed_begins _ _ _ _ st.bytes;

@@ -1,7 +1,7 @@
 -- A batch is the longest prefix within its limits.
-use Rattle.std.proofs.Common.{◌≡◌, ◌≢◌, ℕ, zero, suc, ◌-◌, ◌<◌, ◌≤◌, Bool, true, false, List, [], ◌∷◌, ◌++◌, length, map, refl, sym, ap, subst, ◌∙◌, arith}
+use Rattle.std.proofs.Common.{◌≡◌, ◌≢◌, ℕ, zero, suc, ◌-◌, ◌≤◌, Bool, true, false, List, [], ◌∷◌, ◌++◌, length, map, refl, sym, ap, subst, ◌∙◌, arith}
 use Rattle.std.specs.Prelude.{nat_le, if◌then◌else◌, IfOk, Result, Ok, Err}
-use Rattle.std.proofs.lemmas.Bool.Decides.{nat_tests}
+use Rattle.kds_base.proofs.Facts.{le_so, is_le, above_so}
 use Rattle.kds_defs.specs.Records.{Logged, beginning, stored}
 use Rattle.kds_defs.specs.declared.limits.TheConstants.{BATCH_BYTES}
 use Rattle.kds_defs.specs.declared.reply.Stored.{Stored}
@@ -20,17 +20,8 @@ prefix zero room rs = (rs, refl)
 prefix (suc limit) room [] = ([], refl)
 prefix (suc limit) room (r ∷ rs) = prefix_more (nat_le r.bytes room) r (beginning limit (room - r.bytes) rs) rs (prefix limit (room - r.bytes) rs)
 
-fits : (bytes room : ℕ) → nat_le bytes room ≡ true → bytes ≤ room
-fits bytes room h = grind (arith, nat_tests)
-
-fits_so : (bytes room : ℕ) → bytes ≤ room → nat_le bytes room ≡ true
-fits_so bytes room h = grind (arith, nat_tests)
-
-fits_not : (bytes room : ℕ) → nat_le bytes room ≡ false → room < bytes
-fits_not bytes room h = grind (arith, nat_tests)
-
 within_more : (b : Bool) (limit room : ℕ) (r : Logged) (front : List Logged) → nat_le r.bytes room ≡ b → IsWithin limit (room - r.bytes) front → IsWithin (suc limit) room (chosen b r front)
-within_more true limit room r front e h = let f = fits r.bytes room e in (omega (arith, h.0), omega (arith, h.1, f))
+within_more true limit room r front e h = let f = le_so r.bytes room e in (omega (arith, h.0), omega (arith, h.1, f))
 within_more false limit room r front e h = (omega arith, omega arith)
 
 pub within : (limit room : ℕ) (rs : List Logged) → IsWithin limit room (beginning limit room rs)
@@ -48,10 +39,10 @@ same_tail r x rs xs h = cc
 longest_more : (b : Bool) (limit room : ℕ) (r : Logged) (front ours : List Logged) → nat_le r.bytes room ≡ b → IsWithin (suc limit) room (r ∷ front)
     → (IsWithin limit (room - r.bytes) front → length front ≤ length ours) → length (r ∷ front) ≤ length (chosen b r ours)
 longest_more true limit room r front ours e h rest =
-    let f = fits r.bytes room e in
+    let f = le_so r.bytes room e in
     let inner : IsWithin limit (room - r.bytes) front = (omega (arith, h.0), omega (arith, h.1, f)) in
     omega (arith, rest inner)
-longest_more false limit room r front ours e h rest = let f = fits_not r.bytes room e in absurd (omega (arith, h.1, f))
+longest_more false limit room r front ours e h rest = let f = above_so r.bytes room e in absurd (omega (arith, h.1, f))
 
 pub no_longer : (limit room : ℕ) (rs front : List Logged) → IsPrefix front rs → IsWithin limit room front → length front ≤ length (beginning limit room rs)
 no_longer limit room rs [] p h = omega arith
@@ -66,9 +57,9 @@ no_longer (suc limit) room (r ∷ rs) (x ∷ front) p h =
 -- ---- a batch that isn't empty
 
 pub some_taken : (limit room : ℕ) (rs : List Logged) → 1 ≤ limit → FirstFits room rs → beginning limit room rs ≢ []
-some_taken limit room [] some fits = absurd fits
-some_taken zero room (r ∷ rs) some fits = absurd (omega arith)
-some_taken (suc limit) room (r ∷ rs) some fits = taken (nat_le r.bytes room) (fits_so r.bytes room fits)
+some_taken limit room [] some le_so = absurd le_so
+some_taken zero room (r ∷ rs) some le_so = absurd (omega arith)
+some_taken (suc limit) room (r ∷ rs) some le_so = taken (nat_le r.bytes room) (is_le r.bytes room le_so)
   where
     taken : (b : Bool) → b ≡ true → chosen b r (beginning limit (room - r.bytes) rs) ≢ []
     taken true is = λ none. cc
@@ -79,8 +70,8 @@ none_stored [] none = refl
 none_stored (r ∷ rs) none = absurd cc
 
 pub some_stored : (limit room : ℕ) (rs : List Logged) → 1 ≤ limit → FirstFits room rs → map stored (beginning limit room rs) ≢ []
-some_stored limit room rs some fits none = some_taken limit room rs some fits (none_stored (beginning limit room rs) none)
+some_stored limit room rs some le_so none = some_taken limit room rs some le_so (none_stored (beginning limit room rs) none)
 
 pub some_answered : {E : Type 0} (r : Result (List Stored) E) (limit : ℕ) (rs : List Logged) → IfOk r (λ b. b ≡ map stored (beginning limit BATCH_BYTES rs)) → 1 ≤ limit → FirstFits BATCH_BYTES rs → IfOk r (λ b. b ≢ [])
-some_answered (Err e) limit rs is some fits = tt
-some_answered (Ok b) limit rs is some fits = λ none. some_stored limit BATCH_BYTES rs some fits (sym is ∙ none)
+some_answered (Err e) limit rs is some le_so = tt
+some_answered (Ok b) limit rs is some le_so = λ none. some_stored limit BATCH_BYTES rs some le_so (sym is ∙ none)

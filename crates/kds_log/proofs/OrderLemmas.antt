@@ -2,37 +2,16 @@
 use Rattle.std.proofs.Common.{◌≡◌, ℕ, ◌<◌, ◌≤◌, Bool, true, false, List, [], ◌∷◌, ◌++◌, Option, Some, None, refl, ap, arith}
 use Rattle.std.specs.Prelude.{cond, map, IfSome}
 use Rattle.std.specs.List.{AllByRecursion, Contains, filter}
+use Rattle.kds_base.proofs.Facts.{all_append, all_weaker, all_both, all_filter}
 use Rattle.kds_defs.specs.Records.{Logged, is_left, left_among, logged, numbers_of}
 use Rattle.kds_defs.specs.declared.reply.Stored.{Stored}
 use Rattle.kds_log.specs.Log.{LogValue, IsBefore, AreInOrder, IsUpTo, IsOrderly, first_number, since, IsLeast}
-
--- ---- facts of each record
-
-all-append : {A : Type 0} (P : A → Type 0) (xs ys : List A) → AllByRecursion P xs → AllByRecursion P ys → AllByRecursion P (xs ++ ys)
-all-append P [] ys h g = g
-all-append P (x ∷ xs) ys h g = (h.0, all-append P xs ys h.1 g)
-
-all_weaker : {A : Type 0} (P Q : A → Type 0) → ((x : A) → P x → Q x) → (xs : List A) → AllByRecursion P xs → AllByRecursion Q xs
-all_weaker P Q f [] h = tt
-all_weaker P Q f (x ∷ xs) h = (f x h.0, all_weaker P Q f xs h.1)
-
-all_both : {A : Type 0} (P Q R : A → Type 0) → ((x : A) → P x → Q x → R x) → (xs : List A) → AllByRecursion P xs → AllByRecursion Q xs → AllByRecursion R xs
-all_both P Q R f [] h g = tt
-all_both P Q R f (x ∷ xs) h g = (f x h.0 g.0, all_both P Q R f xs h.1 g.1)
-
-all_choice : {A : Type 0} (P : A → Type 0) (b : Bool) (x : A) (xs : List A) → P x → AllByRecursion P xs → AllByRecursion P (cond b (x ∷ xs) xs)
-all_choice P true x xs h g = (h, g)
-all_choice P false x xs h g = g
-
-all-filter : {A : Type 0} (P : A → Type 0) (p : A → Bool) (xs : List A) → AllByRecursion P xs → AllByRecursion P (filter p xs)
-all-filter P p [] h = tt
-all-filter P p (x ∷ xs) h = all_choice P (p x) x (filter p xs) h.0 (all-filter P p xs h.1)
 
 -- ---- order
 
 in_order-append : (rs : List Logged) (x : Logged) → AreInOrder rs → AllByRecursion (λ r. IsBefore r x) rs → AreInOrder (rs ++ x ∷ [])
 in_order-append [] x h g = (tt, tt)
-in_order-append (r ∷ rs) x h g = (all-append (IsBefore r) rs (x ∷ []) h.0 (g.0, tt), in_order-append rs x h.1 g.1)
+in_order-append (r ∷ rs) x h g = (all_append (IsBefore r) rs (x ∷ []) h.0 (g.0, tt), in_order-append rs x h.1 g.1)
 
 in_order_choice : (b : Bool) (r : Logged) (rs : List Logged) → AllByRecursion (IsBefore r) rs → AreInOrder rs → AreInOrder (cond b (r ∷ rs) rs)
 in_order_choice true r rs h g = (h, g)
@@ -40,7 +19,7 @@ in_order_choice false r rs h g = g
 
 pub in_order-filter : (p : Logged → Bool) (rs : List Logged) → AreInOrder rs → AreInOrder (filter p rs)
 in_order-filter p [] h = tt
-in_order-filter p (r ∷ rs) h = in_order_choice (p r) r (filter p rs) (all-filter (IsBefore r) p rs h.0) (in_order-filter p rs h.1)
+in_order-filter p (r ∷ rs) h = in_order_choice (p r) r (filter p rs) (all_filter (IsBefore r) p rs h.0) (in_order-filter p rs h.1)
 
 -- ---- the log
 
@@ -59,13 +38,13 @@ orderly-append log x above arrival orderly =
     let before = all_both (IsUpTo log.last) (λ r. r.arrival ≤ x.arrival) (λ r. IsBefore r x) (λ r up early. up_to_before log.last r x above up early) log.kept orderly.numbers arrival in
     record {
       order = in_order-append log.kept x orderly.order before;
-      numbers = all-append (IsUpTo (Some x.seq)) log.kept (x ∷ []) (all_weaker (IsUpTo log.last) (IsUpTo (Some x.seq)) (λ r up. up_to_more log.last r x above up) log.kept orderly.numbers) (omega arith, tt);
+      numbers = all_append (IsUpTo (Some x.seq)) log.kept (x ∷ []) (all_weaker (IsUpTo log.last) (IsUpTo (Some x.seq)) (λ r up. up_to_more log.last r x above up) log.kept orderly.numbers) (omega arith, tt);
     }
 
 pub orderly-left : (log : LogValue) (floor position : ℕ) → IsOrderly log → IsOrderly (record { kept = left_among floor position log.kept; last = log.last })
 orderly-left log floor position orderly = record {
   order = in_order-filter (is_left floor position) log.kept orderly.order;
-  numbers = all-filter (IsUpTo log.last) (is_left floor position) log.kept orderly.numbers;
+  numbers = all_filter (IsUpTo log.last) (is_left floor position) log.kept orderly.numbers;
 }
 
 -- ---- trims

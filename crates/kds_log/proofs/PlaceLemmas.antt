@@ -4,6 +4,8 @@ use Rattle.std.specs.Prelude.{cond, not, nat_le, max}
 use Rattle.std.specs.List.{AllByRecursion}
 use Rattle.std.specs.List.Sorted.{IsPartitionedBy, IsPartitionPoint}
 use Rattle.std.proofs.lemmas.Bool.Decides.{nat_tests}
+use Rattle.std.proofs.lemmas.Bool.{not-false, false_from_ne_true}
+use Rattle.kds_base.proofs.Facts.{not_true, apart}
 use Rattle.kds_defs.specs.Records.{Logged, is_left, left_among, logged}
 use Rattle.kds_defs.specs.declared.reply.Stored.{Stored}
 use Rattle.kds_log.specs.Log.{IsBefore, AreInOrder, since}
@@ -13,14 +15,6 @@ abbrev pub is_past : ℕ → ℕ → Stored → Bool
 is_past floor position x = not (is_left floor position (logged x))
 
 -- ---- tests
-
-not_true : (b : Bool) → not b ≡ true → b ≡ false
-not_true true h = absurd cc
-not_true false h = refl
-
-not_false : (b : Bool) → not b ≡ false → b ≡ true
-not_false true h = refl
-not_false false h = absurd cc
 
 past_before : (floor position : ℕ) (a b : Stored) → a.seq ≤ b.seq → a.arrival ≤ b.arrival → is_past floor position b ≡ true → is_past floor position a ≡ true
 past_before floor position a b numbers arrivals h = grind (arith, nat_tests)
@@ -56,7 +50,7 @@ all_left : (floor position : ℕ) (xs : List Stored) → ((k : ℕ) (d : Stored)
 all_left floor position [] h = refl
 all_left floor position (x ∷ xs) h =
     let rest = left_among floor position (map logged xs) in
-    ap (λ (b : Bool). cond b (logged x ∷ rest) rest) (not_false _ (h 0 x (omega arith)))
+    ap (λ (b : Bool). cond b (logged x ∷ rest) rest) (not-false _ (h 0 x (omega arith)))
     ∙ ap (λ rs. logged x ∷ rs) (all_left floor position xs (λ k d lt. h (suc k) d (omega arith)))
 
 pub left_from : (floor position : ℕ) (xs : List Stored) (i : ℕ) → IsPartitionPoint (λ y. is_past floor position y ≡ true) (λ y. is_past floor position y ≡ false) xs i
@@ -68,18 +62,11 @@ left_from floor position (x ∷ xs) (suc i) h =
     ap (λ (b : Bool). cond b (logged x ∷ rest) rest) (not_true _ (h.0 0 x (omega arith) (omega arith)))
     ∙ left_from floor position xs i ((λ k d low lt. h.0 (suc k) d (omega arith) (omega arith)), (λ k d low lt. h.1 (suc k) d (omega arith) (omega arith)))
 
-true_or_false : (b : Bool) → b ≡ true → b ≡ false → ⊥
-true_or_false b h g = cc
-
-false_unless : (b : Bool) → (b ≡ true → ⊥) → b ≡ false
-false_unless true h = absurd (h refl)
-false_unless false h = refl
-
 -- where the first record is left, all are
 left_at_first : (floor position : ℕ) (x : Stored) (xs : List Stored) → AreInOrder (map logged (x ∷ xs)) → is_past floor position x ≡ false → left_among floor position (map logged (x ∷ xs)) ≡ map logged (x ∷ xs)
 left_at_first floor position x xs order h =
     let past = partitioned floor position (x ∷ xs) order in
-    all_left floor position (x ∷ xs) (λ k d lt. false_unless _ (λ late. absurd (true_or_false _ (past 0 k d (omega arith) lt late) h)))
+    all_left floor position (x ∷ xs) (λ k d lt. false_from_ne_true _ (λ late. absurd (apart _ (past 0 k d (omega arith) lt late) h)))
 
 pub left_at_front : (floor position : ℕ) (x : Stored) (xs : List Stored) → AreInOrder (map logged xs) → x ≡ get_or xs 0 x → is_left floor position (logged x) ≡ true → left_among floor position (map logged xs) ≡ map logged xs
 left_at_front floor position x [] order is h = refl

@@ -1,10 +1,10 @@
 -- A batch that grows, one record after another, and the first record from a place on.
-use Rattle.std.proofs.Common.{◌≡◌, ℕ, zero, suc, ◌+◌, ◌-◌, ◌<◌, ◌≤◌, true, List, [], ◌∷◌, ◌++◌, Some, None, length, get_or, drop, map, refl, sym, ap, ◌∙◌, arith}
-use Rattle.std.specs.Prelude.{nat_le}
-use Rattle.std.proofs.lemmas.Bool.Decides.{nat_tests}
+use Rattle.std.proofs.Common.{◌≡◌, ℕ, ◌+◌, ◌-◌, ◌<◌, ◌≤◌, List, [], ◌∷◌, ◌++◌, Some, None, length, get_or, drop, map, sym, ap, ◌∙◌}
 use Rattle.std.proofs.lemmas.List.{at_drop_more, drop_all, append-nil, append_assoc}
+use Rattle.kds_base.proofs.Facts.{is_le}
 use Rattle.kds_defs.specs.Records.{Logged, beginning, logged, stored}
 use Rattle.kds_defs.specs.declared.reply.Stored.{Stored}
+use Rattle.kds_defs.proofs.Batches.{beginning_one, beginning_none}
 use Rattle.kds_log.specs.Log.{first_arrival, first_number}
 
 -- the records from a place on
@@ -25,19 +25,6 @@ ahead_none xs i le = ap (map logged) (drop_all i xs le)
 abbrev pub Grows : List Stored → ℕ → ℕ → List Logged → List Stored → Type 0
 Grows batch left room rest whole = batch ++ map stored (beginning left room rest) ≡ whole
 
-beginning_one : (left room : ℕ) (r : Logged) (rest : List Logged) → (left ≡ 0 → ⊥) → nat_le r.bytes room ≡ true → beginning left room (r ∷ rest) ≡ r ∷ beginning (left - 1) (room - r.bytes) rest
-beginning_one zero room r rest some fits = absurd (some refl)
-beginning_one (suc left) room r rest some fits =
-    let e : suc left - 1 ≡ left = omega arith in
-    rw (fits, e) refl
-
-fits : (bytes room : ℕ) → bytes ≤ room → nat_le bytes room ≡ true
-fits bytes room h = grind (arith, nat_tests)
-
-beginning-nil : (left room : ℕ) → beginning left room [] ≡ []
-beginning-nil zero room = refl
-beginning-nil (suc left) room = refl
-
 -- a record that fits is taken
 pub grows_by : (xs : List Stored) (i : ℕ) (x : Stored) → i < length xs → x ≡ get_or xs i x → (batch : List Stored) (left room bytes : ℕ) (whole : List Stored) → (left ≡ 0 → ⊥) → bytes ≡ (logged x).bytes → bytes ≤ room
     → Grows batch left room (ahead xs i) whole → Grows (batch ++ x ∷ []) (left - 1) (room - bytes) (ahead xs (i + 1)) whole
@@ -45,7 +32,7 @@ grows_by xs i x within is batch left room bytes whole some same small h =
     let rest = ahead xs (i + 1) in
     let small' : (logged x).bytes ≤ room = rw same at small in
     let one : beginning left room (ahead xs i) ≡ logged x ∷ beginning (left - 1) (room - bytes) rest =
-    ap (beginning left room) (ahead_more xs i x within is) ∙ beginning_one left room (logged x) rest some (fits (logged x).bytes room small') ∙ ap (λ n. logged x ∷ beginning (left - 1) (room - n) rest) (sym same) in
+    ap (beginning left room) (ahead_more xs i x within is) ∙ beginning_one left room (logged x) rest some (is_le (logged x).bytes room small') ∙ ap (λ n. logged x ∷ beginning (left - 1) (room - n) rest) (sym same) in
     append_assoc batch (x ∷ []) (map stored (beginning (left - 1) (room - bytes) rest)) ∙ ap (λ taken. batch ++ map stored taken) (sym one) ∙ h
 
 -- at the end of the records the batch is whole
@@ -53,7 +40,7 @@ pub grows_all : (xs : List Stored) (i : ℕ) (batch : List Stored) (left room : 
     → Grows batch left room (ahead xs i) whole → batch ≡ whole
 grows_all xs i batch left room whole le h =
     sym (append-nil batch)
-    ∙ ap (λ taken. batch ++ map stored taken) (sym (ap (beginning left room) (ahead_none xs i le) ∙ beginning-nil left room)) ∙ h
+    ∙ ap (λ taken. batch ++ map stored taken) (sym (ap (beginning left room) (ahead_none xs i le) ∙ beginning_none left room)) ∙ h
 
 -- ---- the first record from a place on
 

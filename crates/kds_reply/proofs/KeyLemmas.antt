@@ -1,8 +1,9 @@
 -- The keys of the lines of every journal are text, and so are those of the records that answers hold.
-use Rattle.std.proofs.Common.{ℕ, zero, suc, ◌-◌, List, [], ◌∷◌, ◌++◌, map, Bool, true, false, nat_le, ◌==◌, ◌&&◌, if◌then◌else◌, Option, Some, None}
-use Rattle.std.specs.List.{AllByRecursion, filter}
+use Rattle.std.proofs.Common.{ℕ, zero, suc, ◌-◌, List, [], ◌∷◌, map, Bool, true, false, nat_le, ◌==◌, ◌&&◌, if◌then◌else◌, Option, Some, None}
+use Rattle.std.specs.List.{AllByRecursion}
 use Rattle.std.specs.Str.{IsUtf8}
 use Rattle.std.proofs.lemmas.Str.{IsUtf8-nil, utf8_lossy-IsUtf8}
+use Rattle.kds_base.proofs.Facts.{all_append, all_filter}
 use Rattle.kds_defs.specs.declared.command.Command.{Command}
 use Rattle.kds_defs.specs.declared.command.Command.TheVariants as command
 use Rattle.kds_defs.specs.declared.command.NewItem.{NewItem}
@@ -35,17 +36,9 @@ use Rattle.kds_reply.specs.Keys.{records_in, IsPrintedWhole, ArePrintedWhole}
 
 -- ---- lists
 
-all-append : {A : Type 0} (P : A → Type 0) (xs ys : List A) → AllByRecursion P xs → AllByRecursion P ys → AllByRecursion P (xs ++ ys)
-all-append P [] ys h k = k
-all-append P (x ∷ xs) ys h k = (h.0, all-append P xs ys h.1 k)
-
 all-if : {A : Type 0} (P : A → Type 0) (b : Bool) (xs ys : List A) → AllByRecursion P xs → AllByRecursion P ys → AllByRecursion P (if b then xs else ys)
 all-if P true xs ys h k = h
 all-if P false xs ys h k = k
-
-all-filter : {A : Type 0} (P : A → Type 0) (p : A → Bool) (xs : List A) → AllByRecursion P xs → AllByRecursion P (filter p xs)
-all-filter P p [] h = tt
-all-filter P p (x ∷ xs) h = all-if P (p x) (x ∷ filter p xs) (filter p xs) (h.0, all-filter P p xs h.1) (all-filter P p xs h.1)
 
 -- ---- records
 
@@ -60,7 +53,7 @@ HasTextKeys log = AllByRecursion HasTextKey log
 
 record_text : (line : Line) (e : Entry) (s sh : ℕ) (before : List Logged) → HasTextKey line → AllByRecursion IsKeptText before → AllByRecursion IsKeptText (records_after line e s sh before)
 record_text line (entry.Put stream shard seq hash bytes key_bytes) s sh before h k =
-    all-if IsKeptText ((stream == s) && (shard == sh)) _ before (all-append IsKeptText before _ k (h, tt)) k
+    all-if IsKeptText ((stream == s) && (shard == sh)) _ before (all_append IsKeptText before _ k (h, tt)) k
 record_text line _ s sh before h k = k
 
 records_text : (log : Journal) (s sh : ℕ) → HasTextKeys log → AllByRecursion IsKeptText (records log s sh)
@@ -70,7 +63,7 @@ records_text (line ∷ log) s sh h = record_text line line.what s sh (records lo
 left_text : (log : Journal) (c s sh position : ℕ) → HasTextKeys log → AllByRecursion IsKeptText (left_from log c s sh position)
 left_text log c s sh position h =
     all-if IsKeptText (is_live log s) _ []
-    (all-filter IsKeptText (is_left (trim_floor log c s) position) (records log s sh) (records_text log s sh h)) tt
+    (all_filter IsKeptText (is_left (trim_floor log c s) position) (records log s sh) (records_text log s sh h)) tt
 
 beginning_text : (limit room : ℕ) (rs : List Logged) → AllByRecursion IsKeptText rs → AllByRecursion IsKeptText (beginning limit room rs)
 beginning_text zero room rs h = tt

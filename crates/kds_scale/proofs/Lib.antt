@@ -1,5 +1,3 @@
-pub mod Members
-pub mod Rising
 pub mod Leading
 pub mod Shortest
 pub mod Starts

@@ -5,15 +5,16 @@ use Rattle.std.specs.Prelude.{◌==◌, ◌&&◌, ◌||◌, cond, not, nat_le, n
 use Rattle.std.specs.List.{AllByRecursion, filter}
 use Rattle.std.proofs.lemmas.Bool.Decides.{nat_tests}
 use Rattle.kds_base.specs.Span.{Span, Covers, is_inside, lower_part, upper_part, follows, are_adjacent, joined, uniform, uniform_from}
+use Rattle.kds_base.proofs.Facts.{same_some}
 use Rattle.kds_defs.specs.Scaling.{RiseFrom, is_start, starts_of, uniform_starts, with_start, without}
 use Rattle.kds_defs.specs.ScaleCommands.{starts_among}
 use Rattle.kds_defs.specs.Shards.{ShardState, Closing, first_shards, is_open, new_shard, with_closed, range_of, split_shards, merged_shards, home_among}
 use Rattle.kds_defs.specs.Tiled.{AreNumbered, IsOrdered, IsTiled, count_if, one, open_times}
 use Rattle.kds_defs.proofs.Homes.{home_found}
 use Rattle.kds_defs.proofs.Numbers.{numbered-closed, numbered-append, length-closed}
-use Rattle.kds_defs.proofs.Tiles.{other-closed, tiled_split, tiled_merge, width_fits}
-use Rattle.kds_scale.proofs.Members.{in_filter, in_with_start}
-use Rattle.kds_scale.proofs.Rising.{rise_filter, rise_with, same_starts}
+use Rattle.kds_defs.proofs.Tiles.{other-closed, tiled_split, tiled_merge, width_fits, counted, ordered-at}
+use Rattle.kds_defs.proofs.Members.{in_filter, in_with_start}
+use Rattle.kds_defs.proofs.Rising.{rise_filter, rise_with, same_starts}
 
 -- ---- how many open shards start at a key
 
@@ -23,10 +24,6 @@ at_start r k = if r.start == k then 1 else 0
 abbrev start_times : List ShardState → ℕ → ℕ
 start_times [] k = 0
 start_times (x ∷ xs) k = count_if (is_open x) (at_start x.range k) + start_times xs k
-
-counted : (b : Bool) (n : ℕ) → b ≡ true → count_if b n ≡ n
-counted true n h = refl
-counted false n h = absurd cc
 
 times-append : (xs ys : List ShardState) (k : ℕ) → start_times (xs ++ ys) k ≡ start_times xs k + start_times ys k
 times-append [] ys k = omega arith
@@ -201,11 +198,6 @@ bounded-at [] sh x is h = absurd cc
 bounded-at (y ∷ ys) zero x is h = let e : y ≡ x = cc in omega (arith, h.0, ap (λ (z : ShardState). z.range.end) e)
 bounded-at (y ∷ ys) (suc sh) x is h = bounded-at ys sh x is h.1
 
-ordered-at : (xs : List ShardState) (sh : ℕ) (x : ShardState) → slice_get xs sh ≡ Some x → AllByRecursion IsOrdered xs → x.range.start ≤ x.range.end
-ordered-at [] sh x is h = absurd cc
-ordered-at (y ∷ ys) zero x is h = let e : y ≡ x = cc in omega (arith, h.0, ap (λ (z : ShardState). z.range.start) e, ap (λ (z : ShardState). z.range.end) e)
-ordered-at (y ∷ ys) (suc sh) x is h = ordered-at ys sh x is h.1
-
 -- the home of a key
 pub record IsHomeOf (xs : List ShardState) (k : ℕ) (x : ShardState) : Type 0 where
   pub stands : slice_get xs (home_among (filter is_open xs) k) ≡ Some x
@@ -217,9 +209,6 @@ home_of xs k ok below =
     let f = home_found xs 0 k ok.numbered (omega (arith, ok.tiled.times k below)) in
     let e : home_among (filter is_open xs) k - 0 ≡ home_among (filter is_open xs) k = omega arith in
     (f.state, record { stands = ap (slice_get xs) (sym e) ∙ f.stands; is_open_now = f.is_open_now; contains = f.contains })
-
-same_some : {A : Type 0} (x y : A) → Some x ≡ Some y → x ≡ y
-same_some x y h = cc
 
 -- what stands at one number is one shard
 same_shard : (xs : List ShardState) (i j : ℕ) (x y : ShardState) → slice_get xs i ≡ Some x → slice_get xs j ≡ Some y → i ≡ j → x ≡ y

@@ -2,14 +2,15 @@
 use Rattle.std.proofs.Common.{◌≡◌, ◌≢◌, ℕ, List, [], ◌∷◌, ◌++◌, sym, ap, ◌∙◌, subst, refl, inl, inr, Option, Some, None, Result}
 use Rattle.std.specs.Option.{IfSome}
 use Rattle.std.proofs.lemmas.List.{append_assoc, append-nil}
-use Rattle.std.specs.Io.KnownBytes.{Appends, Consumes, IsAtEnd, Keeps}
+use Rattle.std.specs.Io.KnownBytes.{Appends, IsAtEnd, Keeps}
+use Rattle.std.proofs.KnownBytes.{Appends-trans, Appends-nil}
 use Rattle.kds_defs.specs.declared.command.Command.{Command}
 use Rattle.kds_defs.specs.declared.reply.Refusal.{Refusal}
 use Rattle.kds_defs.specs.declared.reply.Reply.{Reply}
 use Rattle.kds_ends.specs.Causes.{AppendsFront}
 use Rattle.kds_ends.specs.declared.status.Status.{Status}
 use Rattle.kds_ends.specs.declared.status.Status.TheVariants.{Read, Write, Memory}
-use Rattle.kds_ends.proofs.Writing.{appends_more, front_later, front_longer}
+use Rattle.kds_ends.proofs.Writing.{front_later, front_longer}
 use Rattle.kds_session.specs.declared.state.Standing.TheVariants.{Live}
 use Rattle.kds_session.specs.Messages.{Ending, boundary, inside, closed, refused}
 use Rattle.kds_session.specs.Text.{Answers, responses, end_text}
@@ -22,20 +23,6 @@ use Rattle.kds_server.specs.Steps.{Reads, IsReadStop}
 
 -- ---- reading
 
-pub consumes_more : (all a b : Option (List ℕ)) (xs ys : List ℕ) → Consumes all a xs → Consumes a b ys → Consumes all b (xs ++ ys)
-consumes_more None a b xs ys h k = tt
-consumes_more (Some us) None b xs ys h k = absurd h
-consumes_more (Some us) (Some vs) None xs ys h k = absurd k
-consumes_more (Some us) (Some vs) (Some ws) xs ys h k = h ∙ ap (λ z. xs ++ z) k ∙ sym (append_assoc xs ys ws)
-
-pub consumes_none : (all : Option (List ℕ)) → Consumes all all []
-consumes_none None = tt
-consumes_none (Some us) = refl
-
-pub appends_none : (held : Option (List ℕ)) → Appends held held []
-appends_none None = tt
-appends_none (Some us) = sym (append-nil us)
-
 -- what the session had to send was written
 pub flushed : (all left : Option (List ℕ)) (s new : SessionState) (start held now : Option (List ℕ)) (given : List Command) (told : Answers) → Reads all left s start held given told
     → Passes s new (sent_more s.output) → Appends held now s.output
@@ -45,7 +32,7 @@ flushed all left s new start held now given told r stands o = record {
   sent = r.sent ++ s.output;
   taken = r.taken;
   stands = stands (traffic r.fed given told r.sent) r.stands;
-  written = appends_more start held now r.sent s.output r.written o;
+  written = Appends-trans start held now r.sent s.output r.written o;
 }
 
 -- ---- the whole text, where the session is quiet and has nothing to send
@@ -130,7 +117,7 @@ tells_part first (Some bytes) (Some rest) s given told start held now r o =
     (part_by first s r.fed rest given told r.sent start now r.stands (front_later start held now r.sent s.output r.written o))
 
 pub front_none : (held : Option (List ℕ)) (text : List ℕ) → AppendsFront held held text
-front_none held text = ([], text, refl, appends_none held)
+front_none held text = ([], text, refl, Appends-nil held)
 
 pub front_all : (held now : Option (List ℕ)) (text : List ℕ) → Appends held now text → AppendsFront held now text
 front_all held now text a = (text, [], sym (append-nil text), a)

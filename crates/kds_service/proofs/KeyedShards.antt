@@ -2,10 +2,11 @@
 use Rattle.std.proofs.Common.{◌≡◌, ℕ, zero, suc, ◌+◌, Bool, true, false, ◌==◌, List, [], ◌∷◌, ◌++◌, drop, slice_get, Option, Some, None, refl, sym, ap, subst, ◌∙◌}
 use Rattle.std.specs.Prelude.{not, ◌||◌, if◌then◌else◌}
 use Rattle.std.specs.List.{position_from}
-use Rattle.std.proofs.lemmas.Bool.{eqb-true}
+use Rattle.std.proofs.lemmas.Bool.{eqb-true, or_from}
 use Rattle.std.proofs.lemmas.List.{append_assoc}
 use Rattle.std.proofs.lemmas.Option.{none-some}
 use Rattle.kds_base.specs.declared.lease_key.ShardRef.{ShardRef}
+use Rattle.kds_base.proofs.Facts.{same_some}
 use Rattle.kds_defs.specs.Journal.{Journal}
 use Rattle.kds_defs.specs.Keys.{is_listed_key}
 use Rattle.kds_defs.specs.Listings.{listed_in, refs_of}
@@ -13,7 +14,7 @@ use Rattle.kds_defs.specs.Shards.{ShardState, is_closed_below, is_listed_state, 
 use Rattle.kds_defs.specs.Streams.{floor_of, is_live, live_streams, trim_floor}
 use Rattle.kds_stream.specs.Showing.{Shows}
 use Rattle.kds_stream.specs.Value.{StreamValue, is_listed_at}
-use Rattle.kds_service.proofs.Lists.{drop_get, neither, same_some}
+use Rattle.kds_service.proofs.Lists.{drop_get}
 use Rattle.kds_service.proofs.Readings.{first_passes, from_zero, later_fails, live_are, none_passes}
 use Rattle.kds_service.specs.Keyed.{is_listed_in, is_listed_of, listed_keys, live_shard, state_in, state_of, stream_at}
 use Rattle.kds_service.specs.Places.{place_at}
@@ -60,7 +61,7 @@ is_of log c s (v ∷ vs) x at shown is = of_here log c s v vs x (v.no == s) refl
 
 away_here : (v : StreamValue) (vs : List StreamValue) (s : ℕ) (b : Bool) → (v.no == s) ≡ b → (if b then Some v else stream_at vs s) ≡ None → (stream_at vs s ≡ None → is_among (numbers_of vs) s ≡ false) → is_among (numbers_of (v ∷ vs)) s ≡ false
 away_here v vs s true e is rest = absurd (none-some v (sym is))
-away_here v vs s false e is rest = neither (v.no == s) (is_among (numbers_of vs) s) e (rest is)
+away_here v vs s false e is rest = or_from (v.no == s) (is_among (numbers_of vs) s) e (rest is)
 
 away : (s : ℕ) (vs : List StreamValue) → stream_at vs s ≡ None → is_among (numbers_of vs) s ≡ false
 away s [] is = refl

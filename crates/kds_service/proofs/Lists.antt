@@ -1,7 +1,8 @@
 -- Streams in a list: at a place, after one is replaced, after one is added, and after one is taken out.
-use Rattle.std.proofs.Common.{◌≡◌, ◌≢◌, ℕ, zero, suc, ◌+◌, ◌<◌, ◌≤◌, Bool, true, false, ◌||◌, ◌==◌, List, [], ◌∷◌, ◌++◌, length, map, take, drop, remove, slice_get, slice_set, Some, refl, sym, ap, subst, ◌∙◌, arith}
-use Rattle.std.proofs.lemmas.Bool.{eqb-true}
+use Rattle.std.proofs.Common.{◌≡◌, ◌≢◌, ℕ, zero, suc, ◌+◌, ◌<◌, ◌≤◌, Bool, true, false, ◌==◌, List, [], ◌∷◌, ◌++◌, length, map, take, drop, remove, slice_get, slice_set, Some, refl, sym, ap, subst, ◌∙◌, arith}
+use Rattle.std.proofs.lemmas.Bool.{or_parts, or_from}
 use Rattle.std.proofs.lemmas.Option.{none-some}
+use Rattle.kds_base.proofs.Facts.{same_some, is_other}
 use Rattle.kds_defs.specs.Journal.{Journal}
 use Rattle.kds_stream.specs.Showing.{Shows}
 use Rattle.kds_stream.specs.Value.{StreamValue}
@@ -11,9 +12,6 @@ use Rattle.kds_service.specs.Shown.{AreAt, AreShown, IsRising, is_among, numbers
 pub either_way : {P : Type 0} (b : Bool) → (b ≡ true → P) → (b ≡ false → P) → P
 either_way true holds fails = holds refl
 either_way false holds fails = fails refl
-
-pub same_some : {X : Type 0} (x y : X) → Some x ≡ Some y → x ≡ y
-same_some x y h = cc
 
 -- ---- at a place
 
@@ -45,23 +43,11 @@ rising_from low high (n ∷ ns) below rising = (omega (arith, rising.0), rising.
 
 -- ---- among numbers
 
--- a number that is one of none of two parts
-pub no_either : (a b : Bool) → (a || b) ≡ false → (a ≡ false) × (b ≡ false)
-no_either true b h = absurd cc
-no_either false b h = (refl, h)
-
-pub neither : (a b : Bool) → a ≡ false → b ≡ false → (a || b) ≡ false
-neither true b x y = absurd cc
-neither false b x y = y
-
-pub unequal : (n s : ℕ) → n ≢ s → (n == s) ≡ false
-unequal n s differ = either_way (n == s) (λ e. absurd (differ (eqb-true n s e))) (λ e. e)
-
 -- a number at or below the lowest isn't among numbers that rise
 pub not_below : (low s : ℕ) (ns : List ℕ) → s ≤ low → IsRising low ns → is_among ns s ≡ false
 not_below low s [] below rising = refl
 not_below low s (n ∷ ns) below rising =
-    neither (n == s) (is_among ns s) (unequal n s (λ e. apart low s n below rising.0 e)) (not_below n s ns (omega (arith, rising.0)) rising.1)
+    or_from (n == s) (is_among ns s) (is_other n s (λ e. apart low s n below rising.0 e)) (not_below n s ns (omega (arith, rising.0)) rising.1)
   where
     apart : (low s n : ℕ) → s ≤ low → low < n → n ≡ s → ⊥
     apart low s n a b e = absurd (omega arith)
@@ -130,11 +116,11 @@ rising_push low n m [] first last below rising = (first, tt)
 rising_push low n m (v ∷ vs) first last below rising = (rising.0, rising_push v.no n m vs (omega (arith, below.0)) last below.1 rising.1)
 
 pub among_push : (ns : List ℕ) (m s : ℕ) → is_among (ns ++ (m ∷ [])) s ≡ false → (is_among ns s ≡ false) × ((m == s) ≡ false)
-among_push [] m s out = (refl, (no_either (m == s) false out).0)
+among_push [] m s out = (refl, (or_parts (m == s) false out).0)
 among_push (n ∷ ns) m s out =
-    let parts = no_either (n == s) (is_among (ns ++ (m ∷ [])) s) out in
+    let parts = or_parts (n == s) (is_among (ns ++ (m ∷ [])) s) out in
     let rest = among_push ns m s parts.1 in
-    (neither (n == s) (is_among ns s) parts.0 rest.0, rest.1)
+    (or_from (n == s) (is_among ns s) parts.0 rest.0, rest.1)
 
 pub shown_push : (log log' : Journal) (c n : ℕ) (vs : List StreamValue) (v : StreamValue) → AreUpTo n vs → AreAt c vs → AreShown log vs → Shows v log' → ((u : StreamValue) → Shows u log → u.clock ≡ c → u.no ≤ n → Shows u log') → AreShown log' (vs ++ (v ∷ []))
 shown_push log log' c n [] v below at shown new others = (new, tt)
@@ -171,10 +157,10 @@ shown_remove log log' c low (suc i) (u ∷ us) x rising at shown here others =
 pub among_remove : (i s : ℕ) (vs : List StreamValue) (x : StreamValue) → slice_get vs i ≡ Some x → is_among (numbers_of (remove vs i)) s ≡ false → (x.no == s) ≡ false → is_among (numbers_of vs) s ≡ false
 among_remove i s [] x here out differ = refl
 among_remove zero s (v ∷ vs) x here out differ =
-    neither (v.no == s) (is_among (numbers_of vs) s) (ap (λ (u : StreamValue). u.no == s) (same_some v x here) ∙ differ) out
+    or_from (v.no == s) (is_among (numbers_of vs) s) (ap (λ (u : StreamValue). u.no == s) (same_some v x here) ∙ differ) out
 among_remove (suc i) s (v ∷ vs) x here out differ =
-    let parts = no_either (v.no == s) (is_among (numbers_of (remove vs i)) s) out in
-    neither (v.no == s) (is_among (numbers_of vs) s) parts.0 (among_remove i s vs x here parts.1 differ)
+    let parts = or_parts (v.no == s) (is_among (numbers_of (remove vs i)) s) out in
+    or_from (v.no == s) (is_among (numbers_of vs) s) parts.0 (among_remove i s vs x here parts.1 differ)
 
 -- ---- each is replaced, one after another
 

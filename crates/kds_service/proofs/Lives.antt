@@ -2,6 +2,8 @@
 use Rattle.std.proofs.Common.{◌≡◌, ◌≢◌, ℕ, zero, suc, ◌+◌, ◌<◌, ◌≤◌, Bool, true, false, ◌==◌, List, [], ◌∷◌, ◌++◌, remove, slice_get, slice_set, Option, Some, None, refl, sym, ap, subst, ◌∙◌, arith}
 use Rattle.std.specs.Prelude.{◌&&◌, not, if◌then◌else◌}
 use Rattle.std.proofs.lemmas.Option.{none-some}
+use Rattle.std.proofs.lemmas.Bool.{or_from}
+use Rattle.kds_base.proofs.Facts.{same_some}
 use Rattle.kds_defs.specs.declared.command.NewItem.{NewItem}
 use Rattle.kds_defs.specs.declared.command.Start.{Start}
 use Rattle.kds_defs.specs.declared.entry.Entry.{Entry}
@@ -23,7 +25,7 @@ use Rattle.kds_defs.specs.StreamCommands.{keep, merge, put_line, split}
 use Rattle.kds_defs.specs.Streams.{is_live, is_live_after, made_count, made_count_after}
 use Rattle.kds_stream.specs.Showing.{IsFresh, Shows, stream_of}
 use Rattle.kds_stream.specs.Value.{StreamValue}
-use Rattle.kds_service.proofs.Lists.{AreUpTo, among_push, among_remove, at_push, at_remove, at_set, map_push, map_same, either_way, neither, rising_push, rising_remove, same_some, shown_push, shown_remove, shown_set}
+use Rattle.kds_service.proofs.Lists.{AreUpTo, among_push, among_remove, at_push, at_remove, at_set, map_push, map_same, either_way, rising_push, rising_remove, shown_push, shown_remove, shown_set}
 use Rattle.kds_service.proofs.Readings.{up_to}
 use Rattle.kds_service.specs.Lines.{AreOf, is_within_life}
 use Rattle.kds_service.specs.Shown.{AreAt, AreShown, IsRising, ServiceValue, ShowsAll, is_among, numbers_of, service}
@@ -104,7 +106,7 @@ shows_added c b n by count name vs v log law fresh all numbered clock shown =
       shown = shown_push log (line ∷ log) c n vs v up all.at all.shown shown (λ u is at below. law u log line is (sym at) (λ same. last n u.no below (the_same _ _ same)));
       others = λ s out.
           let parts = among_push (numbers_of vs) (n + 1) s (ap (λ ns. is_among ns s) (sym numbers) ∙ out) in
-          neither ((n + 1) == s) (is_live log s) parts.1 (all.others s parts.0);
+          or_from ((n + 1) == s) (is_live log s) parts.1 (all.others s parts.0);
       unmade = λ s later. fresh log line s (all.unmade s (omega arith)) (λ same. apart n s later (the_same _ _ same));
     }
   where

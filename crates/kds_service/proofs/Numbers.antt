@@ -1,6 +1,7 @@
 -- Streams by their numbers, as a token names them.
-use Rattle.std.proofs.Common.{◌≡◌, ℕ, Bool, true, false, List, slice_get, Some, None, refl, sym, ap, ◌∙◌}
+use Rattle.std.proofs.Common.{◌≡◌, ℕ, true, false, List, slice_get, Some, None, refl, sym, ap, ◌∙◌}
 use Rattle.std.specs.Prelude.{not, IfOk, Result, Ok, Err}
+use Rattle.std.proofs.lemmas.Bool.{not_from_false, not_from_true}
 use Rattle.kds_defs.specs.declared.command.Command.TheVariants as command
 use Rattle.kds_defs.specs.declared.reply.Iter.{Iter}
 use Rattle.kds_defs.specs.declared.reply.Page.{Page}
@@ -21,24 +22,16 @@ use Rattle.kds_service.proofs.Readings.{from_zero, not_among, number_at}
 use Rattle.kds_service.specs.Places.{place_at}
 use Rattle.kds_service.specs.Shown.{AreAt, LeadsTo, ServiceValue, ShowsAll, numbers_of, service}
 
-not_true : (b : Bool) → b ≡ false → not b ≡ true
-not_true true h = absurd cc
-not_true false h = refl
-
-not_false : (b : Bool) → b ≡ true → not b ≡ false
-not_false true h = refl
-not_false false h = absurd cc
-
 -- the stream at the place of a number has the number
 pub numbered : (i s : ℕ) (vs : List StreamValue) (x : StreamValue) → Some i ≡ place_at vs s → slice_get vs i ≡ Some x → s ≡ x.no
 numbered i s vs x found here = number_at 0 i s vs x (sym found ∙ ap Some (from_zero i)) here
 
 gone : (w : ServiceValue) (s : ℕ) (log : Journal) → None ≡ place_at w.streams s → ShowsAll w log → not (is_live log s) ≡ true
-gone w s log none all = not_true (is_live log s) (all.others s (not_among 0 s (numbers_of w.streams) (sym none)))
+gone w s log none all = not_from_false (is_live log s) (all.others s (not_among 0 s (numbers_of w.streams) (sym none)))
 
 live : (w : ServiceValue) (s i : ℕ) (x : StreamValue) (log : Journal) → Some i ≡ place_at w.streams s → slice_get w.streams i ≡ Some x → ShowsAll w log → not (is_live log s) ≡ false
 live w s i x log found here all =
-    not_false (is_live log s) (ap (is_live log) (numbered i s w.streams x found here) ∙ (shown_get log i w.streams x all.shown here).live)
+    not_from_true (is_live log s) (ap (is_live log) (numbered i s w.streams x found here) ∙ (shown_get log i w.streams x all.shown here).live)
 
 module _ (c : ℕ) (vs : List StreamValue) where
   -- ---- GetRecords

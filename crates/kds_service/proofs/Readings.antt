@@ -3,17 +3,18 @@ use Rattle.std.proofs.Common.{◌≡◌, ◌≢◌, ℕ, zero, suc, ◌+◌, ◌
 use Rattle.std.specs.Prelude.{◌||◌, if◌then◌else◌, is_some, nat_le, nat_lt, not}
 use Rattle.std.specs.Cmp.Lexicographic.{bytes_decides, nat_list_eq_equiv}
 use Rattle.std.specs.List.{find, filter, position_from}
-use Rattle.std.proofs.lemmas.Bool.{eqb-false, eqb-true}
+use Rattle.std.proofs.lemmas.Bool.{eqb-false, eqb-true, or_from}
 use Rattle.std.proofs.lemmas.Bool.Decides.{nat_tests}
 use Rattle.std.proofs.lemmas.List.{length-map}
 use Rattle.std.proofs.lemmas.Option.{none-some}
+use Rattle.kds_base.proofs.Facts.{same_some, is_other}
 use Rattle.kds_defs.specs.declared.limits.TheConstants.{MOST_SHARDS, OPEN_SHARDS}
 use Rattle.kds_defs.specs.Journal.{Journal}
 use Rattle.kds_defs.specs.Shards.{is_open, open_count, open_in}
 use Rattle.kds_defs.specs.Streams.{is_live, live_streams, name_of, numbers_from, same_name, stream_named}
 use Rattle.kds_stream.specs.Showing.{IsFresh, Shows, is_full}
 use Rattle.kds_stream.specs.Value.{StreamValue}
-use Rattle.kds_service.proofs.Lists.{AreUpTo, either_way, neither, not_below, same_some, unequal}
+use Rattle.kds_service.proofs.Lists.{AreUpTo, either_way, not_below}
 use Rattle.kds_defs.specs.ScaleCommands.{open_elsewhere}
 use Rattle.kds_service.specs.Places.{open_beside, open_total, place_of}
 use Rattle.kds_service.specs.Shown.{AreShown, IsRising, ServiceValue, ShowsAll, is_among, names_of, numbers_of}
@@ -53,7 +54,7 @@ live_above log low (suc count) (v ∷ vs) rising below shown others =
     let same = is_next v.no low e in
     let live : is_live log (low + 1) ≡ true = ap (is_live log) (sym same) ∙ shown.0.live in
     let after = live_above log (low + 1) count vs (subst (λ n. IsRising n (numbers_of vs)) same rising.1) (subst (λ n. AreUpTo n vs) (end low count) below.1) shown.1
-    (λ s above out. others s (omega arith) (neither (v.no == s) (is_among (numbers_of vs) s) (unequal v.no s (λ is. apart v.no s low same above is)) out)) in
+    (λ s above out. others s (omega arith) (or_from (v.no == s) (is_among (numbers_of vs) s) (is_other v.no s (λ is. apart v.no s low same above is)) out)) in
     ap (λ b. cond b ((low + 1) ∷ rest) rest) live ∙ ap (λ ns. (low + 1) ∷ ns) after ∙ ap (λ n. n ∷ numbers_of vs) (sym same))
     (λ e.
     let past = later v.no low e rising.0 in
@@ -206,7 +207,7 @@ pub not_among : (n s : ℕ) (ns : List ℕ) → position_from (λ m. m == s) n n
 not_among n s [] none = refl
 not_among n s (m ∷ ns) none =
     let rest = none_passes (λ k. k == s) n m ns none in
-    neither (m == s) (is_among ns s) rest.0 (not_among (n + 1) s ns rest.1)
+    or_from (m == s) (is_among ns s) rest.0 (not_among (n + 1) s ns rest.1)
 
 -- ---- how many shards the other streams have open
 

@@ -3,6 +3,7 @@ use Rattle.std.proofs.Common.{◌≡◌, ◌≢◌, ℕ, ◌+◌, ◌-◌, ◌<�
 use Rattle.std.specs.Prelude.{MatchBool, ◌==◌, ◌||◌, nat_le}
 use Rattle.std.proofs.lemmas.Bool.Decides.{nat_tests}
 use Rattle.std.proofs.lemmas.List.{append_assoc, append-nil, length-append, take-append-le, drop-append-le, length-drop}
+use Rattle.kds_base.proofs.Facts.{le_so, above_so}
 use Rattle.kds_head.specs.declared.found.Head.{Head}
 use Rattle.kds_head.specs.declared.found.Found.{Found}
 use Rattle.kds_head.specs.declared.found.Found.TheVariants.{Need, Refused, Whole}
@@ -220,17 +221,11 @@ goes_ending fed done left (x ∷ xs) g u = at_end fed done left (x ∷ xs) insid
 
 -- ---- the test of a body
 
-le_true : (a b : ℕ) → nat_le a b ≡ true → a ≤ b
-le_true a b e = grind (arith, nat_tests)
-
-le_false : (a b : ℕ) → nat_le a b ≡ false → b < a
-le_false a b e = grind (arith, nat_tests)
-
 pub whole_by : (bytes : List ℕ) (head : Head) → IsFound bytes (Whole head) → nat_le (size head) (length bytes) ≡ true → IsWhole bytes head
-whole_by bytes head f e = record { found = f; whole = le_true _ _ e }
+whole_by bytes head f e = record { found = f; whole = le_so _ _ e }
 
 pub short_by : (bytes : List ℕ) (head : Head) → IsFound bytes (Whole head) → nat_le (size head) (length bytes) ≡ false → IsShort bytes head
-short_by bytes head f e = record { found = f; short = le_false _ _ e }
+short_by bytes head f e = record { found = f; short = above_so _ _ e }
 
 -- ---- the bytes of an unfinished message
 

@@ -2,6 +2,7 @@
 use Rattle.std.proofs.Common.{◌≡◌, ℕ, zero, suc, ◌+◌, ◌≤◌, Bool, true, false, List, [], ◌∷◌, length, Option, refl, sym, ap, ◌∙◌, arith}
 use Rattle.std.specs.Prelude.{cond, not, nat_le, nat_lt, ◌&&◌}
 use Rattle.std.proofs.lemmas.Bool.Decides.{nat_tests}
+use Rattle.kds_base.proofs.Facts.{all_filter}
 use Rattle.kds_defs.specs.Journal.{Journal}
 use Rattle.kds_defs.specs.Records.{Logged, is_left, left_among, records}
 use Rattle.kds_defs.specs.Streams.{floor_of}
@@ -9,7 +10,6 @@ use Rattle.kds_log.specs.Log.{LogValue}
 use Rattle.kds_stream.proofs.Cuts.{advanced_floor, later_floor, trims_later}
 use Rattle.kds_stream.proofs.Rates.{rated_later}
 use Rattle.kds_stream.specs.Showing.{AreKept, Shows}
-use Rattle.kds_stream_logs.proofs.LogLemmas.{all-filter}
 use Rattle.kds_stream.proofs.LogLemmas.{all-settled, arrived_later, length-settled}
 use Rattle.kds_stream_logs.specs.Logs.{HasArrived, IsBelow, settled_at}
 use Rattle.kds_stream.specs.Value.{IsStream, StreamValue, cut_at, later_cut}
@@ -108,7 +108,7 @@ settled_stream v i turn is = record {
   numbers = all-settled (IsBelow v.next) (floor_of v.cut) i (λ l h. h) v.logs is.numbers;
   endings = is.endings;
   arrivals =
-      all-settled (HasArrived v.clock) (floor_of v.cut) i (λ l h. all-filter (λ (r : Logged). r.arrival ≤ v.clock) (is_left (floor_of v.cut) 0) l.kept h) v.logs
+      all-settled (HasArrived v.clock) (floor_of v.cut) i (λ l h. all_filter (λ (r : Logged). r.arrival ≤ v.clock) (is_left (floor_of v.cut) 0) l.kept h) v.logs
       (arrived_later v.clock_before v.clock v.logs is.order is.arrivals);
   order = omega arith;
   trims = is.trims;

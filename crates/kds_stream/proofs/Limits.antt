@@ -8,9 +8,9 @@ use Rattle.kds_defs.specs.Journal.{Journal, Line, plain_line, with_lines}
 use Rattle.kds_defs.specs.PutCommands.{enforce, is_enforced}
 use Rattle.kds_defs.specs.Streams.{floor_of}
 use Rattle.std.proofs.Common.{arith, ◌∙◌}
+use Rattle.kds_base.proofs.Facts.{is_itself}
 use Rattle.kds_stream.proofs.Cuts.{same_floor_at}
 use Rattle.kds_stream.proofs.Others.{kept_along}
-use Rattle.kds_stream.proofs.Puts.{same_number}
 use Rattle.kds_stream.specs.Showing.{Shows}
 use Rattle.kds_stream.specs.Value.{StreamValue}
 
@@ -37,6 +37,6 @@ enforce_done v log by on shown = (
     floor_is = same_floor_at log (limits_line v by on) v.clock v.no refl refl ∙ shown.floor_is;
     kept = kept_along (floor_of v.cut) log (limits_line v by on ∷ log) v.no 0 v.logs (λ sh. refl) shown.kept;
     none_beyond = shown.none_beyond;
-    rates = record { enforced_is = chosen (v.no == v.no) on (is_enforced log v.no) (same_number v.no); stand = shown.rates.stand; none_beyond = shown.rates.none_beyond };
+    rates = record { enforced_is = chosen (v.no == v.no) on (is_enforced log v.no) (is_itself v.no); stand = shown.rates.stand; none_beyond = shown.rates.none_beyond };
   },
 )

@@ -3,10 +3,10 @@ use Rattle.std.proofs.Common.{◌≡◌, ℕ, zero, suc, ◌≤◌, List, [], �
 use Rattle.std.specs.Prelude.{slice_set}
 use Rattle.std.specs.List.{AllByRecursion}
 use Rattle.std.proofs.lemmas.List.{append_assoc, take_at}
+use Rattle.kds_base.proofs.Facts.{all_weaker}
 use Rattle.kds_defs.specs.Records.{Logged}
 use Rattle.kds_log.specs.Log.{LogValue, LogWithRoom, log_of}
 use Rattle.kds_stream_logs.specs.Logs.{HasArrived, IsBelow, IsUnder, empty_log, settled_at, settled_log, with_appended}
-use Rattle.kds_stream_logs.proofs.LogLemmas.{all_weaker}
 
 -- ---- facts of each
 

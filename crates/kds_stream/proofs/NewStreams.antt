@@ -1,9 +1,11 @@
 -- A new stream: it is one, and what it shows.
-use Rattle.std.proofs.Common.{◌≡◌, ℕ, zero, suc, ◌+◌, ◌*◌, ◌/◌, ◌^◌, ◌≤◌, Bool, true, false, List, [], ◌∷◌, length, Option, refl, sym, ap, subst, ◌∙◌, arith}
-use Rattle.std.specs.Prelude.{◌==◌, ◌||◌, if◌then◌else◌, replicate}
+use Rattle.std.proofs.Common.{◌≡◌, ℕ, zero, suc, ◌+◌, ◌*◌, ◌/◌, ◌^◌, ◌≤◌, false, List, [], ◌∷◌, length, Option, refl, sym, ap, subst, ◌∙◌, arith}
+use Rattle.std.specs.Prelude.{◌==◌, replicate}
 use Rattle.std.specs.List.{AllByRecursion, filter}
 use Rattle.std.proofs.lemmas.List.{length-replicate}
-use Rattle.kds_base.specs.Span.{Span, uniform, uniform_from}
+use Rattle.std.proofs.lemmas.Bool.{or_left}
+use Rattle.kds_base.specs.Span.{Span, uniform}
+use Rattle.kds_base.proofs.Facts.{chosen, is_itself}
 use Rattle.kds_defs.specs.declared.entry.Entry.TheVariants as entry
 use Rattle.kds_defs.specs.declared.limits.TheConstants.{FIRST_HOURS, HOUR, OPEN_SHARDS}
 use Rattle.kds_defs.specs.Journal.{Journal, plain_line}
@@ -12,10 +14,10 @@ use Rattle.kds_defs.specs.Records.{left_among, next_number, records}
 use Rattle.kds_defs.specs.Lawful.{IsShardCount}
 use Rattle.kds_defs.specs.Shards.{ShardState, first_shards, is_open, made_shards, shards}
 use Rattle.kds_defs.specs.Streams.{floor_at, floor_of, hours, is_live, made_at, name_of, trim_floor, was_made}
+use Rattle.kds_defs.proofs.Counted.{length_uniform, length_first}
 use Rattle.kds_log.specs.Log.{LogValue}
 use Rattle.kds_rate.specs.Windows.{WindowValue}
 use Rattle.kds_stream.proofs.Cuts.{cut_floor, first_floor, trims_at}
-use Rattle.kds_stream.proofs.Puts.{same_number}
 use Rattle.kds_stream.proofs.Rates.{counted_unused, stand_unused}
 use Rattle.kds_stream_logs.specs.Rating.{IsUnused}
 use Rattle.kds_stream.specs.Showing.{AreKept, IsFresh, Shows}
@@ -24,17 +26,8 @@ use Rattle.kds_stream.specs.Value.{EndsUnder, IsStream, cut_at}
 
 -- ---- so many shards, and so many logs
 
-length-uniform : (width start n : ℕ) → length (uniform_from width start n) ≡ n
-length-uniform width start zero = refl
-length-uniform width start (suc zero) = refl
-length-uniform width start (suc (suc n)) = ap suc (length-uniform width (start + width) (suc n))
-
-length-first : (n start : ℕ) (ranges : List Span) → length (first_shards n start ranges) ≡ length ranges
-length-first n start [] = refl
-length-first n start (r ∷ rs) = ap suc (length-first (n + 1) start rs)
-
 length-made : (count start : ℕ) → length (made_shards count start) ≡ count
-length-made count start = length-first 0 start (uniform count) ∙ length-uniform (2 ^ 128 / count) 0 count
+length-made count start = length_first 0 start (uniform count) ∙ length_uniform (2 ^ 128 / count) 0 count
 
 all_first : (next n start : ℕ) (ranges : List Span) → AllByRecursion (EndsUnder next) (first_shards n start ranges)
 all_first next n start [] = tt
@@ -58,7 +51,7 @@ open_first n start [] = refl
 open_first n start (r ∷ rs) = ap suc (open_first (n + 1) start rs)
 
 few_made : (count : ℕ) → IsShardCount count → length (filter is_open (made_shards count 1)) ≤ OPEN_SHARDS
-few_made count h = omega (arith, h.1, open_first 0 1 (uniform count), length-uniform (2 ^ 128 / count) 0 count)
+few_made count h = omega (arith, h.1, open_first 0 1 (uniform count), length_uniform (2 ^ 128 / count) 0 count)
 
 pub new_stream : (s : ℕ) (name : List ℕ) (made count : ℕ) (tree : List ShardState) (logs : List LogValue) (windows : List WindowValue) (cut cut_before : Option ℕ) → IsShardCount count → tree ≡ made_shards count 1 → logs ≡ replicate count empty_log → length windows ≡ count → AllByRecursion IsUnused windows → cut ≡ cut_at made FIRST_HOURS → cut_before ≡ cut_at made FIRST_HOURS
     → IsStream (record { no = s; name = name; made = made; hours = FIRST_HOURS; tree = tree; logs = logs; windows = windows; enforced = false; next = 1; clock = made; cut = cut; clock_before = made; cut_before = cut_before; turn = 0 })
@@ -77,34 +70,26 @@ new_stream s name made count tree logs windows cut cut_before counted shards_are
   fits = omega arith;
 }
 
-either : (b before : Bool) → b ≡ true → (b || before) ≡ true
-either true before h = refl
-either false before h = absurd cc
-
-chosen : {A : Type 0} (b : Bool) (x y : A) → b ≡ true → (if b then x else y) ≡ x
-chosen true x y h = refl
-chosen false x y h = absurd cc
-
 module _ (log : Journal) (by s : ℕ) (name : List ℕ) (made count : ℕ) (fresh : IsFresh log s) where
   drawn : next_number (plain_line made by (entry.Made s name count) ∷ log) s ≡ 1
   drawn = omega (arith, fresh.undrawn)
 
   floor_made : (cut : Option ℕ) → cut ≡ cut_at made FIRST_HOURS → trim_floor (plain_line made by (entry.Made s name count) ∷ log) made s ≡ floor_of cut
   floor_made cut is =
-      first_floor log (plain_line made by (entry.Made s name count)) s (either (s == s) (was_made log s) (same_number s)) fresh.unmade fresh.no_floor
-      ∙ ap (λ h. floor_at made (h * HOUR)) (chosen (s == s) FIRST_HOURS (hours log s) (same_number s))
+      first_floor log (plain_line made by (entry.Made s name count)) s (or_left (s == s) (was_made log s) (is_itself s)) fresh.unmade fresh.no_floor
+      ∙ ap (λ h. floor_at made (h * HOUR)) (chosen (s == s) FIRST_HOURS (hours log s) (is_itself s))
       ∙ sym (cut_floor made FIRST_HOURS)
       ∙ ap floor_of (sym is)
 
   pub shows_new : (tree : List ShardState) (logs : List LogValue) (windows : List WindowValue) (cut cut_before : Option ℕ) → tree ≡ made_shards count 1 → logs ≡ replicate count empty_log → AllByRecursion IsUnused windows → cut ≡ cut_at made FIRST_HOURS
       → Shows (record { no = s; name = name; made = made; hours = FIRST_HOURS; tree = tree; logs = logs; windows = windows; enforced = false; next = 1; clock = made; cut = cut; clock_before = made; cut_before = cut_before; turn = 0 }) (plain_line made by (entry.Made s name count) ∷ log)
   shows_new tree logs windows cut cut_before shards_are logs_are unused is = record {
-    live = either (s == s) (is_live log s) (same_number s);
-    was = either (s == s) (was_made log s) (same_number s);
-    named = chosen (s == s) name (name_of log s) (same_number s);
-    made_is = chosen (s == s) made (made_at log s) (same_number s);
-    hours_are = chosen (s == s) FIRST_HOURS (hours log s) (same_number s);
-    shards_are = chosen (s == s) _ (shards log s) (same_number s) ∙ ap (made_shards count) drawn ∙ sym shards_are;
+    live = or_left (s == s) (is_live log s) (is_itself s);
+    was = or_left (s == s) (was_made log s) (is_itself s);
+    named = chosen (s == s) name (name_of log s) (is_itself s);
+    made_is = chosen (s == s) made (made_at log s) (is_itself s);
+    hours_are = chosen (s == s) FIRST_HOURS (hours log s) (is_itself s);
+    shards_are = chosen (s == s) _ (shards log s) (is_itself s) ∙ ap (made_shards count) drawn ∙ sym shards_are;
     next_is = drawn;
     floor_is = floor_made cut is;
     kept = subst (AreKept (floor_of cut) (plain_line made by (entry.Made s name count) ∷ log) s 0) (sym logs_are) (kept_none (floor_of cut) (plain_line made by (entry.Made s name count) ∷ log) s 0 count fresh.no_records);

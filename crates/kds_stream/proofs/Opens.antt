@@ -1,9 +1,10 @@
 -- How many shards a split and a merge leave open.
 use Rattle.std.proofs.Common.{◌≡◌, ℕ, zero, suc, ◌+◌, ◌<◌, ◌≤◌, Bool, true, false, List, [], ◌∷◌, ◌++◌, length, Option, Some, None, refl, sym, ap, ◌∙◌, arith, length-append}
-use Rattle.std.specs.Prelude.{cond, not, slice_get, ◌&&◌, if◌then◌else◌}
+use Rattle.std.specs.Prelude.{cond, not, slice_get, if◌then◌else◌}
 use Rattle.std.specs.List.{filter}
 use Rattle.std.proofs.lemmas.List.Elements.{filter-append}
 use Rattle.kds_base.specs.Span.{joined, lower_part, upper_part}
+use Rattle.kds_base.proofs.Facts.{both_left}
 use Rattle.kds_defs.specs.declared.limits.TheConstants.{OPEN_SHARDS}
 use Rattle.kds_defs.specs.declared.reply.Refusal.{Refusal}
 use Rattle.kds_defs.specs.Shards.{Closing, ShardState, is_open, merged_shards, new_shard, range_of, split_shards, with_closed}
@@ -52,15 +53,11 @@ passed : (b : Bool) (r : Refusal) (o : Option Refusal) → (if not b then Some r
 passed true r o h = (refl, h)
 passed false r o h = absurd cc
 
-first_of_both : (a b : Bool) → (a && b) ≡ true → a ≡ true
-first_of_both true b h = refl
-first_of_both false b h = absurd cc
-
 splits_open : (xs : List ShardState) (sh at : ℕ) → split_refusal xs sh at ≡ None → is_open_at (slice_get xs sh) ≡ true
 splits_open xs sh at passes = (passed _ _ _ (passed _ _ _ passes).1).0
 
 merges_open : (xs : List ShardState) (sh other : ℕ) → merge_refusal xs sh other ≡ None → is_open_at (slice_get xs sh) ≡ true
-merges_open xs sh other passes = first_of_both _ _ (passed _ _ _ (passed _ _ _ passes).1).0
+merges_open xs sh other passes = both_left _ _ (passed _ _ _ (passed _ _ _ passes).1).0
 
 -- ---- the limit
 

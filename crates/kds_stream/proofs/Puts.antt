@@ -4,6 +4,7 @@ use Rattle.std.specs.Prelude.{◌==◌, ◌&&◌, cond, not, nat_le, nat_lt, if�
 use Rattle.std.specs.List.{AllByRecursion, filter}
 use Rattle.std.proofs.lemmas.Bool.Decides.{nat_tests}
 use Rattle.std.proofs.lemmas.List.Elements.{filter-append}
+use Rattle.kds_base.proofs.Facts.{is_itself, is_other, all_weaker, all_append, is_equal}
 use Rattle.kds_defs.proofs.Decisions.{after_accepted, after_refused, passed_if, refused_if}
 use Rattle.kds_defs.specs.declared.command.NewItem.{NewItem}
 use Rattle.kds_defs.specs.declared.reply.Place.{Place}
@@ -24,7 +25,6 @@ use Rattle.kds_defs.specs.Streams.{floor_of, hours, is_live, made_at, name_of, t
 use Rattle.kds_log.specs.Log.{LogValue}
 use Rattle.kds_rate.specs.Windows.{WindowValue}
 use Rattle.kds_stream.proofs.Cuts.{same_floor_at}
-use Rattle.kds_stream_logs.proofs.LogLemmas.{all-append, all_weaker}
 use Rattle.kds_stream.proofs.LogLemmas.{all-appended, arrived_later, length-appended}
 use Rattle.kds_stream_logs.proofs.Rates.{put_elsewhere, stand_along}
 use Rattle.kds_stream_logs.specs.Rating.{StandFor, with_put}
@@ -32,18 +32,8 @@ use Rattle.kds_stream.specs.Rating.{AreRated, ShowsRates}
 use Rattle.kds_stream.specs.Showing.{AreKept, IsKept, Shows}
 use Rattle.kds_stream_logs.specs.Logs.{HasArrived, IsBelow, IsUnder, with_appended}
 use Rattle.kds_stream.specs.Value.{EndsUnder, IsClosedUnder, IsStream, StreamValue}
-use Rattle.kds_stream_logs.proofs.Numbers.{is_number}
 
 -- ---- a number and itself
-
-pub same_number : (n : ℕ) → (n == n) ≡ true
-same_number n = grind (arith, nat_tests)
-
-pub is_other : (n m : ℕ) → n ≢ m → (n == m) ≡ false
-is_other n m h = by (n == m) refl
-  where
-    same : (a b : ℕ) → (a == b) ≡ true → a ≡ b
-    same a b e = grind (arith, nat_tests)
 
     by : (b : Bool) → (n == m) ≡ b → b ≡ false
     by true e = absurd (h (same n m e))
@@ -150,7 +140,7 @@ module _ (v : StreamValue) (log : Journal) (by n : ℕ) (item : NewItem) (same :
   -- the puts of a shard after its line
   pub puts_more : (sh : ℕ) → puts (put_line log v.clock by v.no n item ∷ log) v.no sh ≡ with_put (home_among (filter is_open v.tree) item.hash) (put_of v item) (puts log v.no) sh
   puts_more sh =
-      chosen_put (v.no == v.no) (home log v.no item.hash == sh) (put_of v item) (puts log v.no sh) (same_number v.no)
+      chosen_put (v.no == v.no) (home log v.no item.hash == sh) (put_of v item) (puts log v.no sh) (is_itself v.no)
       ∙ ap (λ h. if h == sh then put_of v item ∷ puts log v.no sh else puts log v.no sh) home_so
 
   pub rates_put : (windows : List WindowValue) → home_among (filter is_open v.tree) item.hash < length v.tree
@@ -186,7 +176,7 @@ module _ (v : StreamValue) (log : Journal) (by : ℕ) (item : NewItem) (shown : 
 
   pub put_spent : is_held_back log v.clock v.no item ≡ false → v.next ≡ last_number → (Err refusal.Spent ≡ answer_of (put log v.clock by v.no item)) × Shows v (with_lines (lines_of (put log v.clock by v.no item)) log)
   put_spent free spent =
-      after_refused _ refusal.Spent log (λ l. Shows v l) (passed_if _ _ _ free ∙ refused_if _ _ _ (is_number (next_number log v.no) last_number (shown.next_is ∙ spent))) shown
+      after_refused _ refusal.Spent log (λ l. Shows v l) (passed_if _ _ _ free ∙ refused_if _ _ _ (is_equal (next_number log v.no) last_number (shown.next_is ∙ spent))) shown
 
 module _ (v : StreamValue) (log : Journal) (by : ℕ) (item : NewItem) (shown : ShowsStored v log) where
   home_is : home log v.no item.hash ≡ home_among (filter is_open v.tree) item.hash
@@ -202,10 +192,10 @@ module _ (v : StreamValue) (log : Journal) (by : ℕ) (item : NewItem) (shown : 
       ∙ ap (λ c. if a && c then records log v.no sh ++ record { seq = next_number log v.no; arrival = v.clock; bytes = length item.payload + length item.key; key = item.key; payload = item.payload } ∷ [] else records log v.no sh) isb
 
   here : (sh : ℕ) → home log v.no item.hash ≡ sh → records (put_line log v.clock by v.no (next_number log v.no) item ∷ log) v.no sh ≡ records log v.no sh ++ put_record v item ∷ []
-  here sh is = records_by true true sh (same_number v.no) (is_number (home log v.no item.hash) sh is) ∙ ap (λ r. records log v.no sh ++ r ∷ []) record_is
+  here sh is = records_by true true sh (is_itself v.no) (is_equal (home log v.no item.hash) sh is) ∙ ap (λ r. records log v.no sh ++ r ∷ []) record_is
 
   elsewhere : (sh : ℕ) → home log v.no item.hash ≢ sh → records (put_line log v.clock by v.no (next_number log v.no) item ∷ log) v.no sh ≡ records log v.no sh
-  elsewhere sh differ = records_by true false sh (same_number v.no) (is_other (home log v.no item.hash) sh differ)
+  elsewhere sh differ = records_by true false sh (is_itself v.no) (is_other (home log v.no item.hash) sh differ)
 
   pub shows_put : (sh : ℕ) → sh ≡ home_among (filter is_open v.tree) item.hash → sh < length v.tree → floor_of v.cut ≤ v.clock
       → ShowsStored (record v { logs = with_appended sh (put_record v item) v.logs; next = v.next + 1; clock_before = v.clock; cut_before = v.cut }) (put_line log v.clock by v.no (next_number log v.no) item ∷ log)
@@ -218,7 +208,7 @@ module _ (v : StreamValue) (log : Journal) (by : ℕ) (item : NewItem) (shown : 
         made_is = shown.made_is;
         hours_are = shown.hours_are;
         shards_are = shown.shards_are;
-        next_is = one_more (v.no == v.no) (next_number log v.no) v.next (same_number v.no) shown.next_is;
+        next_is = one_more (v.no == v.no) (next_number log v.no) v.next (is_itself v.no) shown.next_is;
         floor_is = same_floor_at log (put_line log v.clock by v.no (next_number log v.no) item) v.clock v.no refl refl ∙ shown.floor_is;
         kept =
             kept_put (floor_of v.cut) log (put_line log v.clock by v.no (next_number log v.no) item ∷ log) v.no 0 sh sh (put_record v item) v.logs trims (omega arith) (here sh is)
@@ -291,7 +281,7 @@ stream_put v sh next r logs windows drawn free number arrival are rated is =
       endings = ends_later v.next next v.tree (omega (arith, drawn)) is.endings;
       arrivals =
           subst (AllByRecursion (HasArrived v.clock)) (sym are)
-          (all-appended (HasArrived v.clock) (HasArrived v.clock) sh r (λ l h. h) (λ l h. all-append (λ (x : Logged). x.arrival ≤ v.clock) l.kept (r ∷ []) h (omega (arith, arrival), tt)) v.logs (arrived_later v.clock_before v.clock v.logs is.order is.arrivals));
+          (all-appended (HasArrived v.clock) (HasArrived v.clock) sh r (λ l h. h) (λ l h. all_append (λ (x : Logged). x.arrival ≤ v.clock) l.kept (r ∷ []) h (omega (arith, arrival), tt)) v.logs (arrived_later v.clock_before v.clock v.logs is.order is.arrivals));
       order = omega arith;
       trims = is.trims;
       trims_before = is.trims;

@@ -3,9 +3,9 @@ use Rattle.std.proofs.Common.{◌≡◌, ℕ, zero, suc, ◌+◌, ◌≤◌, Lis
 use Rattle.std.specs.Prelude.{slice_set}
 use Rattle.std.specs.List.{AllByRecursion}
 use Rattle.std.proofs.lemmas.List.{append_assoc}
+use Rattle.kds_base.proofs.Facts.{all_weaker, all_append}
 use Rattle.kds_defs.specs.Rates.{SizedPut}
 use Rattle.kds_rate.specs.Windows.{StandsFor, WindowValue}
-use Rattle.kds_stream_logs.proofs.LogLemmas.{all-append, all_weaker}
 use Rattle.kds_stream_logs.specs.Rating.{IsCounted, IsUnused, StandFor}
 use Rattle.kds_stream.specs.Rating.{AreRated}
 
@@ -30,7 +30,7 @@ pub counted_unused : (moment : ℕ) (ws : List WindowValue) → AllByRecursion I
 counted_unused moment ws h = all_weaker IsUnused (IsCounted moment) (λ w u. omega (arith, u.never)) ws h
 
 pub unused_more : (ws : List WindowValue) (w : WindowValue) → IsUnused w → AllByRecursion IsUnused ws → AllByRecursion IsUnused (ws ++ w ∷ [])
-unused_more ws w u h = all-append IsUnused ws (w ∷ []) h (u, tt)
+unused_more ws w u h = all_append IsUnused ws (w ∷ []) h (u, tt)
 
 pub one_window : (new reserved before : List WindowValue) (a : WindowValue) → new ≡ reserved ++ a ∷ [] → reserved ≡ before → new ≡ before ++ (a ∷ [])
 one_window new reserved before a more same = more ∙ ap (λ (us : List WindowValue). us ++ a ∷ []) same
@@ -51,5 +51,5 @@ pub rated_more : (moment later count more : ℕ) (ws new : List WindowValue) →
 rated_more moment later count more ws new le grown unused h =
     record {
       as_many = omega (arith, length-append ws new, h.as_many, grown);
-      counted = all-append (IsCounted later) ws new (counted_later moment later ws le h.counted) (counted_unused later new unused);
+      counted = all_append (IsCounted later) ws new (counted_later moment later ws le h.counted) (counted_unused later new unused);
     }

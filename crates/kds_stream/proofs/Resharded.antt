@@ -1,10 +1,9 @@
 -- What a stream shows after a split or a merge, and that it is a stream still.
-use Rattle.std.proofs.Common.{◌≡◌, ◌≢◌, ℕ, zero, suc, ◌+◌, ◌<◌, ◌≤◌, Bool, true, false, List, [], ◌∷◌, ◌++◌, length, Some, None, refl, sym, ap, subst, ◌∙◌, arith, length-append}
-use Rattle.std.specs.Prelude.{◌==◌, if◌then◌else◌, slice_get, Ok}
+use Rattle.std.proofs.Common.{◌≡◌, ◌≢◌, ℕ, zero, suc, ◌+◌, ◌<◌, ◌≤◌, Bool, true, false, List, [], ◌∷◌, ◌++◌, length, None, refl, sym, ap, subst, ◌∙◌, arith, length-append}
+use Rattle.std.specs.Prelude.{◌==◌, if◌then◌else◌, Ok}
 use Rattle.std.specs.List.{AllByRecursion, filter}
-use Rattle.kds_base.specs.Span.{joined, lower_part, upper_part}
+use Rattle.kds_base.proofs.Facts.{is_itself, chosen, all_weaker, all_append}
 use Rattle.kds_defs.proofs.Decisions.{after_accepted}
-use Rattle.kds_defs.proofs.Numbers.{length-closed}
 use Rattle.kds_defs.specs.declared.limits.TheConstants.{OPEN_SHARDS}
 use Rattle.kds_defs.specs.declared.reply.Reply.TheVariants as reply
 use Rattle.kds_defs.specs.Decision.{Accepted}
@@ -13,17 +12,17 @@ use Rattle.kds_defs.specs.Journal.{Journal, Line, with_lines}
 use Rattle.kds_defs.specs.PutCommands.{is_enforced}
 use Rattle.kds_defs.specs.Rates.{puts}
 use Rattle.kds_defs.specs.Records.{left_among, next_number, records}
-use Rattle.kds_defs.specs.Shards.{Closing, ShardState, is_open, merged_shards, new_shard, range_of, shards, split_shards, with_closed}
+use Rattle.kds_defs.specs.Shards.{Closing, ShardState, is_open, merged_shards, shards, split_shards, with_closed}
 use Rattle.kds_defs.specs.StreamCommands.{last_number, merge, split_where}
 use Rattle.kds_defs.specs.Streams.{floor_of, hours, is_live, made_at, name_of, was_made}
+use Rattle.kds_defs.proofs.Counted.{length_split, length_merged}
 use Rattle.kds_log.specs.Log.{LogValue}
 use Rattle.kds_rate.specs.Windows.{WindowValue}
 use Rattle.kds_stream.proofs.Cuts.{same_floor_at}
-use Rattle.kds_stream_logs.proofs.LogLemmas.{all-append, all_weaker}
 use Rattle.kds_stream.proofs.LogLemmas.{arrived_later, below_higher}
 use Rattle.kds_stream.proofs.Opens.{few_merged, few_split}
 use Rattle.kds_stream.proofs.Others.{kept_along}
-use Rattle.kds_stream.proofs.Puts.{ends_later, one_free, same_number}
+use Rattle.kds_stream.proofs.Puts.{ends_later, one_free}
 use Rattle.kds_stream_logs.proofs.Rates.{stand_along}
 use Rattle.kds_stream.proofs.Rates.{rated_more, stand_more}
 use Rattle.kds_stream_logs.specs.Rating.{IsUnused}
@@ -34,27 +33,17 @@ use Rattle.kds_tree.specs.Tree.{merge_refusal, split_refusal}
 
 -- ---- the shards after it
 
-pub length-split : (sh at start : ℕ) (closing : Closing) (xs : List ShardState) → length (split_shards sh at closing start xs) ≡ length xs + 2
-length-split sh at start closing xs =
-    length-append (with_closed sh closing xs) (new_shard (length xs) (lower_part (range_of (slice_get xs sh)) at) (Some sh) None start ∷ new_shard (length xs + 1) (upper_part (range_of (slice_get xs sh)) at) (Some sh) None start ∷ [])
-    ∙ ap (λ n. n + 2) (length-closed sh closing xs)
-
-pub length-merged : (sh other start : ℕ) (closing : Closing) (xs : List ShardState) → length (merged_shards sh other closing start xs) ≡ length xs + 1
-length-merged sh other start closing xs =
-    length-append (with_closed other closing (with_closed sh closing xs)) (new_shard (length xs) (joined (range_of (slice_get xs sh)) (range_of (slice_get xs other))) (Some sh) (Some other) start ∷ [])
-    ∙ ap (λ n. n + 1) (length-closed other closing (with_closed sh closing xs) ∙ length-closed sh closing xs)
-
 ends_closed : (next sh : ℕ) (closing : Closing) (xs : List ShardState) → closing.number < next → AllByRecursion (EndsUnder next) xs → AllByRecursion (EndsUnder next) (with_closed sh closing xs)
 ends_closed next sh closing [] below h = tt
 ends_closed next zero closing (x ∷ xs) below h = (below, h.1)
 ends_closed next (suc sh) closing (x ∷ xs) below h = (h.0, ends_closed next sh closing xs below h.1)
 
 pub ends_split : (next sh at start : ℕ) (closing : Closing) (xs : List ShardState) → closing.number < next → AllByRecursion (EndsUnder next) xs → AllByRecursion (EndsUnder next) (split_shards sh at closing start xs)
-ends_split next sh at start closing xs below h = all-append (EndsUnder next) (with_closed sh closing xs) _ (ends_closed next sh closing xs below h) (tt, (tt, tt))
+ends_split next sh at start closing xs below h = all_append (EndsUnder next) (with_closed sh closing xs) _ (ends_closed next sh closing xs below h) (tt, (tt, tt))
 
 pub ends_merged : (next sh other start : ℕ) (closing : Closing) (xs : List ShardState) → closing.number < next → AllByRecursion (EndsUnder next) xs → AllByRecursion (EndsUnder next) (merged_shards sh other closing start xs)
 ends_merged next sh other start closing xs below h =
-    all-append (EndsUnder next) (with_closed other closing (with_closed sh closing xs)) _ (ends_closed next other closing (with_closed sh closing xs) below (ends_closed next sh closing xs below h)) (tt, tt)
+    all_append (EndsUnder next) (with_closed other closing (with_closed sh closing xs)) _ (ends_closed next other closing (with_closed sh closing xs) below (ends_closed next sh closing xs below h)) (tt, tt)
 
 -- ---- the logs after it
 
@@ -80,9 +69,9 @@ stream_grown v tree new ws next drawn free empty unused beside grown few ends is
   as_many = omega (arith, length-append v.logs new, is.as_many, grown);
   few = few;
   lasting = is.lasting;
-  numbers = all-append (IsBelow next) v.logs new (below_higher v.next next v.logs (omega (arith, drawn)) is.numbers) (all_empty (IsBelow next) new tt empty);
+  numbers = all_append (IsBelow next) v.logs new (below_higher v.next next v.logs (omega (arith, drawn)) is.numbers) (all_empty (IsBelow next) new tt empty);
   endings = ends;
-  arrivals = all-append (HasArrived v.clock) v.logs new (arrived_later v.clock_before v.clock v.logs is.order is.arrivals) (all_empty (HasArrived v.clock) new tt empty);
+  arrivals = all_append (HasArrived v.clock) v.logs new (arrived_later v.clock_before v.clock v.logs is.order is.arrivals) (all_empty (HasArrived v.clock) new tt empty);
   order = omega arith;
   trims = is.trims;
   trims_before = is.trims;
@@ -116,10 +105,6 @@ shows_grown v log line tree new ws next at live was named made lasts enforces sa
       };
 }
 
-chosen : {A : Type 0} (b : Bool) (x y : A) → b ≡ true → (if b then x else y) ≡ x
-chosen true x y h = refl
-chosen false x y h = absurd cc
-
 one_more : (b : Bool) (n m : ℕ) → b ≡ true → n ≡ m → (if b then 1 else 0) + n ≡ m + 1
 one_more true n m h e = omega (arith, e)
 one_more false n m h e = absurd cc
@@ -128,9 +113,9 @@ module _ (v : StreamValue) (log : Journal) (by : ℕ) (show : Shows v log) (as_m
   pub shows_split : (sh at next : ℕ) (tree : List ShardState) (logs : List LogValue) (windows ws : List WindowValue) → next ≡ v.next + 1 → tree ≡ split_shards sh at (record { number = v.next; clock = v.clock }) (v.next + 1) v.tree → logs ≡ v.logs ++ (empty_log ∷ empty_log ∷ []) → windows ≡ v.windows ++ ws → AllByRecursion IsUnused ws
       → Shows (record v { tree = tree; logs = logs; windows = windows; next = next; clock_before = v.clock; cut_before = v.cut }) (split_line log v.clock by v.no sh at ∷ log)
   shows_split sh at next tree logs windows ws drawn tree_is logs_are windows_are unused =
-      let more : next_number (split_line log v.clock by v.no sh at ∷ log) v.no ≡ v.next + 1 = one_more (v.no == v.no) (next_number log v.no) v.next (same_number v.no) show.next_is in
+      let more : next_number (split_line log v.clock by v.no sh at ∷ log) v.no ≡ v.next + 1 = one_more (v.no == v.no) (next_number log v.no) v.next (is_itself v.no) show.next_is in
       let after : shards (split_line log v.clock by v.no sh at ∷ log) v.no ≡ tree =
-      chosen (v.no == v.no) _ (shards log v.no) (same_number v.no)
+      chosen (v.no == v.no) _ (shards log v.no) (is_itself v.no)
       ∙ ap (λ n. split_shards sh at (record { number = n; clock = v.clock }) (next_number (split_line log v.clock by v.no sh at ∷ log) v.no) (shards log v.no)) show.next_is
       ∙ ap (λ n. split_shards sh at (record { number = v.next; clock = v.clock }) n (shards log v.no)) more
       ∙ ap (split_shards sh at (record { number = v.next; clock = v.clock }) (v.next + 1)) show.shards_are
@@ -138,14 +123,14 @@ module _ (v : StreamValue) (log : Journal) (by : ℕ) (show : Shows v log) (as_m
       subst (λ (us : List WindowValue). Shows (record v { tree = tree; logs = logs; windows = us; next = next; clock_before = v.clock; cut_before = v.cut }) (split_line log v.clock by v.no sh at ∷ log)) (sym windows_are)
       (subst (λ (ls : List LogValue). Shows (record v { tree = tree; logs = ls; windows = v.windows ++ ws; next = next; clock_before = v.clock; cut_before = v.cut }) (split_line log v.clock by v.no sh at ∷ log)) (sym logs_are)
       (shows_grown v log (split_line log v.clock by v.no sh at) tree (empty_log ∷ empty_log ∷ []) ws next refl refl refl refl refl refl refl (λ n. refl) (λ n. refl) after (more ∙ sym drawn) (refl, (refl, tt)) unused
-      (ap length tree_is ∙ length-split sh at (v.next + 1) (record { number = v.next; clock = v.clock }) v.tree) as_many as_wide show))
+      (ap length tree_is ∙ length_split sh at (v.next + 1) (record { number = v.next; clock = v.clock }) v.tree) as_many as_wide show))
 
   pub shows_merged : (sh other next : ℕ) (tree : List ShardState) (logs : List LogValue) (windows ws : List WindowValue) → next ≡ v.next + 1 → tree ≡ merged_shards sh other (record { number = v.next; clock = v.clock }) (v.next + 1) v.tree → logs ≡ v.logs ++ (empty_log ∷ []) → windows ≡ v.windows ++ ws → AllByRecursion IsUnused ws
       → Shows (record v { tree = tree; logs = logs; windows = windows; next = next; clock_before = v.clock; cut_before = v.cut }) (merge_line log v.clock by v.no sh other ∷ log)
   shows_merged sh other next tree logs windows ws drawn tree_is logs_are windows_are unused =
-      let more : next_number (merge_line log v.clock by v.no sh other ∷ log) v.no ≡ v.next + 1 = one_more (v.no == v.no) (next_number log v.no) v.next (same_number v.no) show.next_is in
+      let more : next_number (merge_line log v.clock by v.no sh other ∷ log) v.no ≡ v.next + 1 = one_more (v.no == v.no) (next_number log v.no) v.next (is_itself v.no) show.next_is in
       let after : shards (merge_line log v.clock by v.no sh other ∷ log) v.no ≡ tree =
-      chosen (v.no == v.no) _ (shards log v.no) (same_number v.no)
+      chosen (v.no == v.no) _ (shards log v.no) (is_itself v.no)
       ∙ ap (λ n. merged_shards sh other (record { number = n; clock = v.clock }) (next_number (merge_line log v.clock by v.no sh other ∷ log) v.no) (shards log v.no)) show.next_is
       ∙ ap (λ n. merged_shards sh other (record { number = v.next; clock = v.clock }) n (shards log v.no)) more
       ∙ ap (merged_shards sh other (record { number = v.next; clock = v.clock }) (v.next + 1)) show.shards_are
@@ -153,7 +138,7 @@ module _ (v : StreamValue) (log : Journal) (by : ℕ) (show : Shows v log) (as_m
       subst (λ (us : List WindowValue). Shows (record v { tree = tree; logs = logs; windows = us; next = next; clock_before = v.clock; cut_before = v.cut }) (merge_line log v.clock by v.no sh other ∷ log)) (sym windows_are)
       (subst (λ (ls : List LogValue). Shows (record v { tree = tree; logs = ls; windows = v.windows ++ ws; next = next; clock_before = v.clock; cut_before = v.cut }) (merge_line log v.clock by v.no sh other ∷ log)) (sym logs_are)
       (shows_grown v log (merge_line log v.clock by v.no sh other) tree (empty_log ∷ []) ws next refl refl refl refl refl refl refl (λ n. refl) (λ n. refl) after (more ∙ sym drawn) (refl, tt) unused
-      (ap length tree_is ∙ length-merged sh other (v.next + 1) (record { number = v.next; clock = v.clock }) v.tree) as_many as_wide show))
+      (ap length tree_is ∙ length_merged sh other (v.next + 1) (record { number = v.next; clock = v.clock }) v.tree) as_many as_wide show))
 
 pub stream_split : (v : StreamValue) (sh at next : ℕ) (tree : List ShardState) (logs : List LogValue) (windows ws : List WindowValue) → next ≡ v.next + 1 → v.next ≢ last_number → length (filter is_open v.tree) < OPEN_SHARDS → split_refusal v.tree sh at ≡ None → tree ≡ split_shards sh at (record { number = v.next; clock = v.clock }) (v.next + 1) v.tree → logs ≡ v.logs ++ (empty_log ∷ empty_log ∷ []) → windows ≡ v.windows ++ ws → AllByRecursion IsUnused ws → length ws ≡ length (empty_log ∷ empty_log ∷ []) → IsStream v
     → IsStream (record v { tree = tree; logs = logs; windows = windows; next = next; clock_before = v.clock; cut_before = v.cut })
@@ -161,7 +146,7 @@ stream_split v sh at next tree logs windows ws drawn free few passes tree_is log
     let how : Closing = record { number = v.next; clock = v.clock } in
     subst (λ (us : List WindowValue). IsStream (record v { tree = tree; logs = logs; windows = us; next = next; clock_before = v.clock; cut_before = v.cut })) (sym windows_are)
     (subst (λ (ls : List LogValue). IsStream (record v { tree = tree; logs = ls; windows = v.windows ++ ws; next = next; clock_before = v.clock; cut_before = v.cut })) (sym logs_are)
-    (stream_grown v tree (empty_log ∷ empty_log ∷ []) ws next drawn free (refl, (refl, tt)) unused beside (ap length tree_is ∙ length-split sh at (v.next + 1) how v.tree)
+    (stream_grown v tree (empty_log ∷ empty_log ∷ []) ws next drawn free (refl, (refl, tt)) unused beside (ap length tree_is ∙ length_split sh at (v.next + 1) how v.tree)
     (subst (λ (xs : List ShardState). length (filter is_open xs) ≤ OPEN_SHARDS) (sym tree_is) (few_split v.tree sh at (v.next + 1) how few passes))
     (subst (AllByRecursion (EndsUnder next)) (sym tree_is) (ends_split next sh at (v.next + 1) how v.tree (omega (arith, drawn)) (ends_later v.next next v.tree (omega (arith, drawn)) is.endings))) is))
 
@@ -171,7 +156,7 @@ stream_merged v sh other next tree logs windows ws drawn free passes tree_is log
     let how : Closing = record { number = v.next; clock = v.clock } in
     subst (λ (us : List WindowValue). IsStream (record v { tree = tree; logs = logs; windows = us; next = next; clock_before = v.clock; cut_before = v.cut })) (sym windows_are)
     (subst (λ (ls : List LogValue). IsStream (record v { tree = tree; logs = ls; windows = v.windows ++ ws; next = next; clock_before = v.clock; cut_before = v.cut })) (sym logs_are)
-    (stream_grown v tree (empty_log ∷ []) ws next drawn free (refl, tt) unused beside (ap length tree_is ∙ length-merged sh other (v.next + 1) how v.tree)
+    (stream_grown v tree (empty_log ∷ []) ws next drawn free (refl, tt) unused beside (ap length tree_is ∙ length_merged sh other (v.next + 1) how v.tree)
     (subst (λ (xs : List ShardState). length (filter is_open xs) ≤ OPEN_SHARDS) (sym tree_is) (few_merged v.tree sh other (v.next + 1) how is.few passes))
     (subst (AllByRecursion (EndsUnder next)) (sym tree_is) (ends_merged next sh other (v.next + 1) how v.tree (omega (arith, drawn)) (ends_later v.next next v.tree (omega (arith, drawn)) is.endings))) is))
 

@@ -2,7 +2,9 @@
 use Rattle.std.proofs.Common.{◌≡◌, ◌≢◌, ℕ, ◌+◌, ◌^◌, ◌<◌, Bool, true, false, List, [], ◌∷◌, length, Option, Some, None, refl, sym, ap, subst, ◌∙◌, arith}
 use Rattle.std.specs.Prelude.{◌==◌, ◌&&◌, ◌||◌, not, nat_lt, is_some, slice_get, if◌then◌else◌}
 use Rattle.std.proofs.lemmas.Bool.Decides.{nat_tests}
+use Rattle.std.proofs.lemmas.Bool.{and_from, or_right, or_from}
 use Rattle.kds_base.specs.Span.{are_adjacent, is_inside}
+use Rattle.kds_base.proofs.Facts.{is_other, is_equal}
 use Rattle.kds_defs.proofs.Decisions.{passed_if, refused_if}
 use Rattle.kds_defs.specs.declared.reply.Refusal.{Refusal}
 use Rattle.kds_defs.specs.declared.reply.Refusal.TheVariants as refusal
@@ -14,8 +16,6 @@ use Rattle.kds_defs.specs.Shards.{ShardState, is_listed, range_of, shard_at, sha
 use Rattle.kds_defs.specs.StreamCommands.{is_open_at, last_number, merge, split_where}
 use Rattle.kds_defs.specs.Streams.{floor_of}
 use Rattle.kds_stream.proofs.Listed.{listed_is, shard_is}
-use Rattle.kds_stream_logs.proofs.Numbers.{is_number}
-use Rattle.kds_stream.proofs.Puts.{is_other}
 use Rattle.kds_stream.specs.Showing.{Shows, merge_line, split_line}
 use Rattle.kds_stream.specs.Value.{StreamValue, is_listed_at}
 use Rattle.kds_tree.specs.Tree.{merge_refusal, split_refusal}
@@ -61,18 +61,6 @@ there : (floor : ℕ) (o : Option ShardState) → is_listed_at floor o ≡ true 
 there floor None h = absurd cc
 there floor (Some x) h = refl
 
-both : (a b : Bool) → a ≡ true → b ≡ true → (a && b) ≡ true
-both true b ha hb = hb
-both false b ha hb = absurd cc
-
-pub not_first : (a b : Bool) → a ≡ false → (a && b) ≡ false
-not_first true b h = absurd cc
-not_first false b h = refl
-
-pub not_second : (a b : Bool) → b ≡ false → (a && b) ≡ false
-not_second true b h = h
-not_second false b h = refl
-
 -- a list that is short enough
 few : (n : ℕ) → n < 2 ^ 63 → nat_lt last_number (n + 1) ≡ false
 few n h = grind (arith, nat_tests)
@@ -80,22 +68,14 @@ few n h = grind (arith, nat_tests)
 few_one : (n : ℕ) → n < 2 ^ 63 → nat_lt last_number n ≡ false
 few_one n h = grind (arith, nat_tests)
 
-or_right : (a b : Bool) → b ≡ true → (a || b) ≡ true
-or_right true b h = refl
-or_right false b h = h
-
-neither : (a b : Bool) → a ≡ false → b ≡ false → (a || b) ≡ false
-neither true b ha hb = absurd cc
-neither false b ha hb = hb
-
 -- ---- the decisions
 
 module _ (v : StreamValue) (log : Journal) (by : ℕ) (show : Shows v log) where
   spent_next : (a : Bool) → v.next ≡ last_number → (a || next_number log v.no == last_number) ≡ true
-  spent_next a spent = or_right a (next_number log v.no == last_number) (is_number (next_number log v.no) last_number (show.next_is ∙ spent))
+  spent_next a spent = or_right a (next_number log v.no == last_number) (is_equal (next_number log v.no) last_number (show.next_is ∙ spent))
 
   free_next : (a : Bool) → a ≡ false → v.next ≢ last_number → (a || next_number log v.no == last_number) ≡ false
-  free_next a is free = neither a (next_number log v.no == last_number) is (is_other (next_number log v.no) last_number (λ e. free (sym show.next_is ∙ e)))
+  free_next a is free = or_from a (next_number log v.no == last_number) is (is_other (next_number log v.no) last_number (λ e. free (sym show.next_is ∙ e)))
 
   few_shards : length v.tree < 2 ^ 63 → length (shards log v.no) < 2 ^ 63
   few_shards h = subst (λ (xs : List ShardState). length xs < 2 ^ 63) (sym show.shards_are) h
@@ -159,12 +139,12 @@ module _ (v : StreamValue) (log : Journal) (by : ℕ) (show : Shows v log) where
         → merge log v.clock by v.no sh other ≡ (refuse refusal.ShardClosed if not (is_open_at (slice_get v.tree sh) && is_open_at (slice_get v.tree other)) else refuse refusal.NotAdjacent if not (are_adjacent (range_of (slice_get v.tree sh)) (range_of (slice_get v.tree other))) else merge_rest)
     unfolding merge_rest
     merge_listed h g =
-        passed_if _ _ _ (ap not (both_listed ∙ both _ _ h g))
+        passed_if _ _ _ (ap not (both_listed ∙ and_from _ _ h g))
         ∙ ap (λ o. refuse refusal.ShardClosed if not (is_open_at o && is_open_at (shard_at log v.no other)) else refuse refusal.NotAdjacent if not (are_adjacent (range_of o) (range_of (shard_at log v.no other))) else merge_rest) (shard_is v log show sh)
         ∙ ap (λ o. refuse refusal.ShardClosed if not (is_open_at (slice_get v.tree sh) && is_open_at o) else refuse refusal.NotAdjacent if not (are_adjacent (range_of (slice_get v.tree sh)) (range_of o)) else merge_rest) (shard_is v log show other)
 
     made_both : is_listed_at (floor_of v.cut) (slice_get v.tree sh) ≡ true → is_listed_at (floor_of v.cut) (slice_get v.tree other) ≡ true → (is_some (slice_get v.tree sh) && is_some (slice_get v.tree other)) ≡ true
-    made_both h g = both _ _ (there (floor_of v.cut) (slice_get v.tree sh) h) (there (floor_of v.cut) (slice_get v.tree other) g)
+    made_both h g = and_from _ _ (there (floor_of v.cut) (slice_get v.tree sh) h) (there (floor_of v.cut) (slice_get v.tree other) g)
 
     pub merge_refused : (r : Refusal) → is_listed_at (floor_of v.cut) (slice_get v.tree sh) ≡ true → is_listed_at (floor_of v.cut) (slice_get v.tree other) ≡ true → Some r ≡ merge_refusal v.tree sh other → merge log v.clock by v.no sh other ≡ Refused r
     merge_refused r h g is = merge_listed h g ∙ merge_tests (is_some (slice_get v.tree sh) && is_some (slice_get v.tree other)) _ _ r merge_rest (made_both h g) is

@@ -1,6 +1,7 @@
 -- A change of the retention: its decision, what the stream shows after it, and that it is a stream still.
 use Rattle.std.proofs.Common.{◌≡◌, ℕ, ◌*◌, max, ◌≤◌, Bool, true, false, [], ◌∷◌, length, Option, refl, sym, ap, ◌∙◌, arith}
 use Rattle.std.specs.Prelude.{◌==◌, nat_lt, if◌then◌else◌, Ok, Err}
+use Rattle.kds_base.proofs.Facts.{is_itself, chosen}
 use Rattle.kds_defs.proofs.Decisions.{after_accepted, after_refused, passed_if, refused_if}
 use Rattle.kds_defs.specs.declared.entry.Entry.TheVariants as entry
 use Rattle.kds_defs.specs.declared.limits.TheConstants.{HOUR}
@@ -15,14 +16,9 @@ use Rattle.kds_stream.proofs.Clocks.{kept_higher}
 use Rattle.kds_stream.proofs.Cuts.{changed_floor, cut_floor, later_floor, trims_later}
 use Rattle.kds_stream.proofs.LogLemmas.{arrived_later}
 use Rattle.kds_stream.proofs.Others.{kept_along}
-use Rattle.kds_stream.proofs.Puts.{same_number}
 use Rattle.kds_stream.proofs.Rates.{rated_later}
 use Rattle.kds_stream.specs.Showing.{Shows}
 use Rattle.kds_stream.specs.Value.{IsStream, StreamValue, cut_at, later_cut}
-
-chosen : {A : Type 0} (b : Bool) (x y : A) → b ≡ true → (if b then x else y) ≡ x
-chosen true x y h = refl
-chosen false x y h = absurd cc
 
 -- the line of a change
 abbrev pub kept_line : StreamValue → ℕ → ℕ → Line
@@ -38,7 +34,7 @@ module _ (v : StreamValue) (log : Journal) (by wanted : ℕ) (raise : Bool) (sho
   keep_refused is = after_refused _ refusal.BadRetention log (λ l. Shows v l) (refused_if _ _ _ (tested true is)) shown
 
   lasts : hours (kept_line v by wanted ∷ log) v.no ≡ wanted
-  lasts = chosen (v.no == v.no) wanted (hours log v.no) (same_number v.no)
+  lasts = chosen (v.no == v.no) wanted (hours log v.no) (is_itself v.no)
 
   floor_kept : trim_floor (kept_line v by wanted ∷ log) v.clock v.no ≡ floor_of (later_cut v.cut (cut_at v.clock wanted))
   floor_kept =

@@ -3,6 +3,7 @@ use Rattle.std.proofs.Common.{◌≡◌, ◌≢◌, ℕ, suc, ◌+◌, ◌^◌, 
 use Rattle.std.specs.Prelude.{◌==◌, nat_lt, if◌then◌else◌, Ok, Err}
 use Rattle.std.specs.List.{AllByRecursion, filter}
 use Rattle.std.proofs.lemmas.Bool.Decides.{nat_tests}
+use Rattle.kds_base.proofs.Facts.{is_other, is_equal, all_both}
 use Rattle.kds_defs.proofs.Decisions.{after_accepted, after_refused, passed_if, refused_if}
 use Rattle.kds_defs.specs.declared.command.NewItem.{NewItem}
 use Rattle.kds_defs.specs.declared.reply.Outcome.{Outcome}
@@ -23,8 +24,7 @@ use Rattle.kds_log.specs.Log.{LogValue}
 use Rattle.kds_stream.proofs.Clocks.{settled_stream, shows_settled}
 use Rattle.kds_stream.proofs.LogLemmas.{arrived_later, below_higher}
 use Rattle.kds_rate.specs.Windows.{WindowValue}
-use Rattle.kds_stream_logs.proofs.Numbers.{is_number}
-use Rattle.kds_stream.proofs.Puts.{ShowsStored, held_is, home_so, is_other, put_of, put_record, puts_more, shows_put, stored_part, stream_put, with_rates}
+use Rattle.kds_stream.proofs.Puts.{ShowsStored, held_is, home_so, put_of, put_record, puts_more, shows_put, stored_part, stream_put, with_rates}
 use Rattle.kds_stream_logs.proofs.Rates.{put_elsewhere, stand_along}
 use Rattle.kds_stream.proofs.Rates.{rated_later}
 use Rattle.kds_stream_logs.specs.declared.routes.Routed.{Routed}
@@ -35,7 +35,7 @@ use Rattle.kds_stream_logs.specs.Routes.{AreInTurn, AreRouted, CanTake, GoesOn, 
 use Rattle.kds_stream.specs.Showing.{Shows}
 use Rattle.kds_stream_logs.specs.Logs.{IsBelow, settled_at, with_appended}
 use Rattle.kds_stream.specs.Value.{EndsUnder, IsStream, StreamValue}
-use Rattle.kds_stream_logs.proofs.Routings.{IsFrom, all_from, all_two, apart, turns}
+use Rattle.kds_stream_logs.proofs.Routings.{IsFrom, all_from, apart, turns}
 
 -- ---- the records of items
 
@@ -67,7 +67,7 @@ all_map f P (x ∷ xs) h = (h.0, all_map f P xs h.1)
 pub can_take : (v : StreamValue) (items : List NewItem) (rs : List Routed) → IsStream v → rs ≡ routed_items v.tree v.clock v.next items → AllByRecursion (IsWithin (length v.tree)) rs → AllByRecursion (CanTake v.logs) rs
 can_take v items rs is are within =
     let from : AllByRecursion (IsFrom v.next v.clock) rs = subst (AllByRecursion (IsFrom v.next v.clock)) (sym are) (all_from v.tree v.clock v.next v.next items (omega arith)) in
-    all_two (IsWithin (length v.tree)) (IsFrom v.next v.clock) (CanTake v.logs) (λ r inside f. record {
+    all_both (IsWithin (length v.tree)) (IsFrom v.next v.clock) (CanTake v.logs) (λ r inside f. record {
       within = omega (arith, inside, is.as_many);
       number = below_higher v.next r.item.seq v.logs f.number is.numbers;
       arrival = arrived_later v.clock_before r.item.arrival v.logs (omega (arith, is.order, f.arrival)) is.arrivals;
@@ -130,7 +130,7 @@ puts_told [] v log by n f shards_are enforces number same = record { many = refl
 puts_told (item ∷ items) v log by n f shards_are enforces number same =
     by_held (is_held v.tree v.clock v.enforced f item) refl (puts_told items v log by n f shards_are enforces number same)
     (puts_told items v (put_line log v.clock by v.no (next_number log v.no) item ∷ log) by (n + 1) (after_item v.tree v.clock f item false) shards_are enforces
-    (next_more (v.no == v.no) (next_number log v.no) n (is_number v.no v.no refl) number) (puts_stay v log by item f shards_are same))
+    (next_more (v.no == v.no) (next_number log v.no) n (is_equal v.no v.no refl) number) (puts_stay v log by item f shards_are same))
   where
     by_held : (b : Bool) → is_held v.tree v.clock v.enforced f item ≡ b → Told v log by n f items → Told v (put_line log v.clock by v.no (next_number log v.no) item ∷ log) by (n + 1) (after_item v.tree v.clock f item false) items
         → Told v log by n f (item ∷ items)

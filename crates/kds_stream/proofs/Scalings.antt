@@ -16,17 +16,18 @@ use Rattle.kds_defs.specs.Histories.{answer_of, lines_of}
 use Rattle.kds_defs.specs.Journal.{Journal, Line, plain_line, with_lines}
 use Rattle.kds_defs.specs.Records.{next_number}
 use Rattle.kds_base.specs.Span.{uniform_from}
+use Rattle.kds_base.proofs.Facts.{neither_left, all_append}
 use Rattle.kds_defs.specs.Scaling.{apart, is_start, scale, starts_of, uniform_starts, with_start}
 use Rattle.kds_defs.specs.ScaleCommands.{made_by, starts_among, step_entry, step_lines, steps_to}
 use Rattle.kds_defs.specs.Shards.{ShardState, is_open, shards}
 use Rattle.kds_defs.specs.StreamCommands.{last_number}
+use Rattle.kds_defs.proofs.Counted.{length_split, length_merged}
 use Rattle.kds_log.specs.Log.{LogValue}
 use Rattle.kds_rate.specs.Windows.{WindowValue}
-use Rattle.kds_stream_logs.proofs.LogLemmas.{all-append}
 use Rattle.kds_stream.proofs.LogLemmas.{arrived_later, below_higher}
 use Rattle.kds_stream.proofs.Puts.{ends_later}
 use Rattle.kds_stream.proofs.Rates.{rated_more}
-use Rattle.kds_stream.proofs.Resharded.{ends_merged, ends_split, length-merged, length-split, shows_merged, shows_split}
+use Rattle.kds_stream.proofs.Resharded.{ends_merged, ends_split, shows_merged, shows_split}
 use Rattle.kds_stream_logs.specs.Rating.{IsUnused}
 use Rattle.kds_stream.specs.Rating.{AreRated}
 use Rattle.kds_stream.specs.Showing.{Shows, merge_line, split_line}
@@ -39,8 +40,8 @@ use Rattle.kds_stream.specs.Value.{EndsUnder, IsStream, StreamValue}
 
 pub length_scaled : (steps : List ScaleStep) (n c : ℕ) (xs : List ShardState) → length (scaled steps n c xs) ≡ length xs + made_by steps
 length_scaled [] n c xs = omega arith
-length_scaled (Join b ∷ steps) n c xs = omega (arith, length_scaled steps (n + 1) c (stepped (Join b) n c xs), length-merged (home_in xs (b - 1)) (home_in xs b) (n + 1) (record { number = n; clock = c }) xs)
-length_scaled (Cut b ∷ steps) n c xs = omega (arith, length_scaled steps (n + 1) c (stepped (Cut b) n c xs), length-split (home_in xs b) b (n + 1) (record { number = n; clock = c }) xs)
+length_scaled (Join b ∷ steps) n c xs = omega (arith, length_scaled steps (n + 1) c (stepped (Join b) n c xs), length_merged (home_in xs (b - 1)) (home_in xs b) (n + 1) (record { number = n; clock = c }) xs)
+length_scaled (Cut b ∷ steps) n c xs = omega (arith, length_scaled steps (n + 1) c (stepped (Cut b) n c xs), length_split (home_in xs b) b (n + 1) (record { number = n; clock = c }) xs)
 
 ends_scaled : (steps : List ScaleStep) (n c next : ℕ) (xs : List ShardState) → n + length steps ≤ next → AllByRecursion (EndsUnder next) xs → AllByRecursion (EndsUnder next) (scaled steps n c xs)
 ends_scaled [] n c next xs le h = h
@@ -64,9 +65,9 @@ stream_scaled v steps tree logs windows ws next tree_is few drawn fits logs_are 
       as_many = ap length logs_are ∙ omega (arith, length-append v.logs new, as_long, is.as_many, grown);
       few = few;
       lasting = is.lasting;
-      numbers = subst (AllByRecursion (IsBelow next)) (sym logs_are) (all-append (IsBelow next) v.logs new (below_higher v.next next v.logs (omega (arith, drawn)) is.numbers) (all_replicate (IsBelow next) (made_by steps) empty_log tt));
+      numbers = subst (AllByRecursion (IsBelow next)) (sym logs_are) (all_append (IsBelow next) v.logs new (below_higher v.next next v.logs (omega (arith, drawn)) is.numbers) (all_replicate (IsBelow next) (made_by steps) empty_log tt));
       endings = subst (AllByRecursion (EndsUnder next)) (sym tree_is) (ends_scaled steps v.next v.clock next v.tree (omega (arith, drawn)) (ends_later v.next next v.tree (omega (arith, drawn)) is.endings));
-      arrivals = subst (AllByRecursion (HasArrived v.clock)) (sym logs_are) (all-append (HasArrived v.clock) v.logs new (arrived_later v.clock_before v.clock v.logs is.order is.arrivals) (all_replicate (HasArrived v.clock) (made_by steps) empty_log tt));
+      arrivals = subst (AllByRecursion (HasArrived v.clock)) (sym logs_are) (all_append (HasArrived v.clock) v.logs new (arrived_later v.clock_before v.clock v.logs is.order is.arrivals) (all_replicate (HasArrived v.clock) (made_by steps) empty_log tt));
       order = omega arith;
       trims = is.trims;
       trims_before = is.trims;
@@ -116,7 +117,7 @@ scales_so (Join b ∷ steps) v log by (w ∷ ws) unused many as_many as_wide sho
     let line : Line = merge_line log v.clock by v.no sh other in
     let after : StreamValue = record v { tree = tree; logs = v.logs ++ (empty_log ∷ []); windows = v.windows ++ (w ∷ []); next = v.next + 1; clock_before = v.clock; cut_before = v.cut } in
     let same : plain_line v.clock by (step_entry log v.no (Join b)) ≡ line = ap (λ xs. merge_line log v.clock by v.no (home_in xs (b - 1)) (home_in xs b)) show.shards_are in
-    let grown = length-merged sh other (v.next + 1) (record { number = v.next; clock = v.clock }) v.tree in
+    let grown = length_merged sh other (v.next + 1) (record { number = v.next; clock = v.clock }) v.tree in
     let rest : ScalesSo after (line ∷ log) by steps ws = scales_so steps after (line ∷ log) by ws unused.1 (omega (arith, many)) (omega (arith, length-append v.logs (empty_log ∷ []), as_many, grown)) (omega (arith, length-append v.windows (w ∷ []), as_wide, grown))
     (shows_merged v log by show as_many as_wide sh other (v.next + 1) tree (v.logs ++ (empty_log ∷ [])) (v.windows ++ (w ∷ [])) (w ∷ []) refl refl refl refl (unused.0, tt)) in
     let one : 1 + made_by steps ≡ suc (made_by steps) = omega arith in
@@ -142,7 +143,7 @@ scales_so (Cut b ∷ steps) v log by (w ∷ u ∷ ws) unused many as_many as_wid
     let both : List LogValue = empty_log ∷ empty_log ∷ [] in
     let after : StreamValue = record v { tree = tree; logs = v.logs ++ (empty_log ∷ empty_log ∷ []); windows = v.windows ++ (w ∷ u ∷ []); next = v.next + 1; clock_before = v.clock; cut_before = v.cut } in
     let same : plain_line v.clock by (step_entry log v.no (Cut b)) ≡ line = ap (λ xs. split_line log v.clock by v.no (home_in xs b) b) show.shards_are in
-    let grown = length-split sh b (v.next + 1) (record { number = v.next; clock = v.clock }) v.tree in
+    let grown = length_split sh b (v.next + 1) (record { number = v.next; clock = v.clock }) v.tree in
     let rest : ScalesSo after (line ∷ log) by steps ws = scales_so steps after (line ∷ log) by ws unused.1.1 (omega (arith, many)) (omega (arith, length-append v.logs both, as_many, grown)) (omega (arith, length-append v.windows (w ∷ u ∷ []), as_wide, grown))
     (shows_split v log by show as_many as_wide sh b (v.next + 1) tree (v.logs ++ (empty_log ∷ empty_log ∷ [])) (v.windows ++ (w ∷ u ∷ [])) (w ∷ u ∷ []) refl refl refl refl (unused.0, (unused.1.0, tt))) in
     let two : 2 + made_by steps ≡ suc (suc (made_by steps)) = omega arith in
@@ -258,10 +259,6 @@ spent_so next a k l m tree steps at ak al am =
     ∙ ap (λ n. nat_lt last_number (next + n) || nat_lt last_number (l + m)) ak
     ∙ ap (λ n. nat_lt last_number (next + length steps) || nat_lt last_number (n + m)) al
     ∙ ap (λ n. nat_lt last_number (next + length steps) || nat_lt last_number (length tree + n)) am
-
-neither_left : (a b : Bool) → (a || b) ≡ false → a ≡ false
-neither_left true b h = absurd cc
-neither_left false b h = refl
 
 not_past : (n : ℕ) → nat_lt last_number n ≡ false → n < 2 ^ 64
 not_past n h = grind (arith, nat_tests)

@@ -1,21 +1,13 @@
 -- The logs of a stream's shards: one record more, and the trim.
 use Rattle.std.proofs.Common.{◌≡◌, ℕ, zero, suc, ◌<◌, ◌≤◌, Bool, true, false, List, [], ◌∷◌, ◌++◌, length, get_or, map, Option, Some, None, refl, sym, ap, subst, ◌∙◌, arith}
 use Rattle.std.specs.Prelude.{cond, not, nat_le, nat_lt, ◌&&◌, slice_set, IfSome}
-use Rattle.std.specs.List.{AllByRecursion, filter}
+use Rattle.std.specs.List.{AllByRecursion}
 use Rattle.std.proofs.lemmas.Bool.Decides.{nat_tests}
 use Rattle.kds_defs.specs.Records.{Logged, is_left, left_among}
 use Rattle.kds_log.specs.Log.{LogValue, LogWithRoom, log_of}
 use Rattle.kds_stream_logs.specs.Logs.{IsUnder, settled_at, settled_log, with_appended}
 
 -- ---- facts of each
-
-pub all_weaker : {A : Type 0} (P Q : A → Type 0) → ((x : A) → P x → Q x) → (xs : List A) → AllByRecursion P xs → AllByRecursion Q xs
-all_weaker P Q f [] h = tt
-all_weaker P Q f (x ∷ xs) h = (f x h.0, all_weaker P Q f xs h.1)
-
-pub all-append : {A : Type 0} (P : A → Type 0) (xs ys : List A) → AllByRecursion P xs → AllByRecursion P ys → AllByRecursion P (xs ++ ys)
-all-append P [] ys h g = g
-all-append P (x ∷ xs) ys h g = (h.0, all-append P xs ys h.1 g)
 
 pub all_at : {A : Type 0} (P : A → Type 0) (xs : List A) (i : ℕ) (x : A) → i < length xs → x ≡ get_or xs i x → AllByRecursion P xs → P x
 all_at P [] i x below is h = absurd (omega arith)
@@ -89,11 +81,3 @@ pub settled_set : (ls : List LogWithRoom) (i floor : ℕ) (d l : LogWithRoom) �
 settled_set [] i floor d l below is = absurd (omega arith)
 settled_set (x ∷ ls) zero floor d l below is = ap (λ (y : LogValue). y ∷ map log_of ls) is
 settled_set (x ∷ ls) (suc i) floor d l below is = ap (λ (ys : List LogValue). log_of x ∷ ys) (settled_set ls i floor d l (omega arith) is)
-
-all_choice : {A : Type 0} (P : A → Type 0) (b : Bool) (x : A) (xs : List A) → P x → AllByRecursion P xs → AllByRecursion P (cond b (x ∷ xs) xs)
-all_choice P true x xs h g = (h, g)
-all_choice P false x xs h g = g
-
-pub all-filter : {A : Type 0} (P : A → Type 0) (p : A → Bool) (xs : List A) → AllByRecursion P xs → AllByRecursion P (filter p xs)
-all-filter P p [] h = tt
-all-filter P p (x ∷ xs) h = all_choice P (p x) x (filter p xs) h.0 (all-filter P p xs h.1)

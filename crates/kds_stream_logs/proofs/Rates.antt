@@ -1,8 +1,9 @@
 -- The windows of the shards of a stream: one put more.
-use Rattle.std.proofs.Common.{◌≡◌, ℕ, zero, suc, ◌+◌, ◌<◌, ◌≤◌, true, false, List, [], ◌∷◌, length, get_or, sym, ap, subst, ◌∙◌, arith}
+use Rattle.std.proofs.Common.{◌≡◌, ℕ, zero, suc, ◌+◌, ◌<◌, ◌≤◌, false, List, [], ◌∷◌, length, get_or, sym, ap, subst, ◌∙◌, arith}
 use Rattle.std.specs.Prelude.{◌==◌, if◌then◌else◌, slice_set}
 use Rattle.std.specs.List.{AllByRecursion}
 use Rattle.std.proofs.lemmas.Bool.Decides.{nat_tests}
+use Rattle.kds_base.proofs.Facts.{is_equal}
 use Rattle.kds_defs.specs.Rates.{SizedPut}
 use Rattle.kds_rate.specs.Windows.{StandsFor, WindowValue}
 use Rattle.kds_stream_logs.specs.Rating.{IsCounted, StandFor, with_put}
@@ -30,14 +31,11 @@ stand_along f g n (w ∷ ws) same h = (subst (StandsFor w) (same n (omega arith)
 
 -- ---- one put more
 
-same_number : (n m : ℕ) → n ≡ m → (n == m) ≡ true
-same_number n m h = grind (arith, nat_tests, h)
-
 other_number : (n m : ℕ) → n < m → (n == m) ≡ false
 other_number n m h = grind (arith, nat_tests, h)
 
 pub put_here : (sh n : ℕ) (p : SizedPut) (f : ℕ → List SizedPut) → sh ≡ n → p ∷ f n ≡ with_put sh p f n
-put_here sh n p f is = ap (λ b. if b then p ∷ f n else f n) (sym (same_number sh n is))
+put_here sh n p f is = ap (λ b. if b then p ∷ f n else f n) (sym (is_equal sh n is))
 
 pub put_elsewhere : (sh n : ℕ) (p : SizedPut) (f : ℕ → List SizedPut) → (sh == n) ≡ false → f n ≡ with_put sh p f n
 put_elsewhere sh n p f is = ap (λ b. if b then p ∷ f n else f n) (sym is)

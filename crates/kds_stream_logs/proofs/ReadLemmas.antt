@@ -1,14 +1,14 @@
 -- What is read of a shard: the last of a batch, and the first that arrived since a moment.
-use Rattle.std.proofs.Common.{◌≡◌, ℕ, zero, suc, ◌+◌, ◌-◌, ◌<◌, Bool, true, false, List, [], ◌∷◌, length, map, Option, Some, None, refl, sym, ap, ◌∙◌, arith}
+use Rattle.std.proofs.Common.{◌≡◌, ℕ, zero, suc, ◌-◌, ◌<◌, Bool, true, false, List, [], ◌∷◌, length, map, Option, Some, None, sym, ap, ◌∙◌, arith}
 use Rattle.std.specs.Prelude.{cond, slice_get, nat_le, if◌then◌else◌}
 use Rattle.std.specs.List.{AllByRecursion}
+use Rattle.kds_base.proofs.Facts.{all_weaker, all_filter}
 use Rattle.kds_defs.specs.declared.reply.Shard.{Shard}
 use Rattle.kds_defs.specs.declared.reply.Stored.{Stored}
 use Rattle.kds_defs.specs.declared.limits.TheConstants.{BATCH_BYTES}
 use Rattle.kds_defs.specs.Listings.{last_no}
-use Rattle.kds_defs.specs.Records.{Logged, beginning, first_at, is_left, numbers_of, stored}
+use Rattle.kds_defs.specs.Records.{Logged, beginning, first_at, is_left, stored}
 use Rattle.kds_log.specs.Log.{IsOrderly, IsUpTo, LogValue, first_number, since}
-use Rattle.kds_stream_logs.proofs.LogLemmas.{all-filter, all_weaker}
 use Rattle.kds_stream_logs.specs.Reading.{batch_among}
 use Rattle.kds_stream_logs.specs.Logs.{IsBelow, IsUnder}
 
@@ -23,10 +23,6 @@ last_shard (x ∷ []) shard is = let e : x ≡ shard = cc in ap (λ (s : Shard).
 last_shard (x ∷ y ∷ shards) shard is = last_shard (y ∷ shards) shard (ap (slice_get (x ∷ y ∷ shards)) (sym (one_less (length shards))) ∙ is)
 
 -- ---- the numbers of a batch
-
-pub numbers_stored : (rs : List Logged) → map (λ (r : Stored). r.seq) (map stored rs) ≡ numbers_of rs
-numbers_stored [] = refl
-numbers_stored (r ∷ rs) = ap (λ ns. r.seq ∷ ns) (numbers_stored rs)
 
 all_beginning : (P : Logged → Type 0) (limit room : ℕ) (rs : List Logged) → AllByRecursion P rs → AllByRecursion P (beginning limit room rs)
 all_beginning P zero room rs h = tt
@@ -48,7 +44,7 @@ up_to_below n (Some m) r under up = omega arith
 pub batch_below : (n floor position limit : ℕ) (l : LogValue) → IsBelow n l → IsOrderly l → AllByRecursion (λ (r : Stored). r.seq < n) (map stored (batch_among floor position limit l.kept))
 batch_below n floor position limit l below orderly =
     let kept = all_weaker (IsUpTo l.last) (λ (r : Logged). r.seq < n) (λ r up. up_to_below n l.last r below up) l.kept orderly.numbers in
-    all_stored n _ (all_beginning (λ (r : Logged). r.seq < n) limit BATCH_BYTES _ (all-filter (λ (r : Logged). r.seq < n) (is_left floor position) l.kept kept))
+    all_stored n _ (all_beginning (λ (r : Logged). r.seq < n) limit BATCH_BYTES _ (all_filter (λ (r : Logged). r.seq < n) (is_left floor position) l.kept kept))
 
 -- ---- the first that arrived at or after a moment
 

@@ -2,18 +2,17 @@
 use Rattle.std.proofs.Common.{◌≡◌, ◌≢◌, ℕ, zero, suc, ◌+◌, ◌^◌, ◌<◌, ◌≤◌, Bool, true, false, List, [], ◌∷◌, ◌++◌, length, get_or, take, map, Some, refl, sym, ap, subst, ◌∙◌, arith}
 use Rattle.std.specs.Prelude.{◌==◌, cond, slice_set, if◌then◌else◌}
 use Rattle.std.specs.List.{AllByRecursion, count_by, filter}
-use Rattle.std.proofs.lemmas.Bool.Decides.{nat_tests}
 use Rattle.std.proofs.lemmas.List.{append_assoc, append-nil, length-append}
 use Rattle.std.proofs.lemmas.List.Sums.{sum_by-cons, sum_by_more}
+use Rattle.kds_base.proofs.Facts.{all_weaker, all_append, is_equal, equal_so, differ_so, all_both}
 use Rattle.kds_defs.specs.declared.command.NewItem.{NewItem}
 use Rattle.kds_defs.specs.declared.reply.Place.{Place}
 use Rattle.kds_defs.specs.Rates.{SizedPut}
 use Rattle.kds_defs.specs.Records.{Logged, logged}
 use Rattle.kds_defs.specs.Shards.{ShardState, home_among, is_open}
 use Rattle.kds_log.specs.Log.{LogValue, LogWithRoom, log_of}
-use Rattle.kds_stream_logs.proofs.LogLemmas.{all-append, all_logs_at, all_weaker, appended_at, as_many_logs}
+use Rattle.kds_stream_logs.proofs.LogLemmas.{all_logs_at, appended_at, as_many_logs}
 use Rattle.kds_rate.specs.Windows.{WindowValue}
-use Rattle.kds_stream_logs.proofs.Numbers.{is_number}
 use Rattle.kds_stream_logs.proofs.Rates.{stand_along}
 use Rattle.kds_stream_logs.specs.declared.routes.Routed.{Routed}
 use Rattle.kds_stream_logs.specs.declared.routes.Routes.{Routes}
@@ -22,12 +21,6 @@ use Rattle.kds_stream_logs.specs.Routes.{AreInTurn, ArePlaced, AreRouted, CanTak
 use Rattle.kds_stream_logs.specs.Logs.{HasArrived, IsBelow, with_appended}
 
 -- ---- memory
-
-equal_so : (a b : ℕ) → (a == b) ≡ true → a ≡ b
-equal_so a b h = grind (arith, nat_tests)
-
-differ_so : (a b : ℕ) → (a == b) ≡ false → a ≢ b
-differ_so a b h e = absurd (grind (arith, nat_tests))
 
 room_other : (ls : List LogWithRoom) (i j : ℕ) (l : LogWithRoom) → i ≢ j → room_at (slice_set ls i l) j ≡ room_at ls j
 room_other [] i j l apart = refl
@@ -84,15 +77,11 @@ all_set P [] i l p h = tt
 all_set P (x ∷ ls) zero l p h = (p, h.1)
 all_set P (x ∷ ls) (suc i) l p h = (h.0, all_set P ls i l p h.1)
 
-pub all_two : {A : Type 0} (P Q R : A → Type 0) → ((x : A) → P x → Q x → R x) → (xs : List A) → AllByRecursion P xs → AllByRecursion Q xs → AllByRecursion R xs
-all_two P Q R f [] h g = tt
-all_two P Q R f (x ∷ xs) h g = (f x h.0 g.0, all_two P Q R f xs h.1 g.1)
-
 -- the log of the first one has memory
 pub room_left : (ls : List LogWithRoom) (i : ℕ) (r : Routed) (rs : List Routed) → i ≡ r.shard → CanTakeAll ls (r ∷ rs) → 1 ≤ room_at ls i
 room_left ls i r rs at can =
     let counted : cond (r.shard == i) 1 0 + count_by (is_routed_to i) rs ≤ room_at ls i = subst (λ n. n ≤ room_at ls i) (sum_by-cons (λ (q : Routed). cond (is_routed_to i q) 1 0) r rs) (can.room i) in
-    let had : cond true 1 0 + count_by (is_routed_to i) rs ≤ room_at ls i = subst (λ c. cond c 1 0 + count_by (is_routed_to i) rs ≤ room_at ls i) (is_number r.shard i (sym at)) counted in
+    let had : cond true 1 0 + count_by (is_routed_to i) rs ≤ room_at ls i = subst (λ c. cond c 1 0 + count_by (is_routed_to i) rs ≤ room_at ls i) (is_equal r.shard i (sym at)) counted in
     omega (arith, had)
 
 module _ (ls : List LogWithRoom) (i : ℕ) (d l : LogWithRoom) (r : Routed) (rs : List Routed) (at : i ≡ r.shard) (below : i < length ls) (used : l.room + 1 ≡ (get_or ls i d).room)
@@ -104,7 +93,7 @@ module _ (ls : List LogWithRoom) (i : ℕ) (d l : LogWithRoom) (r : Routed) (rs 
   arrival_more q sooner take =
       let earlier : r.item.arrival ≤ q.item.arrival = sooner.1 in
       subst (HasArrived q.item.arrival) (sym is)
-      (all-append (λ (x : Logged). x.arrival ≤ q.item.arrival) (get_or ls i d).kept (logged r.item ∷ []) (all_logs_at (HasArrived q.item.arrival) ls i d below take.arrival) (earlier, tt))
+      (all_append (λ (x : Logged). x.arrival ≤ q.item.arrival) (get_or ls i d).kept (logged r.item ∷ []) (all_logs_at (HasArrived q.item.arrival) ls i d below take.arrival) (earlier, tt))
 
   take_more : (q : Routed) → IsSooner r q → CanTake (map log_of ls) q → CanTake (map log_of (slice_set ls i l)) q
   take_more q sooner take = record {
@@ -128,7 +117,7 @@ module _ (ls : List LogWithRoom) (i : ℕ) (d l : LogWithRoom) (r : Routed) (rs 
 
   pub taken_one : CanTakeAll (slice_set ls i l) rs
   taken_one = record {
-    each = all_two (IsSooner r) (CanTake (map log_of ls)) (CanTake (map log_of (slice_set ls i l))) take_more rs can.in_turn.0 can.each.1;
+    each = all_both (IsSooner r) (CanTake (map log_of ls)) (CanTake (map log_of (slice_set ls i l))) take_more rs can.in_turn.0 can.each.1;
     room = λ sh. used_by sh (r.shard == sh) refl;
     in_turn = can.in_turn.1;
   }
@@ -230,7 +219,7 @@ placed_more xs c n sh r q item at more there number fits inside placed =
           ∙ sym (routed-append xs c n placed.items item);
       next_is = omega (arith, number, placed.next_is, many);
       fits = fits;
-      within = subst (AllByRecursion (IsWithin (length xs))) (sym more) (all-append (IsWithin (length xs)) r.routed.items (x ∷ []) placed.within (inside, tt));
+      within = subst (AllByRecursion (IsWithin (length xs))) (sym more) (all_append (IsWithin (length xs)) r.routed.items (x ∷ []) placed.within (inside, tt));
       places_are = there ∙ ap (λ ps. ps ++ place_of x ∷ []) placed.places_are ∙ sym (places-append r.routed.items x) ∙ ap (map place_of) (sym more);
     }
 

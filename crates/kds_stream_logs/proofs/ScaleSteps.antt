@@ -1,6 +1,7 @@
 -- A step of a scaling isn't refused, and what it makes of the shards.
 use Rattle.std.proofs.Common.{◌≡◌, ℕ, ◌+◌, ◌-◌, ◌<◌, Bool, true, false, List, Some, None, refl, ap, ◌∙◌}
 use Rattle.std.specs.Prelude.{Result, Ok, Err, IsOk, OnOk, not, is_some, ◌&&◌, if◌then◌else◌, slice_get}
+use Rattle.std.proofs.lemmas.Bool.{and_from}
 use Rattle.kds_base.specs.Span.{are_adjacent, is_inside}
 use Rattle.kds_defs.specs.declared.reply.Refusal.{Refusal}
 use Rattle.kds_defs.specs.declared.reply.Refusal.TheVariants as refusal
@@ -15,10 +16,6 @@ use Rattle.kds_tree.specs.Tree.{after_merge, after_split, merge_refusal, split_r
 pub ok_value : {A E : Type 0} (r : Result A E) (P : Type 0) → IsOk r → OnOk r P → P
 ok_value (Ok a) P ok p = p
 ok_value (Err e) P ok p = absurd cc
-
-both : (a b : Bool) → a ≡ true → b ≡ true → (a && b) ≡ true
-both true b ha hb = hb
-both false b ha hb = absurd cc
 
 no_refusal : (a b d : Bool) (r s t : Refusal) → a ≡ true → b ≡ true → d ≡ true → (if not a then Some r else if not b then Some s else if not d then Some t else None) ≡ None
 no_refusal true true true r s t ha hb hd = refl
@@ -36,8 +33,8 @@ module _ (xs : List ShardState) (b n c sh other : ℕ) (j : Joins xs b) (at : sh
   merges : merge_refusal xs sh other ≡ None
   merges =
       no_refusal (is_some (slice_get xs sh) && is_some (slice_get xs other)) (is_open_at (slice_get xs sh) && is_open_at (slice_get xs other)) (are_adjacent (range_of (slice_get xs sh)) (range_of (slice_get xs other))) refusal.NoShard refusal.ShardClosed refusal.NotAdjacent
-      (both _ _ (ap is_some low_at) (ap is_some high_at))
-      (both _ _ (ap is_open_at low_at ∙ j.low_home.is_open_now) (ap is_open_at high_at ∙ j.high_home.is_open_now))
+      (and_from _ _ (ap is_some low_at) (ap is_some high_at))
+      (and_from _ _ (ap is_open_at low_at ∙ j.low_home.is_open_now) (ap is_open_at high_at ∙ j.high_home.is_open_now))
       (ap (λ o. are_adjacent (range_of o) (range_of (slice_get xs other))) low_at ∙ ap (λ o. are_adjacent j.low.range (range_of o)) high_at ∙ joins_touch xs b j)
 
   pub join_value : (zs : List ShardState) → zs ≡ after_merge xs sh other n c → zs ≡ merged_shards (home_in xs (b - 1)) (home_in xs b) (record { number = n; clock = c }) (n + 1) xs

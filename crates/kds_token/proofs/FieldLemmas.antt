@@ -1,9 +1,9 @@
 -- A text and its fields.
 use Rattle.std.proofs.Common.{◌≡◌, ℕ, zero, suc, ◌+◌, ◌<◌, ◌^◌, List, length, [], ◌∷◌, ◌++◌, take, drop, Bool, true, false, Option, Some, None, refl, ap, ◌∙◌, arith, decimal, inl, inr, subst}
 use Rattle.std.proofs.lemmas.Grind.{common_steps}
-use Rattle.std.proofs.lemmas.Bool.{cases_Bool, eqb-true}
+use Rattle.std.proofs.lemmas.Bool.{cases_Bool, eqb-true, and_parts}
 use Rattle.std.proofs.lemmas.Fmt.{digits_decimal}
-use Rattle.std.specs.Prelude.{◌==◌, ◌&&◌, if◌then◌else◌, option_map, option_and_then, nat_lt}
+use Rattle.std.specs.Prelude.{◌==◌, if◌then◌else◌, option_map, option_and_then, nat_lt}
 use Rattle.std.specs.List.{list_all}
 use Rattle.std.specs.Char.{is_ascii_digit}
 use Rattle.kds_base.specs.NumberText.{number_of}
@@ -108,14 +108,9 @@ digit_no_colon b h = grind (arith, common_steps)
 digit_small : (b : ℕ) → is_ascii_digit b ≡ true → b < 256
 digit_small b h = grind (arith, common_steps)
 
-pub both : (a b : Bool) → (a && b) ≡ true → (a ≡ true) × (b ≡ true)
-both true true h = (refl, refl)
-both true false h = absurd (cc)
-both false b h = absurd (cc)
-
 digits_no_colon : (ds : List ℕ) → list_all is_ascii_digit ds ≡ true → HasNoColon ds
 digits_no_colon [] h = tt
-digits_no_colon (d ∷ ds) h = let p = both (is_ascii_digit d) (list_all is_ascii_digit ds) h in (digit_no_colon d p.0, digits_no_colon ds p.1)
+digits_no_colon (d ∷ ds) h = let p = and_parts (is_ascii_digit d) (list_all is_ascii_digit ds) h in (digit_no_colon d p.0, digits_no_colon ds p.1)
 
 pub decimal_no_colon : (n : ℕ) → n < 2 ^ 64 → HasNoColon (decimal n)
 decimal_no_colon n small = digits_no_colon (decimal n) (digits_decimal own n small)
@@ -127,7 +122,7 @@ AreSmall (b ∷ bs) = (b < 256) × AreSmall bs
 
 digits_small : (ds : List ℕ) → list_all is_ascii_digit ds ≡ true → AreSmall ds
 digits_small [] h = tt
-digits_small (d ∷ ds) h = let p = both (is_ascii_digit d) (list_all is_ascii_digit ds) h in (digit_small d p.0, digits_small ds p.1)
+digits_small (d ∷ ds) h = let p = and_parts (is_ascii_digit d) (list_all is_ascii_digit ds) h in (digit_small d p.0, digits_small ds p.1)
 
 pub decimal_small : (n : ℕ) → n < 2 ^ 64 → AreSmall (decimal n)
 decimal_small n small = digits_small (decimal n) (digits_decimal own n small)

@@ -11,6 +11,7 @@ use Rattle.base64.specs.GeneralPurpose.{IsBytes, decode_of, decoded_of, encode_o
 use Rattle.base64.proofs.EngineFacts.{decode_of-encode_of, decode_of_strict}
 use Rattle.kds_base.specs.NumberText.{number_of}
 use Rattle.kds_base.proofs.NumberLemmas.{decimal_of_number, number_of_decimal}
+use Rattle.kds_base.proofs.Facts.{same_some}
 use Rattle.kds_defs.specs.declared.reply.Iter.{Iter}
 use Rattle.kds_defs.specs.declared.reply.Page.{Page}
 use Rattle.kds_token.specs.Fields.{◌>>=◌, field, moment_of}
@@ -123,11 +124,8 @@ iter_reads_as text (Some i) bytes e =
 pub iter_exact : (text : List ℕ) → IsBytes text → ReadsAsIter text (iter_of text)
 iter_exact text bytes = iter_reads_as text (iter_of text) bytes refl
 
-some_same : {A : Type 0} (x y : A) → Some x ≡ Some y → x ≡ y
-some_same x y h = cc
-
 pub one_iter : (i j : Iter) → IsIter i → IsIter j → iter_token i ≡ iter_token j → i ≡ j
-one_iter i j is js e = some_same i j (sym (iter_reads (iter_token i) i is refl) ∙ iter_reads (iter_token i) j js e)
+one_iter i j is js e = same_some i j (sym (iter_reads (iter_token i) i is refl) ∙ iter_reads (iter_token i) j js e)
 
 -- ---- places in a listing
 
@@ -194,7 +192,7 @@ pub page_exact : (text : List ℕ) → IsBytes text → ReadsAsPage text (page_o
 page_exact text bytes = page_reads_as text (page_of text) bytes refl
 
 pub one_page : (p q : Page) → IsPage p → IsPage q → page_token p ≡ page_token q → p ≡ q
-one_page p q is js e = some_same p q (sym (page_reads (page_token p) p is refl) ∙ page_reads (page_token p) q js e)
+one_page p q is js e = same_some p q (sym (page_reads (page_token p) p is refl) ∙ page_reads (page_token p) q js e)
 
 -- ---- neither is the other
 
@@ -203,4 +201,4 @@ texts_apart a b h = let e : ◌≡◌ {A = ℕ} 73 84 = ap (λ (l : List ℕ). s
 
 pub tokens_apart : (i : Iter) (p : Page) → IsIter i → IsPage p → iter_token i ≢ page_token p
 tokens_apart i p is js e =
-    texts_apart _ _ (some_same (iter_text i) (page_text p) (sym (decoded_again (iter_text i) (iter_small i is)) ∙ ap (decoded_of standard) e ∙ decoded_again (page_text p) (page_small p js)))
+    texts_apart _ _ (same_some (iter_text i) (page_text p) (sym (decoded_again (iter_text i) (iter_small i is)) ∙ ap (decoded_of standard) e ∙ decoded_again (page_text p) (page_small p js)))

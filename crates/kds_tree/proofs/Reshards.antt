@@ -1,6 +1,6 @@
 -- Splits and merges over plain lists.
 use Rattle.std.proofs.Common.{◌≡◌, ℕ, zero, suc, ◌+◌, ◌-◌, ◌*◌, ◌/◌, ◌^◌, ◌<◌, ◌≤◌, Bool, true, false, List, [], ◌∷◌, ◌++◌, length, map, Option, Some, None, refl, sym, ap, subst, ◌∙◌, arith}
-use Rattle.std.specs.Prelude.{Result, Ok, Err, slice_get, slice_set, slice_index_or, not, is_some, ◌&&◌, if◌then◌else◌}
+use Rattle.std.specs.Prelude.{Result, Ok, Err, slice_get, slice_set, slice_index_or, not, is_some, if◌then◌else◌}
 use Rattle.std.proofs.lemmas.Option.{slice_get_within, get_or_from_slice_get}
 use Rattle.std.proofs.lemmas.List.{get_or_append_left, length-append}
 use Rattle.std.proofs.lemmas.Bool.Decides.{nat_tests}
@@ -14,6 +14,7 @@ use Rattle.kds_defs.proofs.Tiles.{tiled_split, tiled_merge, tiled_new}
 use Rattle.kds_base.specs.Span.{uniform}
 use Rattle.std.specs.List.{AllByRecursion, filter}
 use Rattle.std.specs.List.Sorted.{IsNonDecreasingBy, IsPermutation}
+use Rattle.std.proofs.lemmas.Bool.{and_parts}
 use Rattle.kds_tree.specs.Starts.{AreStarts, own_start, stays}
 use Rattle.kds_tree.specs.declared.start.Start.{Start}
 use Rattle.kds_tree.proofs.OpenStarts.{reshaped, closes_one, closes_two}
@@ -24,10 +25,6 @@ use Rattle.kds_tree.specs.Tree.{IsTree, IsWithinKeys, split_refusal, merge_refus
 passed : (b : Bool) (r : Refusal) (o : Option Refusal) → (if not b then Some r else o) ≡ None → (b ≡ true) × (o ≡ None)
 passed true r o h = (refl, h)
 passed false r o h = absurd cc
-
-both : (a b : Bool) → (a && b) ≡ true → (a ≡ true) × (b ≡ true)
-both true b h = (refl, h)
-both false b h = absurd cc
 
 there : (o : Option ShardState) → is_some o ≡ true → (x : ShardState) × (o ≡ Some x)
 there None h = absurd cc
@@ -66,8 +63,8 @@ can_merge xs sh other h =
     let a = passed _ _ _ h in
     let b = passed _ _ _ a.1 in
     let d = passed _ _ _ b.1 in
-    let somes = both _ _ a.0 in
-    let opens = both _ _ b.0 in
+    let somes = and_parts _ _ a.0 in
+    let opens = and_parts _ _ b.0 in
     let x = there (slice_get xs sh) somes.0 in
     let y = there (slice_get xs other) somes.1 in
     record {

@@ -3,52 +3,24 @@ use Rattle.std.proofs.Common.{◌≡◌, ℕ, zero, suc, ◌+◌, ◌^◌, ◌<�
 use Rattle.std.specs.Prelude.{cond, ◌==◌, ◌&&◌, ◌||◌, nat_lt}
 use Rattle.std.specs.List.{AllByRecursion, filter}
 use Rattle.std.proofs.lemmas.Bool.Decides.{nat_tests}
+use Rattle.std.proofs.lemmas.Bool.{false_from_ne_true}
 use Rattle.kds_base.specs.Span.{Span}
+use Rattle.kds_base.proofs.Facts.{equal_so}
 use Rattle.kds_defs.specs.Scaling.{AreStarts, RiseFrom, is_start, with_start}
 use Rattle.kds_defs.specs.ScaleCommands.{starts_among}
 use Rattle.kds_defs.specs.Shards.{ShardState, is_open}
 use Rattle.kds_defs.specs.Tiled.{one, count_if, open_times, IsOrdered}
+use Rattle.kds_defs.proofs.Members.{in_with_start}
+use Rattle.kds_defs.proofs.Rising.{rise_with, none_below}
 use Rattle.kds_tree.specs.Tree.{IsTree, IsWithinKeys}
 
 -- ---- keys
-
-pub same_key : (a b : ℕ) → (a == b) ≡ true → a ≡ b
-same_key a b h = grind (arith, nat_tests)
-
-pub key_itself : (a : ℕ) → (a == a) ≡ true
-key_itself a = grind (arith, nat_tests)
-
-pub is_key : (a b : ℕ) → a ≡ b → (a == b) ≡ true
-is_key a b h = grind (arith, nat_tests)
-
-pub apart_keys : (a b : ℕ) → (a ≡ b → ⊥) → (a == b) ≡ false
-apart_keys a b h = grind (arith, nat_tests)
-
-pub not_true : (b : Bool) → (b ≡ true → ⊥) → b ≡ false
-not_true true h = absurd (h refl)
-not_true false h = refl
 
 or_swap : (a b c : Bool) → (a || (b || c)) ≡ (b || (a || c))
 or_swap true true c = refl
 or_swap true false c = refl
 or_swap false true c = refl
 or_swap false false c = refl
-
-or_left : (a b : Bool) → a ≡ true → (a || b) ≡ true
-or_left true b h = refl
-or_left false b h = absurd cc
-
-or_right : (a b : Bool) → b ≡ true → (a || b) ≡ true
-or_right true b h = refl
-or_right false b h = h
-
-neither_left : (a b : Bool) → (a || b) ≡ false → a ≡ false
-neither_left true b h = h
-neither_left false b h = refl
-
-neither_right : (a b : Bool) → (a || b) ≡ false → b ≡ false
-neither_right true b h = absurd cc
-neither_right false b h = h
 
 -- ---- members of a list with one start more
 
@@ -57,36 +29,13 @@ in_place : (lt : Bool) (b x k : ℕ) (xs : List ℕ) → is_start (with_start b 
 in_place true b x k xs m = refl
 in_place false b x k xs m = ap (λ (r : Bool). (x == k) || r) m ∙ or_swap (x == k) (b == k) (is_start xs k)
 
-pub in_with_start : (b : ℕ) (xs : List ℕ) (k : ℕ) → is_start (with_start b xs) k ≡ ((b == k) || is_start xs k)
-in_with_start b [] k = refl
-in_with_start b (x ∷ xs) k = in_place (nat_lt b x) b x k xs (in_with_start b xs k)
-
 -- ---- rising lists
-
-pub lower : (n m : ℕ) (xs : List ℕ) → n ≤ m → RiseFrom m xs → RiseFrom n xs
-lower n m [] h r = tt
-lower n m (x ∷ xs) h r = let a : m ≤ x = r.0 in let b : n ≤ x = omega arith in (b, r.1)
 
 rise_placed : (lt same : Bool) (b n x : ℕ) (xs : List ℕ) → nat_lt b x ≡ lt → (x == b) ≡ same → same ≡ false → n ≤ b → n ≤ x → RiseFrom (x + 1) xs
     → (x + 1 ≤ b → RiseFrom (x + 1) (with_start b xs)) → RiseFrom n (cond lt (b ∷ x ∷ xs) (x ∷ with_start b xs))
 rise_placed true same b n x xs l s f h k r ih = let a : b + 1 ≤ x = grind (arith, nat_tests) in (h, (a, r))
 rise_placed false true b n x xs l s f h k r ih = absurd (cc)
 rise_placed false false b n x xs l s f h k r ih = let a : x + 1 ≤ b = grind (arith, nat_tests) in (k, ih a)
-
-pub rise_with : (b n : ℕ) (xs : List ℕ) → n ≤ b → RiseFrom n xs → is_start xs b ≡ false → RiseFrom n (with_start b xs)
-rise_with b n [] h r f = (h, tt)
-rise_with b n (x ∷ xs) h r f =
-    rise_placed (nat_lt b x) (x == b) b n x xs refl refl (neither_left (x == b) (is_start xs b) f) h r.0 r.1
-    (λ a. rise_with b (x + 1) xs a r.1 (neither_right (x == b) (is_start xs b) f))
-
--- a key below all of them is none of them
-none_below : (n : ℕ) (xs : List ℕ) (k : ℕ) → RiseFrom n xs → k < n → is_start xs k ≡ false
-none_below n [] k r h = refl
-none_below n (x ∷ xs) k r h =
-    let a : n ≤ x = r.0 in
-    let e : (x == k) ≡ false = apart_keys x k (λ (z : x ≡ k). omega arith) in
-    let b : k < x + 1 = omega arith in
-    rw e (none_below (x + 1) xs k r.1 b)
 
 -- ---- the starts of open shards
 
@@ -109,7 +58,7 @@ one_here r h = grind (arith, nat_tests)
 
 -- a key at which an open shard starts is contained
 counted_by : (b c : Bool) (x : ShardState) (k n : ℕ) → is_open x ≡ b → (x.range.start == k) ≡ c → x.range.start ≤ x.range.end → (b && c) ≡ true → 1 ≤ count_if b (one x.range k) + n
-counted_by true true x k n isb isc o h = let e : x.range.start ≡ k = same_key x.range.start k isc in let w : one x.range k ≡ 1 = ap (one x.range) (sym e) ∙ one_here x.range o in omega (arith, w)
+counted_by true true x k n isb isc o h = let e : x.range.start ≡ k = equal_so x.range.start k isc in let w : one x.range k ≡ 1 = ap (one x.range) (sym e) ∙ one_here x.range o in omega (arith, w)
 counted_by true false x k n isb isc o h = absurd cc
 counted_by false c x k n isb isc o h = absurd cc
 
@@ -137,7 +86,7 @@ open_rise [] once o w = tt
 open_rise (x ∷ xs) once o w =
     let low : x.range.start < 2 ^ 128 = omega (arith, o.0, w.0) in
     rise_open (is_open x) x xs
-    (λ open_now. not_true (begins_at xs x.range.start) (λ h. twice (is_open x) x (open_times xs x.range.start) open_now o.0 (once x.range.start low) (begins_counted xs x.range.start o.1 h)))
+    (λ open_now. false_from_ne_true (begins_at xs x.range.start) (λ h. twice (is_open x) x (open_times xs x.range.start) open_now o.0 (once x.range.start low) (begins_counted xs x.range.start o.1 h)))
     (open_rise xs (λ k below. let n : open_times (x ∷ xs) k ≤ 1 = once k below in omega (arith, n)) o.1 w.1)
 
 pub tree_rises : (xs : List ShardState) → IsTree xs → RiseFrom 0 (starts_among (filter is_open xs))

@@ -1,24 +1,17 @@
 -- A pass into which the passes with the numbers from one on were joined.
-use Rattle.std.proofs.Common.{◌≡◌, ℕ, ◌+◌, ◌<◌, ◌≤◌, Bool, cond, List, [], ◌∷◌, ◌++◌, sym, ap, ◌∙◌, subst, arith, eq-eqb, length, length-append}
+use Rattle.std.proofs.Common.{◌≡◌, ℕ, ◌+◌, ◌<◌, ◌≤◌, List, [], ◌∷◌, ◌++◌, sym, ap, ◌∙◌, subst, arith, length, length-append}
 use mathlib.Core.Logic.{dite}
 use native.Mathlib.Decide.{ℕ_discrete}
 use Rattle.std.specs.List.{All}
 use Rattle.std.proofs.lemmas.List.{get_or_append_left}
 use Rattle.atomic_table.specs.Seated.{TableId}
-use Rattle.kds_turn.specs.declared.view.Account.{Account}
 use Rattle.kds_turn.specs.Known.{has, times, account}
 use Rattle.kds_turn.specs.Passes.{Standing, accounts_of, HasAll}
+use Rattle.kds_turn.proofs.Turns.{has_one, times_append}
 
 -- it has all numbers from `least` to `last`
 abbrev pub HasFrom : ℕ → ℕ → Standing → Type 0
 HasFrom least last p = (n : ℕ) → least ≤ n → n ≤ last → 0 < times n (accounts_of p)
-
-has_one : (n : ℕ) (a : Account) → a.by ≡ n → has n a ≡ 1
-has_one n a e = ap (λ (b : Bool). cond b 1 0) (eq-eqb a.by n e)
-
-times_append : (n : ℕ) (xs ys : List Account) → times n (xs ++ ys) ≡ times n xs + times n ys
-times_append n [] ys = omega arith
-times_append n (x ∷ xs) ys = let e = times_append n xs ys in omega arith
 
 pub has_last : (last : ℕ) (p : Standing) → last ≡ p.by → HasFrom last last p
 has_last last p e = λ n a b. let one = has_one n (account p.by p.own) (omega (arith, e, a, b)) in omega (arith, one)

@@ -1,10 +1,10 @@
 use Rattle.std.proofs.Common.{rules, ◌≡◌, ◌+◌, ◌-◌, length, ap, ◌∙◌, true, false}
 use Rattle.std.specs.Prelude.{◌==◌}
+use Rattle.kds_base.proofs.Facts.{equal_so, differ_so}
 use Rattle.kcl_leases.specs.Conditions.{start_answer}
 use Rattle.kcl_leases.specs.Standing.{facing, leases}
 use Rattle.kcl_table.specs.Rows.{row_of}
 use Rattle.kcl_audit_streams.specs.Standing.{Shows}
-use Rattle.kcl_audit_streams.proofs.Changed.{differ_so, equal_so}
 use Rattle.kcl_audit_judge.proofs.LeaseLines.{taken_entry, taken_other, taken_refused}
 use Rattle.kcl_audit_judge.proofs.lease_entries.taken.Goals as goal
 

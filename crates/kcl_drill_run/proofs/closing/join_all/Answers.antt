@@ -3,8 +3,8 @@ use Rattle.std.specs.Prelude.{flat_map}
 use Rattle.std.specs.List.{AllByRecursion}
 use Rattle.std.specs.Vec.Iter.{into_iter_items}
 use Rattle.std.proofs.lemmas.List.{nil_from_length}
-use Rattle.kcl_live.proofs.Histories.{continues_all, continues_same}
 use Rattle.kds_turn.specs.Known.{Continues}
+use Rattle.kds_turn.proofs.Turns.{continues_same, continues_all}
 use Rattle.kcl_drill_run.specs.Running.{accounts_in}
 use Rattle.kcl_drill_run.proofs.Joined.{all_rest, joined_more}
 use Rattle.kcl_drill_run.proofs.closing.join_all.Goals as goal

@@ -1,5 +1,5 @@
 use Rattle.std.proofs.Common.{◌≡◌, ◌+◌, ◌*◌, length, refl, sym, ap, ◌∙◌, arith}
-use Rattle.kcl_live.proofs.Histories.{continues_all, continues_same}
+use Rattle.kds_turn.proofs.Turns.{continues_same, continues_all}
 use Rattle.kcl_live.proofs.Moments.{length_added, moments_added, none_moments}
 use Rattle.kcl_live.proofs.Rounds.{going_new, going_stopped}
 use Rattle.kcl_live.proofs.driver.drive.Goals as goal

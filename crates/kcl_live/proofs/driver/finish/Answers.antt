@@ -1,5 +1,5 @@
 use Rattle.std.proofs.Common.{◌+◌, ◌*◌, ◌<◌, ◌^◌, length, refl, sym, ap, ◌∙◌, arith}
-use Rattle.kcl_live.proofs.Histories.{continues_all, continues_same}
+use Rattle.kds_turn.proofs.Turns.{continues_same, continues_all}
 use Rattle.kcl_live.proofs.Moments.{length_added, moment_left, moments_added, most_may, next_at}
 use Rattle.kcl_live.proofs.Rounds.{finishing_called, finishing_failed, finishing_left}
 use Rattle.kcl_live.proofs.driver.finish.Goals as goal

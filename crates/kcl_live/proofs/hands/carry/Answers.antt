@@ -1,6 +1,6 @@
 use Rattle.std.proofs.Common.{◌∙◌}
+use Rattle.kds_turn.proofs.Turns.{continues_all}
 use Rattle.kcl_live.proofs.Handoffs.{goes_on}
-use Rattle.kcl_live.proofs.Histories.{continues_all}
 use Rattle.kcl_live.proofs.hands.carry.Goals as goal
 
 pub returns-in-Ok-Some-clause-seen : goal.returns-in-Ok-Some-clause-seen

@@ -1,6 +1,6 @@
 use Rattle.std.proofs.Common.{◌++◌}
+use Rattle.std.proofs.KnownBytes.{Consumes-trans}
 use Rattle.kds_session.specs.Standing.{traffic}
-use Rattle.kds_server.proofs.Ends.{consumes_more}
 use Rattle.kds_server.proofs.exchange.read.Goals as goal
 
 pub returns-in-Ok-feed-clause-ok : goal.returns-in-Ok-feed-clause-ok
@@ -9,7 +9,7 @@ returns-in-Ok-feed-clause-ok g c = λ held all start given told r.
     let bytes = rw (← c.split_at.ensures.front) at c.in-Ok.ensures.bytes.0 in record {
       fed = r.fed ++ piece;
       sent = r.sent;
-      taken = consumes_more all _ _ r.fed piece r.taken bytes;
+      taken = Consumes-trans all _ _ r.fed piece r.taken bytes;
       stands = c.in-Ok-feed.ensures.stands (traffic r.fed given told r.sent) r.stands;
       written = r.written;
     }

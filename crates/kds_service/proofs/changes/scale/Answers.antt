@@ -1,6 +1,7 @@
 use Rattle.std.proofs.Common.{◌≡◌, ◌+◌, length, true, false, sym, ap, refl, ◌∙◌}
 use Rattle.std.specs.Prelude.{nat_le}
 use Rattle.std.specs.List.{filter}
+use Rattle.kds_base.proofs.Facts.{same_some}
 use Rattle.indexmap.specs.IndexMap.{values}
 use Rattle.kds_defs.specs.declared.command.Command.TheVariants as command
 use Rattle.kds_defs.specs.declared.limits.TheConstants.{MOST_SHARDS, OPEN_SHARDS}
@@ -10,7 +11,7 @@ use Rattle.kds_defs.specs.Shards.{is_open}
 use Rattle.kds_defs.proofs.Decisions.{refused_if}
 use Rattle.kds_service.proofs.Entries.{kept_set, placed_set, values_set}
 use Rattle.kds_service.proofs.Leading.{nameless_leads, refused_leads, scale_in, stream_at_place, write_leads}
-use Rattle.kds_service.proofs.Lists.{at_get, same_some}
+use Rattle.kds_service.proofs.Lists.{at_get}
 use Rattle.kds_service.proofs.Lives.{scale_lines}
 use Rattle.kds_service.proofs.Readings.{beside_is, fits_beside, fits_not, has_name}
 use Rattle.kds_service.specs.Places.{open_beside}

@@ -2,12 +2,12 @@ use Rattle.std.proofs.Common.{◌≡◌, false, Option, Some, None, eq-eqb, refl
 use Rattle.std.specs.Prelude.{is_some}
 use Rattle.std.specs.List.{position_from}
 use Rattle.std.specs.Map.{keys_of, values_of}
+use Rattle.kds_base.proofs.Facts.{is_other}
 use Rattle.kds_defs.specs.Streams.{same_name}
 use Rattle.kds_defs.specs.StreamCommands.{last_number}
 use Rattle.indexmap.specs.IndexMap.{values}
 use Rattle.kds_service.proofs.Creating.{create_done, create_full, create_spent, create_there}
 use Rattle.kds_service.proofs.Entries.{insert_last, map_last, placed_push}
-use Rattle.kds_service.proofs.Lists.{unequal}
 use Rattle.kds_service.proofs.life.create.Goals as goal
 
 pub returns-then-is_some-clause-leads : goal.returns-then-is_some-clause-leads
@@ -39,7 +39,7 @@ returns-clause-leads c before =
     let pushed = c.in_ok-insert.ensures.entries ∙ insert_last same_name 0 es c.in_ok-key.key c.in_ok-stream.stream none in
     let of = c.in_ok-stream.ensures in
     create_done a.clock before a.made.now (values a.streams.now) a.name a.shards _ _ c.in_ok-stream.stream c.others.ensures.added absent (sym c.is_full.ensures ∙ c.if-is_full.false)
-    (unequal a.made.now last_number c.if-last.false) refl (ap values_of pushed ∙ map_last (λ e. e.1) es (c.in_ok-key.key, c.in_ok-stream.stream)) of.fields.0 of.fields.2 of.shows
+    (is_other a.made.now last_number c.if-last.false) refl (ap values_of pushed ∙ map_last (λ e. e.1) es (c.in_ok-key.key, c.in_ok-stream.stream)) of.fields.0 of.fields.2 of.shows
 
 pub returns-clause-placed : goal.returns-clause-placed
 returns-clause-placed c =

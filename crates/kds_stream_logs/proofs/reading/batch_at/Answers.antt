@@ -3,7 +3,8 @@ use Rattle.std.specs.List.{AllByRecursion}
 use Rattle.kds_defs.specs.Records.{place_after}
 use Rattle.kds_defs.specs.declared.reply.Stored.{Stored}
 use Rattle.kds_defs.specs.Streams.{floor_of}
-use Rattle.kds_stream_logs.proofs.ReadLemmas.{batch_below, numbers_stored}
+use Rattle.kds_defs.proofs.Counted.{numbers_stored}
+use Rattle.kds_stream_logs.proofs.ReadLemmas.{batch_below}
 use Rattle.kds_stream_logs.specs.Reading.{batch_among}
 use Rattle.kds_log.specs.Log.{log_of}
 use Rattle.kds_stream_logs.proofs.reading.batch_at.Goals as goal

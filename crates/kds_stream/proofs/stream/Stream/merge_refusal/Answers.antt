@@ -1,11 +1,12 @@
 use Rattle.std.proofs.Common.{◌≡◌, ◌≢◌, ◌∷◌, [], ◌^◌, ◌<◌, true, length, sym, subst, ◌∙◌, arith}
 use Rattle.std.specs.Prelude.{slice_get}
+use Rattle.std.proofs.lemmas.Bool.{and_left, and_right}
 use Rattle.kds_defs.specs.declared.reply.Refusal.TheVariants as refusal
 use Rattle.kds_defs.specs.declared.reply.Reply.TheVariants as reply
 use Rattle.kds_defs.specs.Decision.{Accepted, Refused}
 use Rattle.kds_defs.specs.StreamCommands.{last_number, merge}
 use Rattle.kds_defs.specs.Streams.{floor_of}
-use Rattle.kds_stream.proofs.Reshards.{merge_accepted, merge_refused, merge_spent, merge_unlisted, not_first, not_second}
+use Rattle.kds_stream.proofs.Reshards.{merge_accepted, merge_refused, merge_spent, merge_unlisted}
 use Rattle.kds_stream.specs.Showing.{Shows, merge_line}
 use Rattle.kds_stream.specs.Value.{StreamValue, is_listed_at}
 use Rattle.kds_stream.specs.contracts.stream.Stream.{the_view}
@@ -19,8 +20,8 @@ returns-then-not-is_listed-clause-decided c log by show =
     let second = is_listed_at (floor_of c.args.self.now.cut) (slice_get c.args.self.now.tree c.args.other) in
     merge_unlisted c.args.self.now log by show c.args.shard c.args.other
     (elim c.then-not-is_listed.branch [
-      | then-not-is_listed-via-then-not-is_listed w ↦ not_first first second (sym w.if-not-is_listed.ensures)
-      | then-not-is_listed-via-else-not-is_listed+then-not-is_listed-2 w ↦ not_second first second (sym w.if-not-is_listed-2.ensures)
+      | then-not-is_listed-via-then-not-is_listed w ↦ and_left first second (sym w.if-not-is_listed.ensures)
+      | then-not-is_listed-via-else-not-is_listed+then-not-is_listed-2 w ↦ and_right first second (sym w.if-not-is_listed-2.ensures)
     ])
 
 pub returns-in-Some-clause-decided : goal.returns-in-Some-clause-decided
