@@ -13,7 +13,7 @@ use Rattle.kds_defs.specs.Leases.{row, checkpoint_in}
 use Rattle.kds_defs.specs.Records.{Logged, records}
 use Rattle.kds_defs.specs.Shards.{ShardState, is_open, shards, listed_shards}
 use Rattle.kds_defs.specs.Streams.{stream_named}
-use Rattle.kds_json_members.specs.Ids.{shard_id}
+use Rattle.kds_token.specs.Ids.{shard_id}
 use Rattle.kcl_script_fields.specs.Answers.{checkpoint_text}
 use Rattle.kcl_drill.specs.Generated.{drill_name, generated}
 

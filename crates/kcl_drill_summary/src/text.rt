@@ -6,7 +6,7 @@ ghost use Rattle.kcl_drill_summary.specs.Counting.{AreFew};
 
 use crate::summing::ShardSum;
 use kds_base::{Checkpoint, Memory, Octets, write_u64, write_u128};
-use kds_json_members::shard_id;
+use kds_token::shard_id;
 use std::alloc::Global;
 
 /// Adds a checkpoint.

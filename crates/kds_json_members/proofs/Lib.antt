@@ -1,4 +1,3 @@
 pub mod Digests
-pub mod IdLemmas
 pub mod LawfulMembers
 pub mod MemberTexts

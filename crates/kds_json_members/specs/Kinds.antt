@@ -11,7 +11,7 @@ use Rattle.kds_base.specs.NumberText.{number_of}
 use Rattle.kds_defs.specs.declared.limits.TheConstants.{KEY_CHARACTERS, RECORD_BYTES}
 use Rattle.kds_defs.specs.declared.limits.TheConstants.{MOST_SECONDS}
 use Rattle.kds_json_members.specs.declared.problem.Fault.{Fault}
-use Rattle.kds_json_members.specs.Ids.{id_of}
+use Rattle.kds_token.specs.Ids.{id_of}
 use Rattle.kds_json_members.specs.Member.{member_of, optional_at}
 
 -- the name of a stream

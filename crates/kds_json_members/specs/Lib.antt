@@ -1,4 +1,3 @@
-pub mod Ids
 pub mod Reading
 pub mod Member
 pub mod Kinds

@@ -2,14 +2,12 @@
 //! (Kinesis API Reference, Request Parameters of each action, and Common Errors).
 #![tactic(auto)]
 
-mod ids;
 mod member;
 mod numbers;
 mod problem;
 mod texts;
 mod tokens;
 
-pub use ids::{one_id, shard_id};
 pub use member::{absent_member, has_member, required_member, stop_at, value_at};
 pub use numbers::{
     hash_member, id_member, moment_member, number_member, optional_id, optional_limit, record_hash,

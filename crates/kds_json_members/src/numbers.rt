@@ -5,12 +5,12 @@ ghost use Rattle.kds_json_members.specs.Reading.{Gives};
 ghost use Rattle.kds_json_members.specs.Member.{required_at, optional_at};
 ghost use Rattle.kds_json_members.specs.Kinds.{number_in, moment_in, hash_in, hash_at, sequence_in, id_in, some_id_in};
 
-use crate::ids::read_shard_id;
 use crate::member::{member, required_member, stop_at, value_at};
 use crate::problem::{FaultKind, Stop};
 use kds_base::{Moment, Octets, Seq, ShardNo, hash_of, read_u64, read_u128};
 use kds_defs::limits::MOST_SECONDS;
 use kds_json_value::Datum;
+use kds_token::read_shard_id;
 use std::alloc::Global;
 
 fn number_value(value: &Datum<'_>, low: u32, high: u32) -> Option<u32>

@@ -8,8 +8,8 @@ ghost use Rattle.kds_reply.specs.Shards.{sequence_data, shard_data, shards_data}
 
 use kds_base::{Memory, Range, Seq, ShardNo};
 use kds_defs::{Page, Shard};
-use kds_json_members::shard_id;
 use kds_reply_texts::listing_token;
+use kds_token::shard_id;
 use serde_json::{Map, Value, json, push, put};
 use std::alloc::Global;
 

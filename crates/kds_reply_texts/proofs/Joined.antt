@@ -9,7 +9,7 @@ use Rattle.kds_defs.specs.declared.reply.Outcome.{Outcome}
 use Rattle.kds_defs.specs.declared.reply.Place.{Place}
 use Rattle.kds_defs.specs.declared.reply.Shard.{Shard}
 use Rattle.kds_defs.specs.declared.reply.Stored.{Stored}
-use Rattle.kds_json_members.specs.Ids.{shard_id}
+use Rattle.kds_token.specs.Ids.{shard_id}
 use Rattle.kds_token.specs.Tokens.{iter_token}
 use Rattle.kds_base.specs.Span.{Span}
 use Rattle.kds_reply_texts.specs.Errors.{error_data}

@@ -7,7 +7,7 @@ use Rattle.kds_defs.specs.declared.reply.Outcome.{Outcome}
 use Rattle.kds_defs.specs.declared.reply.Outcome.TheVariants.{Stored, Throttled}
 use Rattle.kds_defs.specs.declared.reply.Place.{Place}
 use Rattle.kds_defs.specs.declared.reply.Refusal.TheVariants as refusal
-use Rattle.kds_json_members.specs.Ids.{shard_id}
+use Rattle.kds_token.specs.Ids.{shard_id}
 use Rattle.kds_token.specs.Tokens.{iter_token}
 use Rattle.kds_reply_texts.specs.Errors.{refusal_name, refusal_message}
 

@@ -4,7 +4,7 @@ use Rattle.json.specs.Token.{Token, string}
 use Rattle.json.specs.Tree.{json_tokens}
 use Rattle.serde_json.specs.Data.{Data}
 use Rattle.serde_json.specs.Written.{outline}
-use Rattle.kds_json_members.specs.Ids.{shard_id}
+use Rattle.kds_token.specs.Ids.{shard_id}
 
 -- the tokens of a value
 abbrev pub tokens_of : Data → List Token

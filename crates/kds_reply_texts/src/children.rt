@@ -8,7 +8,7 @@ use crate::writing::{begin_object, end_object, put_hash_key, put_name, put_text}
 use json::Writer;
 use kds_base::{Memory, Range, ShardNo};
 use kds_defs::Shard;
-use kds_json_members::shard_id;
+use kds_token::shard_id;
 
 /// Adds a range of hash keys (Kinesis API Reference, HashKeyRange).
 fn put_range(out: &mut Writer, range: &Range) -> Result<(), Memory>

@@ -11,7 +11,7 @@ use crate::writing::{
 use json::Writer;
 use kds_base::{Memory, Octets};
 use kds_defs::{Outcome, Place, Refusal};
-use kds_json_members::shard_id;
+use kds_token::shard_id;
 use std::alloc::Global;
 
 /// The most bytes of what became of a record, and of what stands around all of them.

@@ -1,7 +1,7 @@
 use Rattle.std.proofs.Common.{◌≡◌, ◌++◌, List, ap, ◌∙◌, rules}
 use Rattle.json.specs.Token.{Token}
 use Rattle.kds_defs.specs.Values.{ShardValue}
-use Rattle.kds_json_members.specs.Ids.{shard_id}
+use Rattle.kds_token.specs.Ids.{shard_id}
 use Rattle.kds_reply_texts.proofs.Joined.{more, child_tokens}
 use Rattle.kds_reply_texts.proofs.children.put_child.Goals as goal
 

@@ -1,6 +1,6 @@
 use Rattle.std.proofs.Common.{◌≡◌, ◌++◌, List, ap, ◌∙◌, rules}
 use Rattle.json.specs.Token.{Token}
-use Rattle.kds_json_members.specs.Ids.{shard_id}
+use Rattle.kds_token.specs.Ids.{shard_id}
 use Rattle.kds_reply_texts.proofs.Joined.{more, place_tokens}
 use Rattle.kds_reply_texts.proofs.places.put_place.Goals as goal
 

@@ -1,7 +1,7 @@
 //! The ids of shards, as they are printed and read, without memory.
 ghost use Rattle.std.specs.Prelude.{◌≡◌, ◌<◌, ◌≤◌, ◌-◌, ◌+◌, ◌++◌, ◌^◌, ℕ, List, Some, codes, length, replicate};
 ghost use Rattle.arrayvec.specs.ArrayString.{array_string_len};
-ghost use Rattle.kds_json_members.specs.Ids.{shard_id as id_text, id_of};
+ghost use Rattle.kds_token.specs.Ids.{shard_id as id_text, id_of};
 
 use arrayvec::ArrayString;
 use itoa::Buffer;

@@ -1,7 +1,7 @@
 use Rattle.std.proofs.Common.{◌≡◌, ◌≢◌, Some, None, sym, ap, ◌∙◌, refl, rules, arith}
-use Rattle.kds_json_members.specs.Ids.{shard_id, id_of}
-use Rattle.kds_json_members.proofs.IdLemmas.{id_reads, no_id}
-use Rattle.kds_json_members.proofs.ids.read_shard_id.Goals as goal
+use Rattle.kds_token.specs.Ids.{shard_id, id_of}
+use Rattle.kds_token.proofs.IdLemmas.{id_reads, no_id}
+use Rattle.kds_token.proofs.ids.read_shard_id.Goals as goal
 
 pub returns-then-eq : goal.returns-then-eq
 returns-then-eq c =

@@ -1,5 +1,5 @@
 use Rattle.std.proofs.Common.{◌≡◌, ◌++◌, ◌-◌, ◌≤◌, codes, replicate}
-use Rattle.kds_json_members.proofs.ids.before.Given as goal
+use Rattle.kds_token.proofs.ids.before.Given as goal
 
 abbrev pub decreases-loop-known : goal.decreases-loop-known
 decreases-loop-known l = 12 - l.known

@@ -1,6 +1,6 @@
 use Rattle.std.proofs.Common.{◌≡◌, ◌∙◌, drop, rules}
-use Rattle.kds_json_members.proofs.IdLemmas.{tail_read}
-use Rattle.kds_json_members.proofs.ids.number_of.Goals as goal
+use Rattle.kds_token.proofs.IdLemmas.{tail_read}
+use Rattle.kds_token.proofs.ids.number_of.Goals as goal
 
 pub returns : goal.returns
 returns c = λ n small e.

@@ -1,6 +1,6 @@
 use Rattle.std.proofs.Common.{ℕ, ◌≡◌, ◌∙◌, ap, ◌++◌, ◌-◌, codes, replicate, length, arith}
 use Rattle.std.proofs.lemmas.List.{length-replicate}
-use Rattle.kds_json_members.proofs.ids.before.Goals as goal
+use Rattle.kds_token.proofs.ids.before.Goals as goal
 
 pub returns-clause-bytes : goal.returns-clause-bytes
 returns-clause-bytes c =

@@ -10,7 +10,7 @@ use Rattle.std.proofs.lemmas.Fmt.{decimal_is_IsNumeral}
 use Rattle.std.proofs.lemmas.Str.Parse.{IsNumeralModel, numerals_by_value}
 use Rattle.std.proofs.lemmas.Slice.Eq.{bytes_eq-Decides}
 use Rattle.kds_base.specs.NumberText.{are_digits, digits_of}
-use Rattle.kds_json_members.specs.Ids.{twelve_digits, shard_id, if_id, id_of}
+use Rattle.kds_token.specs.Ids.{twelve_digits, shard_id, if_id, id_of}
 
 -- ---- the digits
 
