@@ -10,9 +10,6 @@ ghost use Rattle.kcl_audit.specs.Progress.{audit_of, over, sound};
 ghost use Rattle.kcl_audit.specs.Text.{IsJournal, counted};
 ghost use Rattle.kcl_audit_sound.specs.Bits.{HaveBits};
 
-use kcl_audit::complete;
-use kcl_laws::{shard_records, shown, step};
-
 /// Each line of a history's journal can be told by a text, and its whole text is that of a legal journal: an audit finds it
 /// sound, unless a line or the input is longer than the limits. The numbers of the turns have the bits of their types.
 pub fn sound_histories()
@@ -21,8 +18,8 @@ pub fn sound_histories()
     ensures sound { (h : List Turn) → IsHistory h → HaveBits h → audit_of (journal_text h) ≢ over
         → audit_of (journal_text h) ≡ sound (counted 0 (history_entries h)) }
 {
-    step();
-    shown();
-    shard_records();
-    complete();
+    kcl_laws::step();
+    kcl_laws::shown();
+    kcl_laws::shard_records();
+    kcl_audit::complete();
 }

@@ -14,7 +14,6 @@ ghost use Rattle.kcl_drill_summary.specs.Reading.{HasRead};
 use crate::asking::ask;
 use crate::summing::{ShardSum, sum_shards};
 use crate::text::text_of;
-use kcl_laws::{shard_records, step};
 use kds_base::{Memory, Moment, Octets};
 use kds_defs::{Answer, Command, Machine, Reply};
 use std::alloc::Global;
@@ -50,8 +49,8 @@ fn find_text<M: Machine>(
         → IfOk result (λ t. t ≡ summary_text (journal h) (max (clock h) at)) }
     ensures read { (h : List Asked) → HasRead (M.stands_for machine.old) by at h → HasRead (M.stands_for machine.new) by at h }
 {
-    step();
-    shard_records();
+    kcl_laws::step();
+    kcl_laws::shard_records();
     let answer = ask(machine, by, at, Command::Survey)?;
     let sums = sum_survey(alloc, machine, by, at, &answer)?;
     text_of(alloc, sums.as_slice())

@@ -11,7 +11,7 @@ ghost use Rattle.kds_turn.specs.Passes.{Standing};
 ghost use Rattle.kcl_live.specs.Hands.{Goes, HandWasCut, HasHandedOff, HasNothing, StoodStill};
 
 use kcl_consumer::{Maker, Processor};
-use kcl_hand::{Handover, Left, handed, service};
+use kcl_hand::{Handover, Left};
 use kcl_worker::Worker;
 use kds_base::{Memory, Moment, ShardRef};
 use kds_defs::Machine;
@@ -152,8 +152,8 @@ pub fn hand_over<M: Machine, P: Processor + Drop, F: Maker<P>, R: Wait>(
         None => Ok(None),
         Some((held, consumer)) => {
             let mut hand = Handover::new(held, consumer);
-            service();
-            handed();
+            kcl_hand::service();
+            kcl_hand::handed();
             match carry(rt, hall, pass, &mut hand, at) {
                 Ok(left) => Ok(Some((left, hand.into_processor()))),
                 Err(error) => Err(error),

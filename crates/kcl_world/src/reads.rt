@@ -13,7 +13,7 @@ use kcl_leases::reader;
 use kcl_table::Table;
 use kds_base::{Memory, TenureNo};
 use kds_defs::{Answer, Reply, place_after};
-use kds_service::{Service, lease_lines};
+use kds_service::Service;
 
 /// All listed shards, and all rows.
 pub fn survey(service: &Service, table: &Table) -> Result<Answer, Memory>
@@ -37,7 +37,7 @@ pub fn read(
     ensures leads { (rows : List Row) → IfOk result (Leads (world service.now rows book.old.tenures) (world service.now rows book.new.tenures) by (command.Read tenure position limit)) }
     ensures kept { OnErr result (book.new ≡ book.old) }
 {
-    lease_lines();
+    kds_service::lease_lines();
     let shards = ServiceShards { service };
     let own = match reader(&shards, book, by, tenure, position) {
         Ok(own) => own,

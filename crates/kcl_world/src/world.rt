@@ -6,7 +6,7 @@ use crate::answer::answer;
 use kcl_book::Book;
 use kcl_table::Table;
 use kds_base::{Memory, Moment};
-use kds_defs::{Answer, Machine, Turn, lease_answers, service_answers};
+use kds_defs::{Answer, Machine, Turn};
 use kds_service::Service;
 use std::alloc::Global;
 use std::marker::Model;
@@ -53,8 +53,8 @@ impl Machine for World {
     ghost stands_for = { StandsFor };
 
     fn apply(&mut self, turn: Turn) -> Result<Answer, Memory> {
-        service_answers();
-        lease_answers();
+        kds_defs::service_answers();
+        kds_defs::lease_answers();
         let clock = self.clock.later(turn.at);
         self.service.advance(clock);
         match answer(

@@ -15,7 +15,7 @@ ghost use Rattle.kds_server.specs.Steps.{ReadsOn, EndsThere, IsReadStop};
 
 use kds_ends::{Sink, Source, Status, write_all};
 use kds_session::limits::PIECE_BYTES;
-use kds_session::{Session, Standing, first_part, nothing_follows, whole_text};
+use kds_session::{Session, Standing};
 
 /// Writes what the session has to send.
 fn flush<K: Sink>(session: &mut Session, out: &mut K) -> Result<(), Status>
@@ -47,7 +47,7 @@ pub fn write_early<K: Sink>(session: &mut Session, out: &mut K) -> Result<(), St
     ensures write { IsErrOf result Status.Write → Rose (K.faults out.old) (K.faults out.new) }
     ensures kinds { IfErr result (λ s. s ≡ Status.Write) }
 {
-    first_part();
+    kds_session::first_part();
     if session.output().len() < PIECE_BYTES {
         return Ok(());
     }
@@ -128,9 +128,9 @@ pub fn exchange<S: Source, K: Sink>(
     ensures write { result ≡ Some Status.Write → Rose (K.faults out.old) (K.faults out.new) }
     ensures kinds { IfSome result IsAnswerStatus }
 {
-    first_part();
-    whole_text();
-    nothing_follows();
+    kds_session::first_part();
+    kds_session::whole_text();
+    kds_session::nothing_follows();
     match flush(session, out) {
         Ok(()) => {}
         Err(status) => return Some(status),

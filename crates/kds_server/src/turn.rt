@@ -14,7 +14,7 @@ use crate::turner::Turner;
 use kds_base::Memory;
 use kds_defs::Command;
 use kds_ends::Clock;
-use kds_session::{Session, first_part};
+use kds_session::Session;
 
 /// Makes the turn of a command that waits, at the moment that the clock gives for it, and adds the response to the
 /// output. After `Memory` the turn was made or it wasn't.
@@ -35,7 +35,7 @@ pub fn make_turn<T: Turner, C: Clock>(
     ensures free { OnOk result (session.new.waiting ≡ Nothing) }
     ensures as_much { OnOk result (to_come session.new ≡ to_come session.old) }
 {
-    first_part();
+    kds_session::first_part();
     let at = clock.now();
     match turner.turn(state, at, what) {
         Ok(answer) => match session.absorb(&answer) {

@@ -5,7 +5,7 @@ ghost use Rattle.kds_session.specs.Messages.{size};
 ghost use Rattle.kds_session.specs.Steps.{IsFront, IsKept, IsKnown};
 
 use kds_base::Memory;
-use kds_head::{Found, Head, found_within_limits, head, no_bytes_need_more};
+use kds_head::{Found, Head, head};
 use std::alloc::Global;
 
 /// What stands at the front of the unread bytes.
@@ -36,7 +36,7 @@ fn found_at(alloc: Global, unread: &[u8], kept: Option<Head>) -> Result<Found, M
     requires { IsKept unread.now kept }
     ensures { IfOk result (IsFound unread.now) }
 {
-    no_bytes_need_more();
+    kds_head::no_bytes_need_more();
     match kept {
         Some(kept) => Ok(Found::Whole(kept)),
         None => match unread {
@@ -52,7 +52,7 @@ pub fn front_of(alloc: Global, unread: &[u8], kept: Option<Head>) -> Result<Fron
     ensures front { IfOk result (IsFront unread.now) }
     ensures status { IfOk result IsKnown }
 {
-    found_within_limits();
+    kds_head::found_within_limits();
     match found_at(alloc, unread, kept)? {
         Found::Need => Ok(Front::Unfinished),
         Found::Refused(status) => Ok(Front::Refused(status)),

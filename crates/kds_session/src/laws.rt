@@ -4,16 +4,14 @@ ghost use Rattle.kds_head.specs.declared.numbers.TheConstants.{HEAD_BYTES, BODY_
 ghost use Rattle.kds_session.specs.declared.limits.TheConstants.{REQUESTS, PIECE_BYTES, UNREAD_BYTES};
 ghost use Rattle.kds_session.specs.Laws.{OneReading, WholeText, NothingFollows, FirstPart};
 
-use kds_head::{decided_stays, found_within_limits, no_bytes_need_more, one_finding};
-
 /// Bytes fall into messages in one way at most.
 pub fn one_reading()
     ensures { OneReading }
 {
-    one_finding();
-    decided_stays();
-    found_within_limits();
-    no_bytes_need_more();
+    kds_head::one_finding();
+    kds_head::decided_stays();
+    kds_head::found_within_limits();
+    kds_head::no_bytes_need_more();
 }
 
 /// Where `next` gave no command, the commands that were given and what was written are those of all bytes that were

@@ -15,7 +15,6 @@ use crate::rule::InOrder;
 use crate::steps::{Seat, append, deal, free, give_back, grab, look, merge, take, tell};
 use crate::view::View;
 use atomic_table::{Refused, Table};
-use kcl_laws::step;
 use kds_base::{Memory, Moment};
 use kds_defs::{Answer, Command, Machine, Turn};
 use std::alloc::Global;
@@ -112,7 +111,7 @@ impl<M: Machine> Hall<M> {
         ensures own { is_service what ≡ true → IfOk result (λ a. is_service_answer a ≡ true) }
         ensures leased { is_service what ≡ false → IfOk result (λ a. is_lease_answer a ≡ true) }
     {
-        step();
+        kcl_laws::step();
         let (by, shared) = (pass.by, &self.table.shared);
         grab(rt, shared, &self.sleepers, &mut pass.seat, by);
         if look(shared, &mut pass.seat) == u64::MAX {

@@ -1,6 +1,6 @@
 //! Lines as text: no run prints one.
 
-use kcl_script::{one_spelling, print_line, read_line};
+use kcl_script::{print_line, read_line};
 use kcl_script_fields::print_command;
 use kds_base::{Memory, Octets};
 use kds_defs::Command;
@@ -32,7 +32,7 @@ const LINES: [&str; 20] = [
 
 /// The text of the line that a text is.
 fn again(alloc: Global, text: &[u8]) -> Result<Option<Octets>, Memory> {
-    one_spelling();
+    kcl_script::one_spelling();
     match read_line(alloc, text)? {
         Some(line) => {
             let mut to = Octets::new(alloc);

@@ -1,6 +1,6 @@
 //! A scribe's lines as text.
 use kcl_journal::{EntryLine, print_entry};
-use kcl_sim_scribe::{Scribe, turn_by_turn};
+use kcl_sim_scribe::Scribe;
 use kds_base::{Items, Memory, Moment, Name, Octets};
 use kds_defs::{Answer, Command, Reply, Turn};
 use std::alloc::Global;
@@ -16,7 +16,7 @@ fn made(alloc: Global, name: Name) -> Result<Items<EntryLine>, Memory> {
 
 #[test]
 fn making(rt: HostRuntime) -> Result<(), Fail> {
-    turn_by_turn();
+    kcl_sim_scribe::turn_by_turn();
     let Some(name) = Name::read(rt.alloc(), b"s".as_slice())? else {
         assert!(rt; false);
         return Ok(());
