@@ -8,7 +8,7 @@ ghost use Rattle.kds_defs.specs.Listings.{are_none};
 ghost use Rattle.kds_defs.specs.StreamCommands.{last_number};
 ghost use Rattle.kcl_book.specs.Tenures.{HasGiven, begun, shown, tenure_at, with_read, with_tenure};
 
-use crate::kept::Kept;
+use crate::kept::KeptTenure;
 use crate::tenure::Tenure;
 use kds_base::{Checkpoint, Memory, ShardRef, TenureNo};
 use kds_defs::Refusal;
@@ -19,7 +19,7 @@ use std::marker::Model;
 /// order, and `spare`, for how many more there is memory.
 #[derive(Drop)]
 pub struct Book {
-    tenures: Vec<Kept>,
+    tenures: Vec<KeptTenure>,
 }
 
 impl Model for Book {
@@ -33,7 +33,7 @@ impl Model for Book {
 }
 
 /// The place of the tenure of a number, if there is one.
-fn place_of(tenures: &[Kept], no: TenureNo) -> Option<usize>
+fn place_of(tenures: &[KeptTenure], no: TenureNo) -> Option<usize>
     ensures none { IfNone result (tenure_at tenures.now no ≡ None) }
     ensures some { IfSome result (λ i. (i + 1 ≡ no) × (i < length tenures.now)) }
 {
@@ -80,7 +80,8 @@ impl Book {
         ensures number { result ≡ length self.old.tenures + 1 }
         ensures begun { self.new.tenures ≡ self.old.tenures ++ begun by key start ∷ [] }
     {
-        self.tenures.push_reserved(Kept::begin(by, key, start));
+        self.tenures
+            .push_reserved(KeptTenure::begin(by, key, start));
         TenureNo(self.tenures.len() as u64)
     }
 

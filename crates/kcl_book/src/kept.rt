@@ -17,7 +17,7 @@ const ROOM: usize = PENDING_READS as usize;
 
 /// A tenure, with the reads that aren't given, the oldest first.
 #[derive(Drop)]
-pub struct Kept {
+pub struct KeptTenure {
     by: u32,
     key: ShardRef,
     start: Checkpoint,
@@ -28,7 +28,7 @@ pub struct Kept {
     at_end: bool,
 }
 
-impl Model for Kept {
+impl Model for KeptTenure {
     ghost use Rattle.kcl_book.specs.Tenures.{TenureValue};
 
     ghost Value = { TenureValue };
@@ -47,14 +47,14 @@ fn place_of(start: &Checkpoint) -> u64
     }
 }
 
-impl Kept {
+impl KeptTenure {
     /// A tenure that begins.
-    pub fn begin(by: u32, key: ShardRef, start: Checkpoint) -> Kept
+    pub fn begin(by: u32, key: ShardRef, start: Checkpoint) -> KeptTenure
         requires { start ≢ At u64.MAX }
         ensures { result ≡ begun by key start }
     {
         let place = place_of(&start);
-        Kept {
+        KeptTenure {
             by,
             key,
             start,

@@ -12,8 +12,8 @@ use Rattle.kds_defs.specs.declared.reply.Stored.{Stored}
 use Rattle.kcl_defs.specs.Consumers.{Answered, Called, Filling, Giving, Losing, Opening, Past, after_answer, after_call, after_give, after_loss, after_read, call_at, calls_after, given_after, phase_after, with_call}
 use Rattle.kcl_defs.specs.Lives.{last_given}
 use Rattle.kcl_defs.proofs.GivenLemmas.{given_answered, given_called, given_lost}
-use Rattle.kcl_consumer.specs.declared.stage.Stage.{Stage}
-use Rattle.kcl_consumer.specs.declared.stage.Stage.TheVariants as stage
+use Rattle.kcl_consumer.specs.declared.stage.ConsumerStage.{ConsumerStage}
+use Rattle.kcl_consumer.specs.declared.stage.ConsumerStage.TheVariants as stage
 use Rattle.kcl_consumer.specs.Stages.{phase_of}
 use Rattle.kcl_consumer.specs.Standing.{HasCalled, IsAsBefore, Standing, StandsFor}
 
@@ -54,21 +54,21 @@ lost stands old new past made phase given processor s = record {
 
 -- ---- the answers to a Read and to a Give, by the fields
 
-abbrev fields : {P : Type 0} → Tenancy → Stage → ℕ → List Fetched → Option Target → Bool → Option ℕ → P → Standing P
+abbrev fields : {P : Type 0} → Tenancy → ConsumerStage → ℕ → List Fetched → Option Target → Bool → Option ℕ → P → Standing P
 fields made st reach ahead asked lost given processor = record { made = made; phase = phase_of st reach ahead asked lost; given = given; processor = processor }
 
 given_still : (answer : Result Reply Refusal) (reach : ℕ) (waiting : List Fetched) (last : Option ℕ) → last ≡ given_after answer (Filling reach waiting) last
 given_still (Ok reply) reach waiting last = refl
 given_still (Err r) reach waiting last = refl
 
-pub read_answered : {P : Type 0} (stands : P → List Call → Type 0) (answer : Result Reply Refusal) (made : Tenancy) (st st' : Stage) (reach reach' : ℕ) (ahead ahead' : List Fetched) (asked asked' : Option Target) (lost lost' : Bool) (given : Option ℕ) (p : P) (past : Past) → st ≡ stage.Filling → asked' ≡ None → lost' ≡ false → phase_of st' reach' ahead' None false ≡ after_read made.limit reach ahead answer → StandsFor stands (fields made st reach ahead asked lost given p) past → StandsFor stands (fields made st' reach' ahead' asked' lost' given p) (Answered answer ∷ past)
+pub read_answered : {P : Type 0} (stands : P → List Call → Type 0) (answer : Result Reply Refusal) (made : Tenancy) (st st' : ConsumerStage) (reach reach' : ℕ) (ahead ahead' : List Fetched) (asked asked' : Option Target) (lost lost' : Bool) (given : Option ℕ) (p : P) (past : Past) → st ≡ stage.Filling → asked' ≡ None → lost' ≡ false → phase_of st' reach' ahead' None false ≡ after_read made.limit reach ahead answer → StandsFor stands (fields made st reach ahead asked lost given p) past → StandsFor stands (fields made st' reach' ahead' asked' lost' given p) (Answered answer ∷ past)
 read_answered stands answer made st st' reach reach' ahead ahead' asked asked' lost lost' given p past is none not_lost phase s =
     answered stands answer (fields made st reach ahead asked lost given p) (fields made st' reach' ahead' asked' lost' given p) past refl
     (ap (λ a. phase_of st' reach' ahead' a lost') none ∙ ap (phase_of st' reach' ahead' None) not_lost ∙ phase
     ∙ sym (ap (λ x. after_answer made answer (phase_of x reach ahead asked lost)) is))
     (given_still answer reach ahead given ∙ sym (ap (λ x. given_after answer (phase_of x reach ahead asked lost) given) is)) refl s
 
-pub give_answered : {P : Type 0} (stands : P → List Call → Type 0) (answer : Result Reply Refusal) (made : Tenancy) (st st' : Stage) (reach : ℕ) (ahead ahead' : List Fetched) (asked asked' : Option Target) (lost lost' : Bool) (given given' : Option ℕ) (p : P) (past : Past) → st ≡ stage.Giving → asked' ≡ None → lost' ≡ false → phase_of st' reach ahead' None false ≡ after_give reach ahead asked lost answer → given' ≡ given_after answer (Giving reach ahead asked lost) given → StandsFor stands (fields made st reach ahead asked lost given p) past → StandsFor stands (fields made st' reach ahead' asked' lost' given' p) (Answered answer ∷ past)
+pub give_answered : {P : Type 0} (stands : P → List Call → Type 0) (answer : Result Reply Refusal) (made : Tenancy) (st st' : ConsumerStage) (reach : ℕ) (ahead ahead' : List Fetched) (asked asked' : Option Target) (lost lost' : Bool) (given given' : Option ℕ) (p : P) (past : Past) → st ≡ stage.Giving → asked' ≡ None → lost' ≡ false → phase_of st' reach ahead' None false ≡ after_give reach ahead asked lost answer → given' ≡ given_after answer (Giving reach ahead asked lost) given → StandsFor stands (fields made st reach ahead asked lost given p) past → StandsFor stands (fields made st' reach ahead' asked' lost' given' p) (Answered answer ∷ past)
 give_answered stands answer made st st' reach ahead ahead' asked asked' lost lost' given given' p past is none not_lost phase last s =
     answered stands answer (fields made st reach ahead asked lost given p) (fields made st' reach ahead' asked' lost' given' p) past refl
     (ap (λ a. phase_of st' reach ahead' a lost') none ∙ ap (phase_of st' reach ahead' None) not_lost ∙ phase

@@ -4,11 +4,11 @@ use Rattle.kds_defs.specs.declared.command.Target.{Target}
 use Rattle.kcl_defs.specs.declared.consumer.Fetched.{Fetched}
 use Rattle.kds_defs.specs.declared.limits.TheConstants.{PENDING_READS}
 use Rattle.kcl_defs.specs.Consumers.{Phase, Opening, Starting, Filling, Holding, Giving, Marking, Ending, MarkingEnd, Leaving, Over, was_handed}
-use Rattle.kcl_consumer.specs.declared.stage.Stage.{Stage}
-use Rattle.kcl_consumer.specs.declared.stage.Stage.TheVariants as stage
+use Rattle.kcl_consumer.specs.declared.stage.ConsumerStage.{ConsumerStage}
+use Rattle.kcl_consumer.specs.declared.stage.ConsumerStage.TheVariants as stage
 
 -- the phase by the fields
-abbrev pub phase_of : Stage → ℕ → List Fetched → Option Target → Bool → Phase
+abbrev pub phase_of : ConsumerStage → ℕ → List Fetched → Option Target → Bool → Phase
 phase_of stage.Opening reach waiting asked lost = Opening
 phase_of stage.Starting reach waiting asked lost = Starting
 phase_of stage.Filling reach waiting asked lost = Filling reach waiting
@@ -22,7 +22,7 @@ phase_of (stage.Over why) reach waiting asked lost = Over why
 
 -- nothing was read before reading begins, a batch that is to be read has room, and one that is held for the
 -- processor is there, and not empty
-abbrev pub IsKept : Stage → List Fetched → Type 0
+abbrev pub IsKept : ConsumerStage → List Fetched → Type 0
 IsKept stage.Opening waiting = waiting ≡ []
 IsKept stage.Starting waiting = waiting ≡ []
 IsKept stage.Filling waiting = length waiting < PENDING_READS

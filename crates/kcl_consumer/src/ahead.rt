@@ -5,7 +5,7 @@ ghost use Rattle.kcl_defs.specs.Consumers.{first_batch, front, is_filled, over_a
 ghost use Rattle.kcl_consumer.specs.Aheads.{IsTaken};
 ghost use Rattle.kcl_consumer.specs.Stages.{IsKept, phase_of};
 
-use crate::stage::Stage;
+use crate::stage::ConsumerStage;
 use circular_buffer::HeapCircularBuffer;
 use kcl_defs::Fetched;
 use kds_base::Memory;
@@ -94,7 +94,7 @@ impl Ahead {
     }
 
     /// The first batch is handed to the processor, unless it is empty; where there is none, reading goes on.
-    pub(crate) fn front(&self) -> Stage
+    pub(crate) fn front(&self) -> ConsumerStage
         ensures phase { (reach : ℕ) → phase_of result reach self.now None false ≡ front reach self.now }
         ensures going { (reach : ℕ) → over_at (front reach self.now) ≡ None }
         ensures kept { IsKept result self.now }
@@ -102,12 +102,12 @@ impl Ahead {
         match self.ring.front() {
             Some(f) => {
                 if f.batch.as_slice().is_empty() {
-                    Stage::Giving
+                    ConsumerStage::Giving
                 } else {
-                    Stage::Holding
+                    ConsumerStage::Holding
                 }
             }
-            None => Stage::Filling,
+            None => ConsumerStage::Filling,
         }
     }
 }

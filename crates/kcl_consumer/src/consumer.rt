@@ -15,7 +15,7 @@ ghost use Rattle.kcl_consumer.specs.Fetchings.{IsFetching};
 
 use crate::ahead::Ahead;
 use crate::processor::Processor;
-use crate::stage::Stage;
+use crate::stage::ConsumerStage;
 use kcl_defs::{Ask, Due, Fetched, Progress, Tenancy, Why};
 use kds_base::{Checkpoint, Memory, Seq, ShardRef, TenureNo};
 use kds_defs::{Answer, Command, Refusal, Reply, Stored, Target, let_go};
@@ -83,25 +83,30 @@ fn fetched_of(answer: Answer) -> Fetching
 }
 
 /// Where a consumer stands once the first batch is given, which ended the shard or not.
-fn stage_after_give(ahead: &Ahead, ended: bool, asked: Option<Target>, lost: bool) -> Stage
+fn stage_after_give(ahead: &Ahead, ended: bool, asked: Option<Target>, lost: bool) -> ConsumerStage
     ensures phase { (reach : ℕ) (f : Fetched) → f.ended ≡ ended → phase_of result reach ahead.now None false ≡ given reach (f ∷ ahead.now) asked lost }
     ensures going { (reach : ℕ) (f : Fetched) → f.ended ≡ ended → over_at (given reach (f ∷ ahead.now) asked lost) ≡ None }
     ensures kept { IsKept result ahead.now }
 {
     if lost {
-        Stage::Leaving(Why::Lost)
+        ConsumerStage::Leaving(Why::Lost)
     } else if ended {
-        Stage::Ending
+        ConsumerStage::Ending
     } else {
         match asked {
-            Some(to) => Stage::Marking(to),
+            Some(to) => ConsumerStage::Marking(to),
             None => ahead.front(),
         }
     }
 }
 
 /// Where a consumer stands after the answer to a Give, which takes the first batch out of the ring.
-fn after_giving(ahead: &mut Ahead, asked: Option<Target>, lost: bool, answer: &Answer) -> Stage
+fn after_giving(
+    ahead: &mut Ahead,
+    asked: Option<Target>,
+    lost: bool,
+    answer: &Answer,
+) -> ConsumerStage
     ensures phase { (reach : ℕ) → phase_of result reach ahead.new None false ≡ after_give reach ahead.old asked lost answer.now }
     ensures going { (reach : ℕ) → over_at (after_give reach ahead.old asked lost answer.now) ≡ None }
     ensures kept { IsKept result ahead.new }
@@ -109,9 +114,9 @@ fn after_giving(ahead: &mut Ahead, asked: Option<Target>, lost: bool, answer: &A
     match answer {
         Ok(_) => match ahead.give() {
             Some(ended) => stage_after_give(ahead, ended, asked, lost),
-            None => Stage::Leaving(Why::Lost),
+            None => ConsumerStage::Leaving(Why::Lost),
         },
-        Err(_) => Stage::Leaving(Why::Lost),
+        Err(_) => ConsumerStage::Leaving(Why::Lost),
     }
 }
 
@@ -129,54 +134,54 @@ fn last_after(ahead: &Ahead, given: Option<Seq>, answer: &Answer) -> Option<Seq>
 }
 
 /// Where a consumer stands after a mark that its processor asked for, and what is told of it.
-fn after_marking(ahead: &Ahead, answer: &Answer) -> (Stage, Progress)
+fn after_marking(ahead: &Ahead, answer: &Answer) -> (ConsumerStage, Progress)
     ensures phase { (reach : ℕ) → phase_of result.0 reach ahead.now None false ≡ after_mark reach ahead.now answer.now }
     ensures kept { IsKept result.0 ahead.now }
     ensures told { result.1 ≡ told_refusal answer.now }
 {
     match answer {
         Ok(_) => (ahead.front(), Progress::Going),
-        Err(Refusal::Lost(_)) => (Stage::Leaving(Why::Lost), Progress::Going),
-        Err(Refusal::Moved(_)) => (Stage::Leaving(Why::Lost), Progress::Going),
+        Err(Refusal::Lost(_)) => (ConsumerStage::Leaving(Why::Lost), Progress::Going),
+        Err(Refusal::Moved(_)) => (ConsumerStage::Leaving(Why::Lost), Progress::Going),
         Err(r) => (ahead.front(), Progress::Refused(*r)),
     }
 }
 
 /// Where a consumer stands after the answer to the opening of its shard, and what is told of it.
-fn after_opening(answer: &Answer) -> (Stage, Progress)
+fn after_opening(answer: &Answer) -> (ConsumerStage, Progress)
     ensures phase { (reach : ℕ) (waiting : List Fetched) (asked : Option Target) (lost : Bool) → phase_of result.0 reach waiting asked lost ≡ after_open answer.now }
     ensures kept { (waiting : List Fetched) → waiting ≡ [] → IsKept result.0 waiting }
     ensures told { result.1 ≡ told_over (over_at (after_open answer.now)) }
 {
     match answer {
-        Ok(_) => (Stage::Starting, Progress::Going),
-        Err(Refusal::ParentsOpen(_)) => (Stage::Opening, Progress::Going),
+        Ok(_) => (ConsumerStage::Starting, Progress::Going),
+        Err(Refusal::ParentsOpen(_)) => (ConsumerStage::Opening, Progress::Going),
         Err(_) => (
-            Stage::Over(Why::NeverOpened),
+            ConsumerStage::Over(Why::NeverOpened),
             Progress::Over(Why::NeverOpened),
         ),
     }
 }
 
 /// Where a consumer stands after the mark at its shard's end, and what is told of it.
-fn after_ending(answer: &Answer) -> (Stage, Progress)
+fn after_ending(answer: &Answer) -> (ConsumerStage, Progress)
     ensures phase { (reach : ℕ) (waiting : List Fetched) (asked : Option Target) (lost : Bool) → phase_of result.0 reach waiting asked lost ≡ after_end answer.now }
     ensures kept { (waiting : List Fetched) → IsKept result.0 waiting }
     ensures told { result.1 ≡ told_over (over_at (after_end answer.now)) }
 {
     match answer {
-        Ok(_) => (Stage::Over(Why::Ended), Progress::Over(Why::Ended)),
-        Err(_) => (Stage::Leaving(Why::Lost), Progress::Going),
+        Ok(_) => (ConsumerStage::Over(Why::Ended), Progress::Over(Why::Ended)),
+        Err(_) => (ConsumerStage::Leaving(Why::Lost), Progress::Going),
     }
 }
 
 /// What is told of a consumer that waits for no answer at this stage: this one isn't needed.
-fn told_over(stage: Stage, answer: Answer) -> Progress
+fn told_over(stage: ConsumerStage, answer: Answer) -> Progress
     ensures { (reach : ℕ) (waiting : List Fetched) (asked : Option Target) (lost : Bool) → result ≡ told_over (over_at (phase_of stage reach waiting asked lost)) }
 {
     let_go(answer);
     match stage {
-        Stage::Over(why) => Progress::Over(why),
+        ConsumerStage::Over(why) => Progress::Over(why),
         _ => Progress::Going,
     }
 }
@@ -191,7 +196,7 @@ fn forget(asked: &mut Option<Target>, lost: &mut bool)
 }
 
 /// Where a consumer stands after the answer to a Read, and its reach.
-fn after_reading(ahead: &mut Ahead, limit: u32, reach: u64, answer: Answer) -> (Stage, u64)
+fn after_reading(ahead: &mut Ahead, limit: u32, reach: u64, answer: Answer) -> (ConsumerStage, u64)
     requires { length ahead.old < PENDING_READS }
     ensures phase { phase_of result.0 result.1 ahead.new None false ≡ after_read limit reach ahead.old answer }
     ensures going { over_at (after_read limit reach ahead.old answer) ≡ None }
@@ -204,11 +209,11 @@ fn after_reading(ahead: &mut Ahead, limit: u32, reach: u64, answer: Answer) -> (
             if filled {
                 (ahead.front(), place)
             } else {
-                (Stage::Filling, place)
+                (ConsumerStage::Filling, place)
             }
         }
-        Fetching::Nothing => (Stage::Filling, reach),
-        Fetching::Left(why) => (Stage::Leaving(why), reach),
+        Fetching::Nothing => (ConsumerStage::Filling, reach),
+        Fetching::Left(why) => (ConsumerStage::Leaving(why), reach),
     }
 }
 
@@ -218,7 +223,7 @@ fn after_reading(ahead: &mut Ahead, limit: u32, reach: u64, answer: Answer) -> (
 #[derive(Drop)]
 pub struct Consumer<P> {
     made: Tenancy,
-    stage: Stage,
+    stage: ConsumerStage,
     reach: u64,
     ahead: Ahead,
     asked: Option<Target>,
@@ -266,7 +271,7 @@ impl<P: Processor> Consumer<P> {
                 start,
                 limit,
             },
-            stage: Stage::Opening,
+            stage: ConsumerStage::Opening,
             reach: 0,
             ahead,
             asked: None,
@@ -295,10 +300,10 @@ impl<P: Processor> Consumer<P> {
         ensures { result ≡ due_call self.now.phase }
     {
         match self.stage {
-            Stage::Starting => Some(Due::Initialize),
-            Stage::Holding => Some(Due::Process),
-            Stage::Ending => Some(Due::ShardEnded),
-            Stage::Leaving(_) => Some(Due::LeaseLost),
+            ConsumerStage::Starting => Some(Due::Initialize),
+            ConsumerStage::Holding => Some(Due::Process),
+            ConsumerStage::Ending => Some(Due::ShardEnded),
+            ConsumerStage::Leaving(_) => Some(Due::LeaseLost),
             _ => None,
         }
     }
@@ -308,7 +313,7 @@ impl<P: Processor> Consumer<P> {
         ensures { result ≡ over_at self.now.phase }
     {
         match self.stage {
-            Stage::Over(why) => Some(why),
+            ConsumerStage::Over(why) => Some(why),
             _ => None,
         }
     }
@@ -325,7 +330,7 @@ impl<P: Processor> Consumer<P> {
         ensures { result ≡ is_giving_phase self.now.phase }
     {
         match self.stage {
-            Stage::Giving => true,
+            ConsumerStage::Giving => true,
             _ => false,
         }
     }
@@ -335,9 +340,9 @@ impl<P: Processor> Consumer<P> {
         ensures { result ≡ is_marking_or_opening self.now.phase }
     {
         match self.stage {
-            Stage::Opening => true,
-            Stage::Marking(_) => true,
-            Stage::MarkingEnd => true,
+            ConsumerStage::Opening => true,
+            ConsumerStage::Marking(_) => true,
+            ConsumerStage::MarkingEnd => true,
             _ => false,
         }
     }
@@ -352,18 +357,18 @@ impl<P: Processor> Consumer<P> {
     {
         let tenure = self.made.tenure;
         match self.stage {
-            Stage::Filling => Command::Read {
+            ConsumerStage::Filling => Command::Read {
                 tenure,
                 position: self.reach,
                 limit: self.made.limit,
             },
-            Stage::Giving => Command::Give { tenure },
-            Stage::Marking(to) => Command::Mark {
+            ConsumerStage::Giving => Command::Give { tenure },
+            ConsumerStage::Marking(to) => Command::Mark {
                 tenure,
                 counter,
                 to,
             },
-            Stage::MarkingEnd => Command::Mark {
+            ConsumerStage::MarkingEnd => Command::Mark {
                 tenure,
                 counter,
                 to: Target::End,
@@ -383,25 +388,25 @@ impl<P: Processor> Consumer<P> {
         ensures still { OnErr result ((past : Past) → StandsFor P.stands_for self.old past → StandsFor P.stands_for self.new past) }
     {
         match self.stage {
-            Stage::Starting => {
+            ConsumerStage::Starting => {
                 self.processor.initialize(self.made.key, self.made.start)?;
                 self.reach = first_place(self.made.start);
-                self.stage = Stage::Filling;
+                self.stage = ConsumerStage::Filling;
             }
-            Stage::Holding => {
+            ConsumerStage::Holding => {
                 let batch = self.ahead.first_batch();
                 let asked = self.processor.process_records(batch)?;
                 self.asked = target_after(asked, batch);
                 self.lost = false;
-                self.stage = Stage::Giving;
+                self.stage = ConsumerStage::Giving;
             }
-            Stage::Ending => {
+            ConsumerStage::Ending => {
                 self.processor.shard_ended()?;
-                self.stage = Stage::MarkingEnd;
+                self.stage = ConsumerStage::MarkingEnd;
             }
-            Stage::Leaving(why) => {
+            ConsumerStage::Leaving(why) => {
                 self.processor.lease_lost()?;
-                self.stage = Stage::Over(why);
+                self.stage = ConsumerStage::Over(why);
             }
             _ => {}
         }
@@ -419,13 +424,13 @@ impl<P: Processor> Consumer<P> {
         ensures stands { (past : Past) → StandsFor P.stands_for self.old past → StandsFor P.stands_for self.new (Answered answer ∷ past) }
     {
         match self.stage {
-            Stage::Opening => {
+            ConsumerStage::Opening => {
                 let (stage, progress) = after_opening(&answer);
                 self.stage = stage;
                 let_go(answer);
                 progress
             }
-            Stage::Filling => {
+            ConsumerStage::Filling => {
                 let limit = self.made.limit;
                 let (stage, reach) = after_reading(&mut self.ahead, limit, self.reach, answer);
                 self.stage = stage;
@@ -433,21 +438,21 @@ impl<P: Processor> Consumer<P> {
                 self.reach = reach;
                 Progress::Going
             }
-            Stage::Giving => {
+            ConsumerStage::Giving => {
                 self.given = last_after(&self.ahead, self.given, &answer);
                 self.stage = after_giving(&mut self.ahead, self.asked, self.lost, &answer);
                 forget(&mut self.asked, &mut self.lost);
                 let_go(answer);
                 Progress::Going
             }
-            Stage::Marking(_) => {
+            ConsumerStage::Marking(_) => {
                 let (stage, progress) = after_marking(&self.ahead, &answer);
                 self.stage = stage;
                 forget(&mut self.asked, &mut self.lost);
                 let_go(answer);
                 progress
             }
-            Stage::MarkingEnd => {
+            ConsumerStage::MarkingEnd => {
                 let (stage, progress) = after_ending(&answer);
                 self.stage = stage;
                 let_go(answer);
@@ -466,17 +471,17 @@ impl<P: Processor> Consumer<P> {
         ensures stands { (past : Past) → StandsFor P.stands_for self.old past → StandsFor P.stands_for self.new (Losing ∷ past) }
     {
         match self.stage {
-            Stage::Opening => self.stage = Stage::Over(Why::NeverOpened),
-            Stage::Starting => self.stage = Stage::Over(Why::NeverOpened),
-            Stage::Giving => {
+            ConsumerStage::Opening => self.stage = ConsumerStage::Over(Why::NeverOpened),
+            ConsumerStage::Starting => self.stage = ConsumerStage::Over(Why::NeverOpened),
+            ConsumerStage::Giving => {
                 if self.ahead.is_handed() {
                     self.lost = true;
                 } else {
-                    self.stage = Stage::Leaving(Why::Lost);
+                    self.stage = ConsumerStage::Leaving(Why::Lost);
                 }
             }
-            Stage::Over(_) => {}
-            _ => self.stage = Stage::Leaving(Why::Lost),
+            ConsumerStage::Over(_) => {}
+            _ => self.stage = ConsumerStage::Leaving(Why::Lost),
         }
     }
 

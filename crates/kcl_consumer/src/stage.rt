@@ -3,7 +3,7 @@ use kds_defs::Target;
 
 /// Where a consumer stands.
 #[derive(Clone, Copy, Debug, PartialEq, Eq)]
-pub enum Stage {
+pub enum ConsumerStage {
     Opening,
     Starting,
     Filling,

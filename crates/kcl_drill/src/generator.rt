@@ -6,7 +6,7 @@ ghost use Rattle.kcl_drill.specs.declared.state.State.{State};
 ghost use Rattle.kcl_drill.specs.Generated.{generated};
 ghost use Rattle.kcl_drill.specs.Coming.{GivesNext};
 
-use crate::state::{Stage, State};
+use crate::state::{DrillStage, State};
 use kds_base::Memory;
 use kds_defs::Command;
 use std::alloc::Global;
@@ -46,10 +46,10 @@ impl Generator {
         ensures lawful { IfOk result (λ next. IfSome next IsLawfulCommand) }
         ensures err { OnErr result (self.new ≡ self.old) }
     {
-        if let Stage::Create = self.state.stage {
+        if let DrillStage::Create = self.state.stage {
             return Ok(Some(self.state.create()?));
         }
-        if let Stage::Reshard = self.state.stage {
+        if let DrillStage::Reshard = self.state.stage {
             if let Some(command) = self.state.reshard()? {
                 return Ok(Some(command));
             }

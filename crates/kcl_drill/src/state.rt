@@ -1,7 +1,7 @@
 //! Where a generator stands.
 ghost use Rattle.std.specs.Prelude.{◌≡◌, ◌∷◌, IfOk, IfSome, OnErr};
 ghost use Rattle.kds_defs.specs.Lawful.{IsLawfulCommand};
-ghost use Rattle.kcl_drill.specs.declared.state.Stage.TheVariants as stage;
+ghost use Rattle.kcl_drill.specs.declared.state.DrillStage.TheVariants as stage;
 ghost use Rattle.kcl_drill.specs.Generated.{generated};
 ghost use Rattle.kcl_drill.specs.Coming.{coming, GivesNext, GivesPlan, IsSound};
 
@@ -15,7 +15,7 @@ use std::alloc::Global;
 
 /// What comes next: CreateStream, a record, or a split or merge before the next record.
 #[derive(Clone, Copy)]
-pub enum Stage {
+pub enum DrillStage {
     Create,
     Put,
     Reshard,
@@ -25,7 +25,7 @@ pub enum Stage {
 #[derive(Drop)]
 pub struct State {
     pub alloc: Global,
-    pub stage: Stage,
+    pub stage: DrillStage,
     pub count: u64,
     pub left: u64,
     pub drawn: u64,
@@ -39,7 +39,7 @@ impl State {
     {
         State {
             alloc,
-            stage: Stage::Create,
+            stage: DrillStage::Create,
             count: 0,
             left: records,
             drawn: number,
@@ -58,7 +58,7 @@ impl State {
     {
         let name = stream_name(self.alloc)?;
         self.opens = OpenShards::first(self.alloc)?;
-        self.stage = Stage::Put;
+        self.stage = DrillStage::Put;
         Ok(Command::Create {
             name,
             shards: FIRST_SHARDS,
@@ -83,7 +83,7 @@ impl State {
         self.drawn = drawn;
         self.count += 1;
         self.left -= 1;
-        self.stage = Stage::Reshard;
+        self.stage = DrillStage::Reshard;
         Ok(Some(Command::Put { name, item }))
     }
 
@@ -97,7 +97,7 @@ impl State {
         ensures sound { IsSound self.new }
     {
         let Some(plan) = find_plan(self.count, self.drawn, &self.opens) else {
-            self.stage = Stage::Put;
+            self.stage = DrillStage::Put;
             return Ok(None);
         };
         let command = plan.command(self.alloc)?;
@@ -105,7 +105,7 @@ impl State {
             Plan::Split(x) => self.opens.split(self.alloc, x, middle_of(&x.range))?,
             Plan::Merge(x, y) => self.opens.merge(self.alloc, x, y)?,
         }
-        self.stage = Stage::Put;
+        self.stage = DrillStage::Put;
         Ok(Some(command))
     }
 }

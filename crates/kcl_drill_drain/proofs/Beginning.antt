@@ -30,7 +30,7 @@ use Rattle.kcl_laws.specs.Recorded.{HasFrom, RiseBetween}
 use Rattle.kcl_drill_summary.specs.Counting.{row_in}
 use Rattle.kcl_drill_summary.proofs.BatchLemmas.{IsUp, from, left_all}
 use Rattle.kcl_drill_laws.specs.Holding.{Holding, Holds, IsOpenedSo, IsTakenSo, MayOpen, MayTake, begun_from, opened_line, taken_line}
-use Rattle.kcl_drill_drain.specs.declared.held.Held.{Held}
+use Rattle.kcl_drill_drain.specs.declared.held.DrainTenure.{DrainTenure}
 use Rattle.kcl_drill_drain.specs.Draining.{IsDone, IsFresh, IsStart, final_of, left_of, records_of, shard_of}
 use Rattle.kcl_drill_drain.specs.Keys.{AreDrainedTo}
 use Rattle.kcl_drill_drain.specs.Laws.{HasLaws}
@@ -91,7 +91,7 @@ module _ (w : Spot) (at : ℕ) (spot : IsSpot w at) (laws : HasLaws w.history (c
       let may : MayTake now r = (going, not_last r.counter (omega (arith, f.1.few, spot.can.few)), not_last (taken_count now) (omega (arith, l.so.few, spot.can.few, spot.few))) in
       let asked = subst (λ n. Answered stands stands' (turn_of by at (command.Take key n 1)) a) (sym same_n) answers in
       let asked' = subst (λ k. Answered stands stands' (turn_of by at (command.Take k r.counter 1)) a) (sym same_k) asked in
-      let held : Held = record { tenure = taken_count now + 1; place = first_place r.checkpoint; counter = r.counter + 1 } in
+      let held : DrainTenure = record { tenure = taken_count now + 1; place = first_place r.checkpoint; counter = r.counter + 1 } in
       let one = led stands stands' by at w.history (command.Take w.key r.counter 1) a (AreDrainedTo w.history w.keys w.among w.index) (IsTaken w by r held) (Accepted (taken_line now (clock_at w at) by w.key r 1 ∷ []) (reply.Taken (taken_count now + 1) (r.counter + 1) r.checkpoint)) refl (below, omega arith) asked' l
       (law now (clock_at w at) by 1 w.key r f.0 may)
       (record { before = now; clock = clock_at w at; is = refl; there = f.0; drained = l.so; number = refl; counter = refl; place = refl; fresh = f.1 }) in
@@ -171,7 +171,7 @@ module _ (w : Spot) (at : ℕ) (spot : IsSpot w at) (laws : HasLaws w.history (c
       small q n lt le = omega (arith, lt, le)
   begins floor ShardEnd going is = absurd cc
 
-  pub opened : (stands stands' : List Turn → Type 0) (by : ℕ) (r : Row) (held : Held) (a : Result Reply Refusal) → OpenLaw → BegunLaw → at < 2 ^ 62 → is_end r.checkpoint ≡ false
+  pub opened : (stands stands' : List Turn → Type 0) (by : ℕ) (r : Row) (held : DrainTenure) (a : Result Reply Refusal) → OpenLaw → BegunLaw → at < 2 ^ 62 → is_end r.checkpoint ≡ false
       → (l : Leads stands by at w.history (IsTaken w by r held))
       → Answered stands stands' (turn_of by at (command.OpenShard held.tenure)) a
       → ReadsOn stands' w by at held

@@ -30,7 +30,7 @@ use Rattle.kcl_defs.specs.Consumers.{last_number_in}
 use Rattle.kcl_drill.specs.Summed.{last_checkpoint}
 use Rattle.kcl_drill_summary.proofs.BatchLemmas.{from, sized_from, stuck, up_from}
 use Rattle.kcl_drill_laws.specs.Holding.{Holding, Holds, IsGivenSo, IsMarkedSo, MayMark, after_give, after_mark, after_read, given_line, marked_line, read_here, read_line}
-use Rattle.kcl_drill_drain.specs.declared.held.Held.{Held}
+use Rattle.kcl_drill_drain.specs.declared.held.DrainTenure.{DrainTenure}
 use Rattle.kcl_drill_drain.specs.declared.held.TheConstants.{READ}
 use Rattle.kcl_drill_drain.specs.Draining.{IsDone, final_of, left_of, records_of, shard_of}
 use Rattle.kcl_drill_drain.specs.Keys.{AreDrainedTo}
@@ -98,7 +98,7 @@ module _ (w : Spot) (at : ℕ) (spot : IsSpot w at) (laws : HasLaws w.history (c
   no_wait : (n : ℕ) → n ≡ 0 → n < PENDING_READS
   no_wait n is = omega (arith, is)
 
-  pub read_so : (stands stands' : List Turn → Type 0) (by : ℕ) (x : Holding) (held : Held) (a : Result Reply Refusal) → ReadLaw → ReadState → at < 2 ^ 62 → IsReady w at x → IsHeld x held
+  pub read_so : (stands stands' : List Turn → Type 0) (by : ℕ) (x : Holding) (held : DrainTenure) (a : Result Reply Refusal) → ReadLaw → ReadState → at < 2 ^ 62 → IsReady w at x → IsHeld x held
       → (l : Leads stands by at w.history (Stands w by x))
       → Answered stands stands' (turn_of by at (command.Read held.tenure held.place READ)) a
       → (a ≡ Ok (reply_at w at x)) × Leads stands' by at w.history (Stands w by (read_then w at x))
@@ -117,7 +117,7 @@ module _ (w : Spot) (at : ℕ) (spot : IsSpot w at) (laws : HasLaws w.history (c
       led stands stands' by at w.history (command.Read held.tenure held.place READ) a (Stands w by x) (Stands w by (read_then w at x)) (Accepted (read_line c x READ (read_at w at x) ∷ []) (reply_at w at x)) refl (below, (omega arith, omega arith)) answers l decided
       (record { others = same_others w now (read_line c x READ (read_at w at x) ∷ now) (λ key. refl) refl s.others; holds = state now c READ x (read_at w at x) s.holds; own = s.own; of_key = s.of_key })
 
-  pub read_result : {E : Type 0} (stands stands' : List Turn → Type 0) (by : ℕ) (x : Holding) (held : Held) (r : Result (Result Reply Refusal) E) → ReadLaw → ReadState → at < 2 ^ 62 → IsReady w at x → IsHeld x held
+  pub read_result : {E : Type 0} (stands stands' : List Turn → Type 0) (by : ℕ) (x : Holding) (held : DrainTenure) (r : Result (Result Reply Refusal) E) → ReadLaw → ReadState → at < 2 ^ 62 → IsReady w at x → IsHeld x held
       → (l : Leads stands by at w.history (Stands w by x))
       → Answers stands stands' (turn_of by at (command.Read held.tenure held.place READ)) r
       → IfOk r (λ a. (a ≡ Ok (reply_at w at x)) × Leads stands' by at w.history (Stands w by (read_then w at x)))
@@ -248,7 +248,7 @@ module _ (w : Spot) (at : ℕ) (spot : IsSpot w at) (laws : HasLaws w.history (c
 
   -- ---- the steps
 
-  abbrev pub MarksOk : (List Turn → Type 0) → (List Turn → Type 0) → ℕ → Held → Target → ℕ → Type 0
+  abbrev pub MarksOk : (List Turn → Type 0) → (List Turn → Type 0) → ℕ → DrainTenure → Target → ℕ → Type 0
   MarksOk stands stands' by held to n =
       (w : Spot) (x : Holding) → IsSpot w at → MayMark x to → (x.counter == last_number) ≡ false → x.tenure ≡ held.tenure → x.counter ≡ held.counter
       → Leads stands by at w.history (Stands w by x) → (n ≡ x.counter + 1) × Leads stands' by at w.history (Stands w by (after_mark x to))
@@ -275,7 +275,7 @@ module _ (w : Spot) (at : ℕ) (spot : IsSpot w at) (laws : HasLaws w.history (c
   ended_kept (Some q) x = refl
 
   -- the mark at the last record, where there is one
-  pub marks_some : {E : Type 0} (stands stands' : List Turn → Type 0) (by q : ℕ) (held : Held) (result : Result ℕ E) (x : Holding) → Marks stands stands' by at held (target.At q) result → IsReady w at x → IsHeld x held → Some q ≡ last_at w at x
+  pub marks_some : {E : Type 0} (stands stands' : List Turn → Type 0) (by q : ℕ) (held : DrainTenure) (result : Result ℕ E) (x : Holding) → Marks stands stands' by at held (target.At q) result → IsReady w at x → IsHeld x held → Some q ≡ last_at w at x
       → Leads stands by at w.history (Stands w by (given_then w at x))
       → IfOk result (λ n. (n ≡ (marked_then w at x).counter) × Leads stands' by at w.history (Stands w by (marked_then w at x)))
   marks_some stands stands' by q held result x marks ready is last l = by_brought (brought x ready)
@@ -287,7 +287,7 @@ module _ (w : Spot) (at : ℕ) (spot : IsSpot w at) (laws : HasLaws w.history (c
           subst (λ o. IfOk result (λ n. (n ≡ (marked_at o (given_then w at x)).counter) × Leads stands' by at w.history (Stands w by (marked_at o (given_then w at x))))) last
           (marks w (given_then w at x) spot (subst (λ n. MayMark (given_then w at x) (target.At n)) e may) (some_left x ready) is.tenure is.counter l)
 
-  pub marks_none : (stands : List Turn → Type 0) (by : ℕ) (held : Held) (x : Holding) → IsHeld x held → None ≡ last_at w at x
+  pub marks_none : (stands : List Turn → Type 0) (by : ℕ) (held : DrainTenure) (x : Holding) → IsHeld x held → None ≡ last_at w at x
       → Leads stands by at w.history (Stands w by (given_then w at x))
       → (held.counter ≡ (marked_then w at x).counter) × Leads stands by at w.history (Stands w by (marked_then w at x))
   marks_none stands by held x is last l =
@@ -298,7 +298,7 @@ module _ (w : Spot) (at : ℕ) (spot : IsSpot w at) (laws : HasLaws w.history (c
   marked_left x ready (Records q at_q next may beyond) = subst (λ o. ((marked_at o (given_then w at x)).counter == last_number) ≡ false) (sym at_q) (some_left (after_mark (given_then w at x) (target.At q)) next)
 
   -- the end is marked
-  pub ends : (stands stands' : List Turn → Type 0) (by n : ℕ) (held : Held) (x : Holding) → MarksOk stands stands' by held target.End n → IsReady w at x → ended_at w at x ≡ true → IsHeld (marked_then w at x) held
+  pub ends : (stands stands' : List Turn → Type 0) (by n : ℕ) (held : DrainTenure) (x : Holding) → MarksOk stands stands' by held target.End n → IsReady w at x → ended_at w at x ≡ true → IsHeld (marked_then w at x) held
       → Leads stands by at w.history (Stands w by (marked_then w at x)) → IsDrainedHere stands' w by at
   ends stands stands' by n held x marks ready ended is l =
       let y = marked_then w at x in
@@ -306,7 +306,7 @@ module _ (w : Spot) (at : ℕ) (spot : IsSpot w at) (laws : HasLaws w.history (c
       drained_at stands' by (after_mark y target.End) (marks w y spot may (marked_left x ready (brought x ready)) is.tenure is.counter l).1 (ended_final x ended)
 
   -- reading goes on
-  pub goes_on : (stands : List Turn → Type 0) (by : ℕ) (held : Held) (x : Holding) → IsReady w at x → x.place < held.place → IsHeld (marked_then w at x) held
+  pub goes_on : (stands : List Turn → Type 0) (by : ℕ) (held : DrainTenure) (x : Holding) → IsReady w at x → x.place < held.place → IsHeld (marked_then w at x) held
       → Leads stands by at w.history (Stands w by (marked_then w at x)) → ReadsOn stands w by at held
   goes_on stands by held x ready above is l = record { now = marked_then w at x; leads = l; ready = by_brought (brought x ready); is = is }
     where
@@ -318,7 +318,7 @@ module _ (w : Spot) (at : ℕ) (spot : IsSpot w at) (laws : HasLaws w.history (c
       by_brought (Records q at_q next may beyond) = subst (λ o. IsReady w at (marked_at o (given_then w at x))) (sym at_q) next
 
   -- nothing is left in an open shard
-  pub stops : (stands : List Turn → Type 0) (by : ℕ) (held : Held) (x : Holding) → IsReady w at x → held.place ≤ x.place → ended_at w at x ≡ false → IsHeld (marked_then w at x) held
+  pub stops : (stands : List Turn → Type 0) (by : ℕ) (held : DrainTenure) (x : Holding) → IsReady w at x → held.place ≤ x.place → ended_at w at x ≡ false → IsHeld (marked_then w at x) held
       → Leads stands by at w.history (Stands w by (marked_then w at x)) → IsDrainedHere stands w by at
   stops stands by held x ready le ended is l = by_brought (brought x ready)
     where
@@ -333,7 +333,7 @@ module _ (w : Spot) (at : ℕ) (spot : IsSpot w at) (laws : HasLaws w.history (c
   pub waits_for : (x : Holding) → IsReady w at x → (read_then w at x).waiting ≡ read_at w at x ∷ []
   waits_for x ready = ap (λ rs. rs ++ (read_at w at x ∷ [])) ready.none_waits
 
-  pub held_then : (x : Holding) (held : Held) (reach n : ℕ) → IsHeld x held → reach ≡ reach_at w at x → n ≡ (marked_then w at x).counter → IsHeld (marked_then w at x) (record { tenure = held.tenure; place = reach; counter = n })
+  pub held_then : (x : Holding) (held : DrainTenure) (reach n : ℕ) → IsHeld x held → reach ≡ reach_at w at x → n ≡ (marked_then w at x).counter → IsHeld (marked_then w at x) (record { tenure = held.tenure; place = reach; counter = n })
   held_then x held reach n is same counter = record {
     tenure = tenure_kept (last_at w at x) (given_then w at x) ∙ is.tenure;
     place = place_kept (last_at w at x) (given_then w at x) ∙ sym same;

@@ -16,7 +16,7 @@ use Rattle.kds_defs.specs.Shards.{start_of}
 use Rattle.kcl_defs.specs.Consumers.{first_place, last_number_in}
 use Rattle.kcl_drill.specs.Summed.{last_checkpoint}
 use Rattle.kcl_drill_laws.specs.Holding.{Holding, Holds, after_give, after_mark, after_read, taken_line}
-use Rattle.kcl_drill_drain.specs.declared.held.Held.{Held}
+use Rattle.kcl_drill_drain.specs.declared.held.DrainTenure.{DrainTenure}
 use Rattle.kcl_drill_drain.specs.declared.held.TheConstants.{READ}
 use Rattle.kcl_drill_drain.specs.Draining.{CanDrain, IsDone, IsFresh, left_of, records_of, shard_of}
 use Rattle.kcl_drill_drain.specs.Keys.{AreDrainedTo, Waits, listed_keys}
@@ -47,7 +47,7 @@ pub record OthersWait (w : Spot) (log : Journal) : Type 0 where
   pub few : taken_count log ≤ length w.history + (w.index + 1)
 
 -- the row of the key was taken by the newest line
-pub record IsTaken (w : Spot) (by : ℕ) (r : Row) (held : Held) (log : Journal) : Type 0 where
+pub record IsTaken (w : Spot) (by : ℕ) (r : Row) (held : DrainTenure) (log : Journal) : Type 0 where
   pub before : Journal
   pub clock : ℕ
   pub is : log ≡ taken_line before clock by w.key r 1 ∷ before
@@ -76,13 +76,13 @@ pub record IsReady (w : Spot) (at : ℕ) (x : Holding) : Type 0 where
   pub budget : x.counter + length (left_of (journal w.history) (clock_at w at) w.key x.place) ≤ length w.history + 1 + length (records_of (journal w.history) w.key)
 
 -- its number, its place and its row's counter are known
-pub record IsHeld (x : Holding) (held : Held) : Type 0 where
+pub record IsHeld (x : Holding) (held : DrainTenure) : Type 0 where
   pub tenure : x.tenure ≡ held.tenure
   pub place : x.place ≡ held.place
   pub counter : x.counter ≡ held.counter
 
 -- a machine leads to a tenure that can read on
-pub record ReadsOn (stands : List Turn → Type 0) (w : Spot) (by at : ℕ) (held : Held) : Type 0 where
+pub record ReadsOn (stands : List Turn → Type 0) (w : Spot) (by at : ℕ) (held : DrainTenure) : Type 0 where
   pub now : Holding
   pub leads : Leads stands by at w.history (Stands w by now)
   pub ready : IsReady w at now

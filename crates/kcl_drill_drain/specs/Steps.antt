@@ -12,7 +12,7 @@ use Rattle.kds_defs.specs.Leases.{ReadDone, is_end, rows}
 use Rattle.kds_defs.specs.StreamCommands.{last_number}
 use Rattle.kcl_drill_summary.specs.Counting.{row_in}
 use Rattle.kcl_drill_laws.specs.Holding.{Holding, MayMark, after_give, after_mark}
-use Rattle.kcl_drill_drain.specs.declared.held.Held.{Held}
+use Rattle.kcl_drill_drain.specs.declared.held.DrainTenure.{DrainTenure}
 use Rattle.kcl_drill_drain.specs.declared.reading.Fetch.{Fetch}
 use Rattle.kcl_drill_drain.specs.Draining.{CanDrain}
 use Rattle.kcl_drill_drain.specs.Keys.{AreDrainedTo, AreMade, listed_keys}
@@ -22,64 +22,64 @@ use Rattle.kcl_drill_drain.specs.Standing.{IsDrainedHere, IsHeld, IsReady, IsSpo
 -- ---- one row
 
 -- it is taken at its counter
-abbrev pub Takes : {E : Type 0} → (List Turn → Type 0) → (List Turn → Type 0) → ℕ → ℕ → ShardRef → ℕ → Result (Option Held) E → Type 0
+abbrev pub Takes : {E : Type 0} → (List Turn → Type 0) → (List Turn → Type 0) → ℕ → ℕ → ShardRef → ℕ → Result (Option DrainTenure) E → Type 0
 Takes stands stands' by at key counter result =
     (w : Spot) (r : Row) → IsSpot w at → w.key ≡ key → r.counter ≡ counter → row_in w.among w.key ≡ Some r → is_end r.checkpoint ≡ false
     → Leads stands by at w.history (AreDrainedTo w.history w.keys w.among w.index)
-    → IfOk result (λ o. (held : Held) × (o ≡ Some held) × Leads stands' by at w.history (IsTaken w by r held))
+    → IfOk result (λ o. (held : DrainTenure) × (o ≡ Some held) × Leads stands' by at w.history (IsTaken w by r held))
 
 -- its shard is opened
-abbrev pub Opens : {E : Type 0} → (List Turn → Type 0) → (List Turn → Type 0) → ℕ → ℕ → Held → Result (Unit {0}) E → Type 0
+abbrev pub Opens : {E : Type 0} → (List Turn → Type 0) → (List Turn → Type 0) → ℕ → ℕ → DrainTenure → Result (Unit {0}) E → Type 0
 Opens stands stands' by at held result =
     (w : Spot) (r : Row) → IsSpot w at → row_in w.among w.key ≡ Some r → is_end r.checkpoint ≡ false
     → Leads stands by at w.history (IsTaken w by r held) → OnOk result (ReadsOn stands' w by at held)
 
 -- a read is answered with the batch at the tenure's place
-abbrev pub Reads : {E : Type 0} → (List Turn → Type 0) → (List Turn → Type 0) → ℕ → ℕ → Held → Result (Result Reply Refusal) E → Type 0
+abbrev pub Reads : {E : Type 0} → (List Turn → Type 0) → (List Turn → Type 0) → ℕ → ℕ → DrainTenure → Result (Result Reply Refusal) E → Type 0
 Reads stands stands' by at held result =
     (w : Spot) (x : Holding) → IsSpot w at → IsReady w at x → IsHeld x held → Leads stands by at w.history (Stands w by x)
     → IfOk result (λ a. (a ≡ Ok (reply_at w at x)) × Leads stands' by at w.history (Stands w by (read_then w at x)))
 
 -- the read that waits is given
-abbrev pub Gives : {E : Type 0} → (List Turn → Type 0) → (List Turn → Type 0) → ℕ → ℕ → Held → Result (Unit {0}) E → Type 0
+abbrev pub Gives : {E : Type 0} → (List Turn → Type 0) → (List Turn → Type 0) → ℕ → ℕ → DrainTenure → Result (Unit {0}) E → Type 0
 Gives stands stands' by at held result =
     (w : Spot) (x : Holding) (r : ReadDone) → x.waiting ≡ r ∷ [] → x.tenure ≡ held.tenure → Leads stands by at w.history (Stands w by x)
     → OnOk result (Leads stands' by at w.history (Stands w by (after_give x r [])))
 
 -- the row is marked, and its counter told
-abbrev pub Marks : {E : Type 0} → (List Turn → Type 0) → (List Turn → Type 0) → ℕ → ℕ → Held → Target → Result ℕ E → Type 0
+abbrev pub Marks : {E : Type 0} → (List Turn → Type 0) → (List Turn → Type 0) → ℕ → ℕ → DrainTenure → Target → Result ℕ E → Type 0
 Marks stands stands' by at held to result =
     (w : Spot) (x : Holding) → IsSpot w at → MayMark x to → (x.counter == last_number) ≡ false → x.tenure ≡ held.tenure → x.counter ≡ held.counter
     → Leads stands by at w.history (Stands w by x) → IfOk result (λ n. (n ≡ x.counter + 1) × Leads stands' by at w.history (Stands w by (after_mark x to)))
 
 -- it is marked at the last record of the batch, if there is one
-abbrev pub MarksLast : {E : Type 0} → (List Turn → Type 0) → (List Turn → Type 0) → ℕ → ℕ → Held → Option ℕ → Result ℕ E → Type 0
+abbrev pub MarksLast : {E : Type 0} → (List Turn → Type 0) → (List Turn → Type 0) → ℕ → ℕ → DrainTenure → Option ℕ → Result ℕ E → Type 0
 MarksLast stands stands' by at held last result =
     (w : Spot) (x : Holding) → IsSpot w at → IsReady w at x → IsHeld x held → last ≡ last_at w at x → Leads stands by at w.history (Stands w by (given_then w at x))
     → IfOk result (λ n. (n ≡ (marked_then w at x).counter) × Leads stands' by at w.history (Stands w by (marked_then w at x)))
 
 -- the row is drained, or its tenure reads on
-abbrev pub Advances : (List Turn → Type 0) → Spot → ℕ → ℕ → Option Held → Type 0
+abbrev pub Advances : (List Turn → Type 0) → Spot → ℕ → ℕ → Option DrainTenure → Type 0
 Advances stands w by at None = IsDrainedHere stands w by at
 Advances stands w by at (Some held) = ReadsOn stands w by at held
 
 -- after the mark, the end is marked where the read ended the shard
-abbrev pub Settles : {E : Type 0} → (List Turn → Type 0) → (List Turn → Type 0) → ℕ → ℕ → ℕ → Held → Bool → Result (Option Held) E → Type 0
+abbrev pub Settles : {E : Type 0} → (List Turn → Type 0) → (List Turn → Type 0) → ℕ → ℕ → ℕ → DrainTenure → Bool → Result (Option DrainTenure) E → Type 0
 Settles stands stands' by at place held ended result =
     (w : Spot) (x : Holding) → IsSpot w at → IsReady w at x → x.place ≡ place → ended_at w at x ≡ ended → IsHeld (marked_then w at x) held
     → Leads stands by at w.history (Stands w by (marked_then w at x)) → IfOk result (Advances stands' w by at)
 
 -- what was read is given and marked
-abbrev pub Delivers : {E : Type 0} → (List Turn → Type 0) → (List Turn → Type 0) → ℕ → ℕ → Held → Fetch → Result (Option Held) E → Type 0
+abbrev pub Delivers : {E : Type 0} → (List Turn → Type 0) → (List Turn → Type 0) → ℕ → ℕ → DrainTenure → Fetch → Result (Option DrainTenure) E → Type 0
 Delivers stands stands' by at held fetch result =
     (w : Spot) (x : Holding) → IsSpot w at → IsReady w at x → IsHeld x held → fetch ≡ record { last = last_at w at x; reach = reach_at w at x; ended = ended_at w at x }
     → Leads stands by at w.history (Stands w by (read_then w at x)) → IfOk result (Advances stands' w by at)
 
-abbrev pub StepsOn : {E : Type 0} → (List Turn → Type 0) → (List Turn → Type 0) → ℕ → ℕ → Held → Result (Option Held) E → Type 0
+abbrev pub StepsOn : {E : Type 0} → (List Turn → Type 0) → (List Turn → Type 0) → ℕ → ℕ → DrainTenure → Result (Option DrainTenure) E → Type 0
 StepsOn stands stands' by at held result = (w : Spot) → IsSpot w at → ReadsOn stands w by at held → IfOk result (Advances stands' w by at)
 
 -- the shard is read to its end
-abbrev pub ReadsToEnd : {E : Type 0} → (List Turn → Type 0) → (List Turn → Type 0) → ℕ → ℕ → Held → Result (Unit {0}) E → Type 0
+abbrev pub ReadsToEnd : {E : Type 0} → (List Turn → Type 0) → (List Turn → Type 0) → ℕ → ℕ → DrainTenure → Result (Unit {0}) E → Type 0
 ReadsToEnd stands stands' by at held result = (w : Spot) → IsSpot w at → ReadsOn stands w by at held → OnOk result (IsDrainedHere stands' w by at)
 
 -- a row that isn't at its end is taken, and its shard read to the end

@@ -6,7 +6,7 @@ pub const READ: u32 = 1_000;
 
 /// A tenure: its number, the place after what it read, the counter of its row.
 #[derive(Clone, Copy)]
-pub struct Held {
+pub struct DrainTenure {
     pub tenure: TenureNo,
     pub place: u64,
     pub counter: u64,

@@ -7,7 +7,7 @@ ghost use Rattle.kcl_defs.specs.Consumers.{last_number_in};
 ghost use Rattle.kcl_drill_drain.specs.Leased.{HasLeased};
 ghost use Rattle.kcl_drill_drain.specs.Steps.{Delivers, MarksLast, ReadsToEnd, Settles, StepsOn};
 
-use crate::held::Held;
+use crate::held::DrainTenure;
 use crate::laws::drain_laws;
 use crate::turns::{give, mark, read};
 use kcl_consumer::{Ask, Processor};
@@ -69,7 +69,7 @@ fn mark_last<M: Machine>(
     machine: &mut M,
     by: u32,
     at: Moment,
-    held: &Held,
+    held: &DrainTenure,
     last: Option<Seq>,
 ) -> Result<u64, Memory>
     ensures ok { MarksLast (M.stands_for machine.old) (M.stands_for machine.new) by at held.now last result }
@@ -89,9 +89,9 @@ fn settle<M: Machine>(
     by: u32,
     at: Moment,
     place: u64,
-    held: Held,
+    held: DrainTenure,
     ended: bool,
-) -> Result<Option<Held>, Memory>
+) -> Result<Option<DrainTenure>, Memory>
     ensures ok { Settles (M.stands_for machine.old) (M.stands_for machine.new) by at place held ended result }
     ensures leased { (h : List Asked) → HasLeased (M.stands_for machine.old) by at h → HasLeased (M.stands_for machine.new) by at h }
     ensures rises { IfOk result (λ o. IfSome o (λ next. place < next.place)) }
@@ -112,9 +112,9 @@ fn deliver<M: Machine>(
     machine: &mut M,
     by: u32,
     at: Moment,
-    held: &Held,
+    held: &DrainTenure,
     fetch: &Fetch,
-) -> Result<Option<Held>, Memory>
+) -> Result<Option<DrainTenure>, Memory>
     ensures ok { Delivers (M.stands_for machine.old) (M.stands_for machine.new) by at held.now fetch.now result }
     ensures leased { (h : List Asked) → HasLeased (M.stands_for machine.old) by at h → HasLeased (M.stands_for machine.new) by at h }
     ensures rises { IfOk result (λ o. IfSome o (λ next. held.now.place < next.place)) }
@@ -122,7 +122,7 @@ fn deliver<M: Machine>(
     drain_laws();
     give(machine, by, at, held)?;
     let counter = mark_last(machine, by, at, held, fetch.last)?;
-    let next = Held {
+    let next = DrainTenure {
         tenure: held.tenure,
         place: fetch.reach,
         counter,
@@ -135,9 +135,9 @@ fn step<M: Machine>(
     machine: &mut M,
     by: u32,
     at: Moment,
-    held: &Held,
+    held: &DrainTenure,
     tally: &mut Tally,
-) -> Result<Option<Held>, Memory>
+) -> Result<Option<DrainTenure>, Memory>
     ensures ok { StepsOn (M.stands_for machine.old) (M.stands_for machine.new) by at held.now result }
     ensures leased { (h : List Asked) → HasLeased (M.stands_for machine.old) by at h → HasLeased (M.stands_for machine.new) by at h }
     ensures rises { IfOk result (λ o. IfSome o (λ next. held.now.place < next.place)) }
@@ -150,7 +150,12 @@ fn step<M: Machine>(
 }
 
 /// Reads the shard of a tenure to its end.
-pub fn read_on<M: Machine>(machine: &mut M, by: u32, at: Moment, from: Held) -> Result<(), Memory>
+pub fn read_on<M: Machine>(
+    machine: &mut M,
+    by: u32,
+    at: Moment,
+    from: DrainTenure,
+) -> Result<(), Memory>
     ensures ok { ReadsToEnd (M.stands_for machine.old) (M.stands_for machine.new) by at from result }
     ensures leased { (h : List Asked) → HasLeased (M.stands_for machine.old) by at h → HasLeased (M.stands_for machine.new) by at h }
 {

@@ -8,7 +8,7 @@ ghost use Rattle.kcl_drill_drain.specs.Leased.{HasLeased};
 ghost use Rattle.kcl_drill_drain.specs.Steps.{Gives, Marks, Opens, Reads, Takes};
 
 use crate::asking::ask;
-use crate::held::{Held, READ};
+use crate::held::{DrainTenure, READ};
 use crate::laws::drain_laws;
 use kcl_drill_laws::{held_answers, held_states};
 use kds_base::{Checkpoint, Memory, Moment, ShardRef, WorkerNo};
@@ -26,7 +26,7 @@ fn first_place(start: Checkpoint) -> u64
 }
 
 /// The tenure of an answer to a taking.
-fn taken_of(answer: &Answer) -> Option<Held>
+fn taken_of(answer: &Answer) -> Option<DrainTenure>
     ensures { (t n : ℕ) (start : Checkpoint) → answer.now ≡ Ok (reply.Taken t n start)
         → result ≡ Some (record { tenure = t; place = first_place start; counter = n }) }
 {
@@ -37,7 +37,7 @@ fn taken_of(answer: &Answer) -> Option<Held>
                 counter,
                 start,
             },
-        ) => Some(Held {
+        ) => Some(DrainTenure {
             tenure: *tenure,
             place: first_place(*start),
             counter: *counter,
@@ -63,7 +63,7 @@ pub fn take<M: Machine>(
     at: Moment,
     key: ShardRef,
     counter: u64,
-) -> Result<Option<Held>, Memory>
+) -> Result<Option<DrainTenure>, Memory>
     ensures ok { Takes (M.stands_for machine.old) (M.stands_for machine.new) by at key counter result }
     ensures leased { (h : List Asked) → HasLeased (M.stands_for machine.old) by at h → HasLeased (M.stands_for machine.new) by at h }
 {
@@ -81,7 +81,12 @@ pub fn take<M: Machine>(
 }
 
 /// Opens the shard of a tenure.
-pub fn open<M: Machine>(machine: &mut M, by: u32, at: Moment, held: &Held) -> Result<(), Memory>
+pub fn open<M: Machine>(
+    machine: &mut M,
+    by: u32,
+    at: Moment,
+    held: &DrainTenure,
+) -> Result<(), Memory>
     ensures ok { Opens (M.stands_for machine.old) (M.stands_for machine.new) by at held.now result }
     ensures leased { (h : List Asked) → HasLeased (M.stands_for machine.old) by at h → HasLeased (M.stands_for machine.new) by at h }
 {
@@ -94,7 +99,12 @@ pub fn open<M: Machine>(machine: &mut M, by: u32, at: Moment, held: &Held) -> Re
 }
 
 /// Reads at the place of a tenure.
-pub fn read<M: Machine>(machine: &mut M, by: u32, at: Moment, held: &Held) -> Result<Answer, Memory>
+pub fn read<M: Machine>(
+    machine: &mut M,
+    by: u32,
+    at: Moment,
+    held: &DrainTenure,
+) -> Result<Answer, Memory>
     ensures ok { Reads (M.stands_for machine.old) (M.stands_for machine.new) by at held.now result }
     ensures leased { (h : List Asked) → HasLeased (M.stands_for machine.old) by at h → HasLeased (M.stands_for machine.new) by at h }
 {
@@ -110,7 +120,12 @@ pub fn read<M: Machine>(machine: &mut M, by: u32, at: Moment, held: &Held) -> Re
 }
 
 /// Gives what a tenure has read.
-pub fn give<M: Machine>(machine: &mut M, by: u32, at: Moment, held: &Held) -> Result<(), Memory>
+pub fn give<M: Machine>(
+    machine: &mut M,
+    by: u32,
+    at: Moment,
+    held: &DrainTenure,
+) -> Result<(), Memory>
     ensures ok { Gives (M.stands_for machine.old) (M.stands_for machine.new) by at held.now result }
     ensures leased { (h : List Asked) → HasLeased (M.stands_for machine.old) by at h → HasLeased (M.stands_for machine.new) by at h }
 {
@@ -126,7 +141,7 @@ pub fn mark<M: Machine>(
     machine: &mut M,
     by: u32,
     at: Moment,
-    held: &Held,
+    held: &DrainTenure,
     to: Target,
 ) -> Result<u64, Memory>
     ensures ok { Marks (M.stands_for machine.old) (M.stands_for machine.new) by at held.now to result }

@@ -10,10 +10,10 @@ use Rattle.kds_ends.specs.Causes.{AppendsFront}
 use Rattle.kds_defs.specs.declared.limits.TheConstants.{LINE_BYTES, INPUT_BYTES}
 use Rattle.kds_lines.specs.declared.outcome.Outcome.{Outcome}
 use Rattle.kds_lines.specs.declared.outcome.Outcome.TheVariants.{Whole, Unfinished, Stopped, TooLong, Read, Write, Memory}
-use Rattle.kds_lines.specs.declared.reading.Reading.{Reading}
+use Rattle.kds_lines.specs.declared.reading.LineBuffer.{LineBuffer}
 use Rattle.kds_lines.specs.Lines.{unfinished, too_long, is_over, lined, last_of, preceded_by, Fed, Begins, IsTooLong, NoFeed}
 use Rattle.kds_lines.specs.Writing.{Wrote, Loses}
-use Rattle.kds_lines.specs.Reading.{Stands, Stops, Halted, HasTakenFed, FedLines, Running, HaltedAfter, HoldStops, IsOwnStop, IsFeedStop, IsStop, lost_after}
+use Rattle.kds_lines.specs.LineBuffer.{Stands, Stops, Halted, HasTakenFed, FedLines, Running, HaltedAfter, HoldStops, IsOwnStop, IsFeedStop, IsStop, lost_after}
 use Rattle.kds_lines.specs.Taking.{Goes, Breaks}
 use Rattle.kds_lines.specs.Telling.{Because, HasTaken, Unwritten, Told}
 use Rattle.kds_lines.proofs.Pieces.{fed_nothing, line_fed, line_over, more_fed, more_over, at_end, lines_so_far, fed_begins, begins_more, too_long_more}
@@ -59,7 +59,7 @@ pub within_limits : (len used : ℕ) → is_over len (used + len + 1) ≡ false 
 within_limits len used h = (grind (arith, common_steps), grind (arith, common_steps))
 
 module _ (before took : List (List ℕ) → Type 0) (broke refuses : List (List ℕ) → List ℕ → Type 0) (output : List (List ℕ) → List ℕ) where
-  pub line_taken : (y a : List ℕ) (len : ℕ) (old new : Reading) (start now : Option (List ℕ)) → len ≡ length (old.held ++ a)
+  pub line_taken : (y a : List ℕ) (len : ℕ) (old new : LineBuffer) (start now : Option (List ℕ)) → len ≡ length (old.held ++ a)
       → (st : Stands before output y old start now) → NoFeed a → is_over len (old.used + len + 1) ≡ false
       → ((lines : List (List ℕ)) → before lines → Goes took output lines (old.held ++ a) old.output new.output)
       → new.held ≡ [] → new.used ≡ old.used + len + 1 → new.count ≡ old.count + 1
@@ -116,14 +116,14 @@ module _ (before took : List (List ℕ) → Type 0) (broke refuses : List (List 
     unwritten = tt;
   }
 
-  pub stands_over : (y a : List ℕ) (len : ℕ) (old : Reading) (start now : Option (List ℕ)) → len ≡ length (old.held ++ a)
+  pub stands_over : (y a : List ℕ) (len : ℕ) (old : LineBuffer) (start now : Option (List ℕ)) → len ≡ length (old.held ++ a)
       → Stands took output y old start now → NoFeed a → is_over len (old.used + len + 1) ≡ true
       → Halted TooLong took broke refuses output (y ++ (a ++ 10 ∷ [])) old.output start now
   stands_over y a len old start now el st n over =
       line_stops TooLong y a st.texts old.used old.held old.output start now st.bytes n st.taken
       (line_over y a st.texts old.used old.held st.bytes n (at_length len old.used (old.held ++ a) el over)) refl st.wrote
 
-  pub stands_stops : (y a waits : List ℕ) (len : ℕ) (old : Reading) (start now : Option (List ℕ)) → len ≡ length (old.held ++ a)
+  pub stands_stops : (y a waits : List ℕ) (len : ℕ) (old : LineBuffer) (start now : Option (List ℕ)) → len ≡ length (old.held ++ a)
       → (st : Stands before output y old start now) → NoFeed a → is_over len (old.used + len + 1) ≡ false → waits ≡ old.output
       → ((lines : List (List ℕ)) → before lines → took lines × refuses lines (old.held ++ a))
       → Halted (Stopped (old.count + 1)) took broke refuses output (y ++ (a ++ 10 ∷ [])) waits start now
@@ -133,7 +133,7 @@ module _ (before took : List (List ℕ) → Type 0) (broke refuses : List (List 
       line_stops (Stopped (old.count + 1)) y a st.texts old.used old.held waits start now st.bytes n s.0
       (old.held ++ a, fed_begins _ _ _ _ fed, s.1, ap (λ z. z + 1) st.count) refl (rw same st.wrote)
 
-  pub stands_breaks : (y a waits : List ℕ) (len : ℕ) (old : Reading) (start now : Option (List ℕ)) → len ≡ length (old.held ++ a)
+  pub stands_breaks : (y a waits : List ℕ) (len : ℕ) (old : LineBuffer) (start now : Option (List ℕ)) → len ≡ length (old.held ++ a)
       → (st : Stands before output y old start now) → NoFeed a → is_over len (old.used + len + 1) ≡ false → waits ≡ old.output
       → ((lines : List (List ℕ)) → before lines → Breaks took broke output lines (old.held ++ a))
       → Halted Memory took broke refuses output (y ++ (a ++ 10 ∷ [])) waits start now
@@ -143,7 +143,7 @@ module _ (before took : List (List ℕ) → Type 0) (broke refuses : List (List 
   -- ---- what is written
 
   -- the output was written, or waits on
-  pub stands_written : (y : List ℕ) (old new : Reading) (start mid now : Option (List ℕ)) → new.held ≡ old.held → new.count ≡ old.count → new.used ≡ old.used
+  pub stands_written : (y : List ℕ) (old new : LineBuffer) (start mid now : Option (List ℕ)) → new.held ≡ old.held → new.count ≡ old.count → new.used ≡ old.used
       → (st : Stands took output y old start mid)
       → ((whole missing : List ℕ) → Wrote start mid whole old.output missing → Wrote start now whole new.output missing)
       → Stands took output y new start now
@@ -155,7 +155,7 @@ module _ (before took : List (List ℕ) → Type 0) (broke refuses : List (List 
     wrote = writes (output st.texts) [] st.wrote;
   }
 
-  pub stands_lost : (y waits : List ℕ) (old : Reading) (start mid now : Option (List ℕ)) → waits ≡ []
+  pub stands_lost : (y waits : List ℕ) (old : LineBuffer) (start mid now : Option (List ℕ)) → waits ≡ []
       → (st : Stands took output y old start mid) → ((whole missing : List ℕ) → Wrote start mid whole old.output missing → Loses start now whole)
       → Halted Write took broke refuses output y waits start now
   stands_lost y waits old start mid now none st loses =
@@ -213,7 +213,7 @@ module _ (before took : List (List ℕ) → Type 0) (broke refuses : List (List 
   halted_lost Whole y waits start mid now h loses = lost_there y h.texts start now h.begins h.taken (loses (output h.texts) h.missing h.wrote)
   halted_lost (Unfinished n) y waits start mid now h loses = lost_there y h.texts start now h.begins h.taken (loses (output h.texts) h.missing h.wrote)
 
-  pub fed_lost : (r : Result (Unit {0}) Outcome) (piece : List ℕ) (old new : Reading) (held mid now : Option (List ℕ))
+  pub fed_lost : (r : Result (Unit {0}) Outcome) (piece : List ℕ) (old new : LineBuffer) (held mid now : Option (List ℕ))
       → OnOk r ((fed : List ℕ) (start : Option (List ℕ)) → Stands before output fed old start held → Stands took output (fed ++ piece) new start mid)
       → IfErr r (λ o. (fed : List ℕ) (start : Option (List ℕ)) → Stands before output fed old start held → Halted o took broke refuses output (fed ++ piece) new.output start mid)
       → (fed : List ℕ) (start : Option (List ℕ)) → Stands before output fed old start held
@@ -256,7 +256,7 @@ module _ (before took : List (List ℕ) → Type 0) (broke refuses : List (List 
     unwritten = h.unwritten;
   }
 
-  pub lines_begin : (fed piece : List ℕ) (reading : Reading) (start now : Option (List ℕ)) → Stands took output fed reading start now → FedLines took output fed piece piece reading start now
+  pub lines_begin : (fed piece : List ℕ) (reading : LineBuffer) (start now : Option (List ℕ)) → Stands took output fed reading start now → FedLines took output fed piece piece reading start now
   lines_begin fed piece reading start now st = record {
     front = [];
     parts = refl;
@@ -264,7 +264,7 @@ module _ (before took : List (List ℕ) → Type 0) (broke refuses : List (List 
   }
 
   -- one more line
-  pub lines_go : (fed piece rest line next : List ℕ) (old new : Reading) (start mid now : Option (List ℕ))
+  pub lines_go : (fed piece rest line next : List ℕ) (old new : LineBuffer) (start mid now : Option (List ℕ))
       → (f : FedLines before output fed piece rest old start mid) → rest ≡ line ++ next
       → Stands took output ((fed ++ f.front) ++ line) new start now → FedLines took output fed piece next new start now
   lines_go fed piece rest line next old new start mid now f parts st = record {
@@ -273,7 +273,7 @@ module _ (before took : List (List ℕ) → Type 0) (broke refuses : List (List 
     stands = subst (λ (z : List ℕ). Stands took output z new start now) (append_assoc fed f.front line) st;
   }
 
-  pub lines_stop : (fed piece rest line next waits : List ℕ) (old : Reading) (start mid now : Option (List ℕ)) (o : Outcome) → IsFeedStop o
+  pub lines_stop : (fed piece rest line next waits : List ℕ) (old : LineBuffer) (start mid now : Option (List ℕ)) (o : Outcome) → IsFeedStop o
       → (f : FedLines before output fed piece rest old start mid) → rest ≡ line ++ next
       → Halted o took broke refuses output ((fed ++ f.front) ++ line) waits start now → Halted o took broke refuses output (fed ++ piece) waits start now
   lines_stop fed piece rest line next waits old start mid now o k f parts h =
@@ -283,7 +283,7 @@ module _ (before took : List (List ℕ) → Type 0) (broke refuses : List (List 
 
   -- ---- a whole piece
 
-  pub piece_held : (fed piece rest : List ℕ) (old new : Reading) (start now : Option (List ℕ)) → (f : FedLines took output fed piece rest old start now) → NoFeed rest
+  pub piece_held : (fed piece rest : List ℕ) (old new : LineBuffer) (start now : Option (List ℕ)) → (f : FedLines took output fed piece rest old start now) → NoFeed rest
       → new.output ≡ old.output → new.count ≡ old.count
       → ((y : List ℕ) (ts : List (List ℕ)) → Fed y ts old.used old.held → NoFeed rest → Fed (y ++ rest) ts new.used new.held)
       → Stands took output (fed ++ piece) new start now
@@ -306,7 +306,7 @@ module _ (before took : List (List ℕ) → Type 0) (broke refuses : List (List 
   held_stops Whole y ts t h = absurd h
   held_stops (Unfinished n) y ts t h = absurd h
 
-  pub piece_stops : (fed piece rest waits : List ℕ) (old : Reading) (start now : Option (List ℕ)) (o : Outcome) → (f : FedLines took output fed piece rest old start now) → NoFeed rest
+  pub piece_stops : (fed piece rest waits : List ℕ) (old : LineBuffer) (start now : Option (List ℕ)) (o : Outcome) → (f : FedLines took output fed piece rest old start now) → NoFeed rest
       → waits ≡ old.output → ((y : List ℕ) (ts : List (List ℕ)) → Fed y ts old.used old.held → NoFeed rest → HoldStops o (y ++ rest) ts)
       → Halted o took broke refuses output (fed ++ piece) waits start now
   piece_stops fed piece rest waits old start now o f n eo holds =
@@ -370,7 +370,7 @@ not_over len used a b = grind (arith, common_steps)
 -- ---- what is told
 
 module _ (took : List (List ℕ) → Type 0) (broke refuses : List (List ℕ) → List ℕ → Type 0) (output : List (List ℕ) → List ℕ) where
-  pub runs_from : (left start : Option (List ℕ)) (reading : Reading) → reading.held ≡ [] → reading.output ≡ [] → reading.count ≡ 0 → reading.used ≡ 0 → took []
+  pub runs_from : (left start : Option (List ℕ)) (reading : LineBuffer) → reading.held ≡ [] → reading.output ≡ [] → reading.count ≡ 0 → reading.used ≡ 0 → took []
       → output [] ≡ [] → Running took output left left reading start start
   runs_from left start reading eh eo ec eu t none = record {
     fed = [];
@@ -386,7 +386,7 @@ module _ (took : List (List ℕ) → Type 0) (broke refuses : List (List ℕ) �
   }
 
   -- the source fails
-  pub halted_read : (all left after start now : Option (List ℕ)) (reading : Reading) → Running took output all left reading start now → Keeps left after
+  pub halted_read : (all left after start now : Option (List ℕ)) (reading : LineBuffer) → Running took output all left reading start now → Keeps left after
       → HaltedAfter Read took broke refuses output all after start now
   halted_read all left after start now reading r keeps =
       let st = r.stands in record {
@@ -484,7 +484,7 @@ module _ (took : List (List ℕ) → Type 0) (broke refuses : List (List ℕ) �
         unwritten = refl;
       })
 
-  pub told_end : (all left start now : Option (List ℕ)) (reading : Reading) → Running took output all left reading start now → IsAtEnd left
+  pub told_end : (all left start now : Option (List ℕ)) (reading : LineBuffer) → Running took output all left reading start now → IsAtEnd left
       → length reading.held ≤ LINE_BYTES → reading.used + length reading.held ≤ INPUT_BYTES
       → IfSome all (λ bytes. Told (if length reading.held == 0 then Whole else Unfinished (reading.count + 1)) took broke refuses output bytes left start now)
   told_end None left start now reading r e a b = tt

@@ -1,5 +1,5 @@
 pub mod Lines
-pub mod Reading
+pub mod LineBuffer
 pub mod Taking
 pub mod Telling
 pub mod Writing

@@ -4,11 +4,11 @@ ghost use Rattle.std.specs.declared.option.Option.{Option};
 ghost use Rattle.kds_ends.specs.Causes.{Rose};
 ghost use Rattle.kds_defs.specs.declared.limits.TheConstants.{LINE_BYTES};
 ghost use Rattle.kds_lines.specs.Lines.{NoFeed, HasFeedAt, Fed, is_over};
-ghost use Rattle.kds_lines.specs.Reading.{EndsLine, Feeds, FeedsFront, HoldStops, IsOwnStop, IsFeedStop, StopsIn, StopsInLine, fed_count};
+ghost use Rattle.kds_lines.specs.LineBuffer.{EndsLine, Feeds, FeedsFront, HoldStops, IsOwnStop, IsFeedStop, StopsIn, StopsInLine, fed_count};
 ghost use Rattle.kds_lines.specs.Taking.{Goes, Breaks};
 
 use crate::outcome::Outcome;
-use crate::reading::Reading;
+use crate::reading::LineBuffer;
 use crate::taker::Taker;
 use kds_base::{Memory, Octets};
 use kds_defs::limits::{INPUT_BYTES, LINE_BYTES};
@@ -67,7 +67,7 @@ fn take_joined<T: Taker>(
 fn end_line<T: Taker>(
     alloc: Global,
     taker: &mut T,
-    reading: &mut Reading,
+    reading: &mut LineBuffer,
     tail: &[u8],
 ) -> Result<(), Outcome>
     ensures ok { OnOk result ((held : Option (List ℕ)) →
@@ -99,7 +99,7 @@ fn end_line<T: Taker>(
 fn next_line<T: Taker, K: Sink>(
     alloc: Global,
     taker: &mut T,
-    reading: &mut Reading,
+    reading: &mut LineBuffer,
     tail: &[u8],
     out: &mut K,
 ) -> Result<(), Outcome>
@@ -123,7 +123,7 @@ fn next_line<T: Taker, K: Sink>(
 fn feed_lines<'a, T: Taker, K: Sink>(
     alloc: Global,
     taker: &mut T,
-    reading: &mut Reading,
+    reading: &mut LineBuffer,
     piece: &'a [u8],
     out: &mut K,
 ) -> Result<&'a [u8], Outcome>
@@ -150,7 +150,7 @@ fn feed_lines<'a, T: Taker, K: Sink>(
 }
 
 /// Keeps bytes that end no line.
-fn hold(reading: &mut Reading, rest: &[u8]) -> Result<(), Outcome>
+fn hold(reading: &mut LineBuffer, rest: &[u8]) -> Result<(), Outcome>
     ensures ok { OnOk result ((fed : List ℕ) (texts : List (List ℕ)) → Fed fed texts reading.old.used reading.old.held → NoFeed rest.now
         → Fed (fed ++ rest.now) texts reading.new.used reading.new.held) }
     ensures output { reading.new.output ≡ reading.old.output }
@@ -174,7 +174,7 @@ fn hold(reading: &mut Reading, rest: &[u8]) -> Result<(), Outcome>
 pub fn feed<T: Taker, K: Sink>(
     alloc: Global,
     taker: &mut T,
-    reading: &mut Reading,
+    reading: &mut LineBuffer,
     piece: &[u8],
     out: &mut K,
 ) -> Result<(), Outcome>

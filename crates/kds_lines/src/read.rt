@@ -3,12 +3,12 @@ ghost use Rattle.std.specs.Prelude.{◌≡◌, ◌<◌, ◌≤◌, [], List, ℕ
 ghost use Rattle.std.specs.declared.option.Option.{Option};
 ghost use Rattle.std.specs.Io.KnownBytes.{IsAtEnd};
 ghost use Rattle.kds_ends.specs.Causes.{Rose};
-ghost use Rattle.kds_lines.specs.Reading.{RunsOn, StopsRunning, IsStop, fed_count, lost_after};
+ghost use Rattle.kds_lines.specs.LineBuffer.{RunsOn, StopsRunning, IsStop, fed_count, lost_after};
 ghost use Rattle.kds_lines.specs.Telling.{Told};
 
 use crate::feed::feed;
 use crate::outcome::Outcome;
-use crate::reading::Reading;
+use crate::reading::LineBuffer;
 use crate::taker::Taker;
 use kds_ends::{Sink, Source};
 use std::alloc::Global;
@@ -31,7 +31,7 @@ fn lost_after(fed: Result<(), Outcome>) -> Outcome
 fn step<T: Taker, S: Source, K: Sink>(
     alloc: Global,
     taker: &mut T,
-    reading: &mut Reading,
+    reading: &mut LineBuffer,
     input: &mut S,
     room: &mut [u8],
     out: &mut K,
@@ -68,7 +68,7 @@ fn step<T: Taker, S: Source, K: Sink>(
 }
 
 /// How the reading ends at the end of the input: a line that is held has no line feed.
-fn last(reading: &Reading) -> Outcome
+fn last(reading: &LineBuffer) -> Outcome
     ensures { result ≡ (if length reading.now.held == 0 then Outcome.Whole else Outcome.Unfinished (reading.now.count + 1)) }
 {
     if reading.held.as_slice().is_empty() {
@@ -96,7 +96,7 @@ pub fn read_lines<T: Taker, S: Source, K: Sink>(
     ensures later { K.faults out.old ≤ K.faults out.new }
 {
     let mut room = [0u8; PIECE_BYTES];
-    let mut reading = Reading::new(alloc);
+    let mut reading = LineBuffer::new(alloc);
     loop {
         match step(alloc, taker, &mut reading, input, &mut room, out) {
             Ok(true) => {}

@@ -14,7 +14,7 @@ const OUTPUT_BYTES: usize = 65_536;
 
 /// The line that is not yet whole, and the output that waits.
 #[derive(Drop)]
-pub struct Reading {
+pub struct LineBuffer {
     pub held: Octets,
     pub output: Octets,
     /// How many lines were whole, and how many bytes they took.
@@ -25,15 +25,15 @@ pub struct Reading {
     ghost counted: { count ≤ used },
 }
 
-impl Reading {
+impl LineBuffer {
     /// Nothing was read.
-    pub fn new(alloc: Global) -> Reading
+    pub fn new(alloc: Global) -> LineBuffer
         ensures held { result.held ≡ [] }
         ensures output { result.output ≡ [] }
         ensures count { result.count ≡ 0 }
         ensures used { result.used ≡ 0 }
     {
-        Reading {
+        LineBuffer {
             held: Octets::new(alloc),
             output: Octets::new(alloc),
             count: 0,

@@ -9,7 +9,7 @@ use Rattle.kds_defs.specs.Shards.{ShardState, is_open, home_among}
 use Rattle.kds_defs.specs.Tiled.{IsOrdered}
 use Rattle.kds_tree.specs.Starts.{AreStarts, IsStart, start_of}
 use Rattle.kds_tree.specs.Tree.{IsTree, IsHome}
-use Rattle.kds_tree.specs.declared.start.Start.{Start}
+use Rattle.kds_tree.specs.declared.start.OpenStart.{OpenStart}
 use Rattle.kds_tree.proofs.Homes.{home_is, only}
 
 all_made : (P : ShardState → Type 0) (xs : List ShardState) (i : ℕ) (x : ShardState) → AllByRecursion P xs → slice_get xs i ≡ Some x → P x
@@ -27,32 +27,32 @@ below_unless : (a b : ℕ) (t : Bool) → leb b a ≡ t → (b ≤ a → ⊥) �
 below_unless a b true e h = absurd (h (leb-true b a e))
 below_unless a b false e h = grind (arith, nat_tests)
 
-default_at : (ss : List Start) (j : ℕ) (c d : Start) → j < length ss → get_or ss j c ≡ get_or ss j d
+default_at : (ss : List OpenStart) (j : ℕ) (c d : OpenStart) → j < length ss → get_or ss j c ≡ get_or ss j d
 default_at [] j c d lt = absurd (omega arith)
 default_at (s ∷ ss) zero c d lt = refl
 default_at (s ∷ ss) (suc j) c d lt = default_at ss j c d (omega arith)
 
-module _ (xs : List ShardState) (ss : List Start) (k i : ℕ) (tree : IsTree xs) (starts : AreStarts ss xs) (below : k < 2 ^ 128)
-    (point : IsPartitionPoint (λ (y : Start). leb y.key k ≡ true) (λ (y : Start). leb y.key k ≡ false) ss i) (bound : i ≤ length ss) where
+module _ (xs : List ShardState) (ss : List OpenStart) (k i : ℕ) (tree : IsTree xs) (starts : AreStarts ss xs) (below : k < 2 ^ 128)
+    (point : IsPartitionPoint (λ (y : OpenStart). leb y.key k ≡ true) (λ (y : OpenStart). leb y.key k ≡ false) ss i) (bound : i ≤ length ss) where
   -- a start at or below the key stands before the point
-  before_point : (j : ℕ) (d : Start) → j < length ss → (get_or ss j d).key ≤ k → j < i
+  before_point : (j : ℕ) (d : OpenStart) → j < length ss → (get_or ss j d).key ≤ k → j < i
   before_point j d lt le = below_unless j i (leb i j) refl (λ over. below_point (get_or ss j d).key k (point.1 j d over lt) le)
 
-  pub found : (s : Start) → (at : ℕ) → at ≡ i - 1 → at < length ss → s ≡ get_or ss at s → IsHome xs k s.shard
+  pub found : (s : OpenStart) → (at : ℕ) → at ≡ i - 1 → at < length ss → s ≡ get_or ss at s → IsHome xs k s.shard
   found s at is_at within is =
       let h = home_is xs k tree below in
       let member = starts.of.whole (home_among (filter is_open xs) k) h.state h.made h.is_open_now in
       let first = start_of h.state (home_among (filter is_open xs) k) in
-      let e : (get_or ss member.0 first).key ≡ h.state.range.start = ap (λ (t : Start). t.key) member.2 in
+      let e : (get_or ss member.0 first).key ≡ h.state.range.start = ap (λ (t : OpenStart). t.key) member.2 in
       let low : h.state.range.start ≤ k = h.contains.0 in
       let high : k ≤ h.state.range.end = h.contains.1 in
       let before : member.0 < i = before_point member.0 first member.1 (omega (arith, e, low)) in
-      let le : s.key ≤ k = at_most s.key k (subst (λ (t : Start). leb t.key k ≡ true) (sym is) (point.0 at s (omega arith) (omega (arith, is_at, before)))) in
+      let le : s.key ≤ k = at_most s.key k (subst (λ (t : OpenStart). leb t.key k ≡ true) (sym is) (point.0 at s (omega arith) (omega (arith, is_at, before)))) in
       let rises : (get_or ss member.0 s).key ≤ (get_or ss at s).key = starts.order member.0 at s (omega (arith, is_at, before)) within in
       let same_default : get_or ss member.0 first ≡ get_or ss member.0 s = default_at ss member.0 first s member.1 in
-      let e' : (get_or ss member.0 s).key ≡ h.state.range.start = ap (λ (t : Start). t.key) (sym same_default) ∙ e in
-      let top : (get_or ss at s).key ≡ s.key = ap (λ (t : Start). t.key) (sym is) in
-      let stands = subst (λ (t : Start). IsStart xs t) (sym is) (starts.of.each at s within) in
+      let e' : (get_or ss member.0 s).key ≡ h.state.range.start = ap (λ (t : OpenStart). t.key) (sym same_default) ∙ e in
+      let top : (get_or ss at s).key ≡ s.key = ap (λ (t : OpenStart). t.key) (sym is) in
+      let stands = subst (λ (t : OpenStart). IsStart xs t) (sym is) (starts.of.each at s within) in
       let ordered : IsOrdered stands.state = all_made IsOrdered xs s.shard stands.state tree.tiled.ordered stands.made in
       let key_below : s.key < 2 ^ 128 = omega (arith, le, below) in
       let in_s : Covers stands.state.range s.key = (omega (arith, stands.begins), omega (arith, stands.begins, ordered)) in
@@ -66,7 +66,7 @@ module _ (xs : List ShardState) (ss : List Start) (k i : ℕ) (tree : IsTree xs)
       let h = home_is xs k tree below in
       let member = starts.of.whole (home_among (filter is_open xs) k) h.state h.made h.is_open_now in
       let first = start_of h.state (home_among (filter is_open xs) k) in
-      let e : (get_or ss member.0 first).key ≡ h.state.range.start = ap (λ (t : Start). t.key) member.2 in
+      let e : (get_or ss member.0 first).key ≡ h.state.range.start = ap (λ (t : OpenStart). t.key) member.2 in
       let low : h.state.range.start ≤ k = h.contains.0 in
       let before : member.0 < i = before_point member.0 first member.1 (omega (arith, e, low)) in
       omega (arith, is_at, before, member.1, bound)

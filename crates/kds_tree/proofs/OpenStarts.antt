@@ -12,33 +12,33 @@ use Rattle.kds_defs.specs.Shards.{ShardState, Closing, is_open, with_closed}
 use Rattle.kds_defs.specs.Tiled.{AreNumbered}
 use Rattle.kds_defs.proofs.Numbers.{numbered-closed}
 use Rattle.kds_tree.specs.Starts.{IsStart, AreOf, AreStarts, open_starts, own_start, start_of, stays}
-use Rattle.kds_tree.specs.declared.start.Start.{Start}
+use Rattle.kds_tree.specs.declared.start.OpenStart.{OpenStart}
 use Rattle.kds_tree.proofs.Homes.{number_at}
 
 -- ---- how many pass a test
 
-tally : (Start → Bool) → List Start → ℕ
+tally : (OpenStart → Bool) → List OpenStart → ℕ
 tally p ss = length (filter p ss)
 
-tally_same : (p : Start → Bool) (ss ts : List Start) → IsPermutation ss ts → tally p ts ≡ tally p ss
+tally_same : (p : OpenStart → Bool) (ss ts : List OpenStart) → IsPermutation ss ts → tally p ts ≡ tally p ss
 unfolding tally
 tally_same p ss ts same = length-filter p ts ∙ sum_by-IsPermutation (λ s. cond (p s) 1 0) ss ts same ∙ sym (length-filter p ss)
 
-tally-append : (p : Start → Bool) (ss ts : List Start) → tally p (ss ++ ts) ≡ tally p ss + tally p ts
+tally-append : (p : OpenStart → Bool) (ss ts : List OpenStart) → tally p (ss ++ ts) ≡ tally p ss + tally p ts
 unfolding tally
 tally-append p ss ts = ap length (filter-append p ss ts) ∙ length-append (filter p ss) (filter p ts)
 
-filter_step : (p : Start → Bool) (b c : Bool) (s : Start) (ss ts : List Start) → p s ≡ c → filter p ss ≡ ts → filter p (cond b (s ∷ ss) ss) ≡ cond (b && c) (s ∷ ts) ts
+filter_step : (p : OpenStart → Bool) (b c : Bool) (s : OpenStart) (ss ts : List OpenStart) → p s ≡ c → filter p ss ≡ ts → filter p (cond b (s ∷ ss) ss) ≡ cond (b && c) (s ∷ ts) ts
 filter_step p true true s ss ts is h = ap (λ d. cond d (s ∷ filter p ss) (filter p ss)) is ∙ ap (λ us. s ∷ us) h
 filter_step p true false s ss ts is h = ap (λ d. cond d (s ∷ filter p ss) (filter p ss)) is ∙ h
 filter_step p false c s ss ts is h = h
 
 -- what passes one test and then another passes both
-filter_both : (p q : Start → Bool) (ss : List Start) → filter p (filter q ss) ≡ filter (λ s. q s && p s) ss
+filter_both : (p q : OpenStart → Bool) (ss : List OpenStart) → filter p (filter q ss) ≡ filter (λ s. q s && p s) ss
 filter_both p q [] = refl
 filter_both p q (s ∷ ss) = filter_step p (q s) (p s) s (filter q ss) (filter (λ t. q t && p t) ss) refl (filter_both p q ss)
 
-filter_any : (ss : List Start) → filter (λ s. true) ss ≡ ss
+filter_any : (ss : List OpenStart) → filter (λ s. true) ss ≡ ss
 filter_any [] = refl
 filter_any (s ∷ ss) = ap (λ ts. s ∷ ts) (filter_any ss)
 
@@ -47,12 +47,12 @@ length-map [] = refl
 length-map (x ∷ xs) = ap suc (length-map xs)
 
 -- so there are as many starts as open shards
-pub open_many : (ss : List Start) (xs : List ShardState) → AreStarts ss xs → length ss ≡ length (filter is_open xs)
+pub open_many : (ss : List OpenStart) (xs : List ShardState) → AreStarts ss xs → length ss ≡ length (filter is_open xs)
 open_many ss xs starts = ap length (sym (filter_any ss)) ∙ starts.many (λ s. true) ∙ ap length (filter_any (open_starts xs)) ∙ length-map (filter is_open xs)
 
 -- ---- what lists contain
 
-contains_choice : (b : Bool) (y : ShardState) (ys : List ShardState) (s : Start) → Contains (map own_start ys) s → Contains (map own_start (cond b (y ∷ ys) ys)) s
+contains_choice : (b : Bool) (y : ShardState) (ys : List ShardState) (s : OpenStart) → Contains (map own_start ys) s → Contains (map own_start (cond b (y ∷ ys) ys)) s
 contains_choice true y ys s h = (suc h.0, omega (arith, h.1), h.2)
 contains_choice false y ys s h = h
 
@@ -67,15 +67,15 @@ contains_open (y ∷ ys) zero x is open_now =
     contains_chosen (is_open y) y x (filter is_open ys) (ap is_open e ∙ open_now) e
 contains_open (y ∷ ys) (suc i) x is open_now = contains_choice (is_open y) y (filter is_open ys) (own_start x) (contains_open ys i x is open_now)
 
-left_choice : (b : Bool) (y s : Start) (ys : List Start) → Contains ys s → Contains (cond b (y ∷ ys) ys) s
+left_choice : (b : Bool) (y s : OpenStart) (ys : List OpenStart) → Contains ys s → Contains (cond b (y ∷ ys) ys) s
 left_choice true y s ys h = (suc h.0, omega (arith, h.1), h.2)
 left_choice false y s ys h = h
 
-left_chosen : (b : Bool) (y s : Start) (ys : List Start) → b ≡ true → y ≡ s → Contains (cond b (y ∷ ys) ys) s
+left_chosen : (b : Bool) (y s : OpenStart) (ys : List OpenStart) → b ≡ true → y ≡ s → Contains (cond b (y ∷ ys) ys) s
 left_chosen true y s ys t is = (0, omega arith, is)
 left_chosen false y s ys t is = absurd cc
 
-contains_left : (p : Start → Bool) (ss : List Start) (s : Start) (k : ℕ) → k < length ss → get_or ss k s ≡ s → p s ≡ true → Contains (filter p ss) s
+contains_left : (p : OpenStart → Bool) (ss : List OpenStart) (s : OpenStart) (k : ℕ) → k < length ss → get_or ss k s ≡ s → p s ≡ true → Contains (filter p ss) s
 contains_left p [] s k lt is t = absurd (omega arith)
 contains_left p (y ∷ ys) s zero lt is t = left_chosen (p y) y s (filter p ys) (ap p is ∙ t) is
 contains_left p (y ∷ ys) s (suc k) lt is t = left_choice (p y) y s (filter p ys) (contains_left p ys s k (omega arith) is t)
@@ -131,7 +131,7 @@ made_starts xs numbers = record {
 }
 
 -- put in order
-pub in_order : (xs : List ShardState) (ss ts : List Start) → AreOf ss xs → ((p : Start → Bool) → length (filter p ss) ≡ length (filter p (open_starts xs))) → IsPermutation ss ts → IsNonDecreasingBy (λ (s : Start). s.key) ts → AreStarts ts xs
+pub in_order : (xs : List ShardState) (ss ts : List OpenStart) → AreOf ss xs → ((p : OpenStart → Bool) → length (filter p ss) ≡ length (filter p (open_starts xs))) → IsPermutation ss ts → IsNonDecreasingBy (λ (s : OpenStart). s.key) ts → AreStarts ts xs
 unfolding tally
 in_order xs ss ts of many same order = record {
   many = λ p. tally_same p ss ts same ∙ many p;
@@ -150,14 +150,14 @@ pub record Closes (xs closed : List ShardState) (sh other : ℕ) : Type 0 where
   pub long : length closed ≡ length xs
   pub left : AreNumbered 0 xs → filter (stays sh other) (open_starts xs) ≡ open_starts closed
 
-passes : (sh other : ℕ) (s : Start) → stays sh other s ≡ true → (s.shard ≢ sh) × (s.shard ≢ other)
+passes : (sh other : ℕ) (s : OpenStart) → stays sh other s ≡ true → (s.shard ≢ sh) × (s.shard ≢ other)
 passes sh other s h = ((λ e. grind (arith, nat_tests)), (λ e. grind (arith, nat_tests)))
 
-passes_by : (sh other : ℕ) (s : Start) → s.shard ≢ sh → s.shard ≢ other → stays sh other s ≡ true
+passes_by : (sh other : ℕ) (s : OpenStart) → s.shard ≢ sh → s.shard ≢ other → stays sh other s ≡ true
 passes_by sh other s h g = grind (arith, nat_tests)
 
 module _ (xs closed born : List ShardState) (sh other : ℕ) (closes : Closes xs closed sh other) (numbers : AreNumbered (length xs) born) where
-  still : (ss : List Start) → All (IsStart xs) ss → All (IsStart (closed ++ born)) (filter (stays sh other) ss)
+  still : (ss : List OpenStart) → All (IsStart xs) ss → All (IsStart (closed ++ born)) (filter (stays sh other) ss)
   still ss each i d lt =
       let s = get_or (filter (stays sh other) ss) i d in
       let was : IsStart xs s = All-filter (stays sh other) (IsStart xs) ss each i d lt in
@@ -174,7 +174,7 @@ module _ (xs closed born : List ShardState) (sh other : ℕ) (closes : Closes xs
       let e : length xs + i ≡ length closed + i = omega (arith, closes.long) in
       ap (slice_get (closed ++ born)) e ∙ get_back closed born i ∙ is
 
-  whole_by : (ss : List Start) → AreOf ss xs → (i : ℕ) (x : ShardState) → is_open x ≡ true → (slice_get closed i ≡ Some x) ⊎ IsBehind born (length closed) i x
+  whole_by : (ss : List OpenStart) → AreOf ss xs → (i : ℕ) (x : ShardState) → is_open x ≡ true → (slice_get closed i ≡ Some x) ⊎ IsBehind born (length closed) i x
       → Contains (filter (stays sh other) ss ++ open_starts born) (start_of x i)
   whole_by ss of i x open_now (inl h) =
       let was = closes.back i x h open_now in
@@ -186,7 +186,7 @@ module _ (xs closed born : List ShardState) (sh other : ℕ) (closes : Closes xs
       Contains-append_right (filter (stays sh other) ss) (open_starts born) (start_of x i)
       (subst (λ (k : ℕ). Contains (open_starts born) (start_of x k)) e (contains_open born h.place x h.at open_now))
 
-  pub changed : (ss : List Start) → AreOf ss xs → AreOf (filter (stays sh other) ss ++ open_starts born) (closed ++ born)
+  pub changed : (ss : List OpenStart) → AreOf ss xs → AreOf (filter (stays sh other) ss ++ open_starts born) (closed ++ born)
   changed ss of = record {
     each = All-append (IsStart (closed ++ born)) (filter (stays sh other) ss) (open_starts born) (still ss of.each) (All-from_recursion (IsStart (closed ++ born)) (open_starts born) (each_from (closed ++ born) born (length xs) numbers born_at));
     whole = λ i x is open_now. whole_by ss of i x open_now (get_cases closed born i x is);
@@ -200,8 +200,8 @@ open-append (x ∷ xs) ys = by (is_open x) (open-append xs ys)
     by true h = ap (λ ss. own_start x ∷ ss) h
     by false h = h
 
-many_changed : (xs closed born : List ShardState) (sh other : ℕ) → Closes xs closed sh other → AreNumbered 0 xs → (ss : List Start) → AreStarts ss xs
-    → (p : Start → Bool) → length (filter p (filter (stays sh other) ss ++ open_starts born)) ≡ length (filter p (open_starts (closed ++ born)))
+many_changed : (xs closed born : List ShardState) (sh other : ℕ) → Closes xs closed sh other → AreNumbered 0 xs → (ss : List OpenStart) → AreStarts ss xs
+    → (p : OpenStart → Bool) → length (filter p (filter (stays sh other) ss ++ open_starts born)) ≡ length (filter p (open_starts (closed ++ born)))
 unfolding tally
 many_changed xs closed born sh other closes numbers ss starts p =
     let front : tally p (filter (stays sh other) ss) ≡ tally p (open_starts closed) =
@@ -216,24 +216,24 @@ many_changed xs closed born sh other closes numbers ss starts p =
 
 -- the same, put in order
 pub reshaped : (xs closed born : List ShardState) (sh other : ℕ) → Closes xs closed sh other → AreNumbered (length xs) born → AreNumbered 0 xs
-    → (ss more ts : List Start) → AreStarts ss xs → more ≡ filter (stays sh other) ss ++ open_starts born → IsPermutation more ts → IsNonDecreasingBy (λ (s : Start). s.key) ts
+    → (ss more ts : List OpenStart) → AreStarts ss xs → more ≡ filter (stays sh other) ss ++ open_starts born → IsPermutation more ts → IsNonDecreasingBy (λ (s : OpenStart). s.key) ts
     → AreStarts ts (closed ++ born)
 reshaped xs closed born sh other closes numbers own ss more ts starts is same order =
-    in_order (closed ++ born) more ts (subst (λ (us : List Start). AreOf us (closed ++ born)) (sym is) (changed xs closed born sh other closes numbers ss starts.of))
+    in_order (closed ++ born) more ts (subst (λ (us : List OpenStart). AreOf us (closed ++ born)) (sym is) (changed xs closed born sh other closes numbers ss starts.of))
     (λ p. ap (λ us. length (filter p us)) is ∙ many_changed xs closed born sh other closes own ss starts p) same order
 
 -- ---- starts that are added
 
-pub one_more : (front mid more : List Start) (a b : Start) → mid ≡ front → more ≡ mid ++ a ∷ [] → a ≡ b → more ≡ front ++ b ∷ []
-one_more front mid more a b is_mid is_more is = is_more ∙ ap (λ us. us ++ a ∷ []) is_mid ∙ ap (λ (s : Start). front ++ s ∷ []) is
+pub one_more : (front mid more : List OpenStart) (a b : OpenStart) → mid ≡ front → more ≡ mid ++ a ∷ [] → a ≡ b → more ≡ front ++ b ∷ []
+one_more front mid more a b is_mid is_more is = is_more ∙ ap (λ us. us ++ a ∷ []) is_mid ∙ ap (λ (s : OpenStart). front ++ s ∷ []) is
 
-pub two_more : (front mid next more : List Start) (a b c d : Start) → mid ≡ front → next ≡ mid ++ a ∷ [] → more ≡ next ++ b ∷ [] → a ≡ c → b ≡ d → more ≡ front ++ c ∷ d ∷ []
+pub two_more : (front mid next more : List OpenStart) (a b c d : OpenStart) → mid ≡ front → next ≡ mid ++ a ∷ [] → more ≡ next ++ b ∷ [] → a ≡ c → b ≡ d → more ≡ front ++ c ∷ d ∷ []
 two_more front mid next more a b c d is_mid is_next is_more is_c is_d =
     is_more
     ∙ ap (λ us. us ++ b ∷ []) (is_next ∙ ap (λ us. us ++ a ∷ []) is_mid)
     ∙ append_assoc front (a ∷ []) (b ∷ [])
-    ∙ ap (λ (s : Start). front ++ s ∷ b ∷ []) is_c
-    ∙ ap (λ (s : Start). front ++ c ∷ s ∷ []) is_d
+    ∙ ap (λ (s : OpenStart). front ++ s ∷ b ∷ []) is_c
+    ∙ ap (λ (s : OpenStart). front ++ c ∷ s ∷ []) is_d
 
 -- ---- shards that are closed
 
@@ -268,7 +268,7 @@ open_apart xs sh i closing x is open_now e =
 -- ---- the starts that are left
 
 -- the start is that of another shard
-abbrev is_other : ℕ → Start → Bool
+abbrev is_other : ℕ → OpenStart → Bool
 is_other k s = not (s.shard == k)
 
 kept_step : (k : ℕ) (b : Bool) (x : ShardState) (xs ys : List ShardState) → is_other k (own_start x) ≡ true → filter (is_other k) (map own_start xs) ≡ map own_start ys → filter (is_other k) (map own_start (cond b (x ∷ xs) xs)) ≡ map own_start (cond b (x ∷ ys) ys)

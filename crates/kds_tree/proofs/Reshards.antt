@@ -16,7 +16,7 @@ use Rattle.std.specs.List.{AllByRecursion, filter}
 use Rattle.std.specs.List.Sorted.{IsNonDecreasingBy, IsPermutation}
 use Rattle.std.proofs.lemmas.Bool.{and_parts}
 use Rattle.kds_tree.specs.Starts.{AreStarts, own_start, stays}
-use Rattle.kds_tree.specs.declared.start.Start.{Start}
+use Rattle.kds_tree.specs.declared.start.OpenStart.{OpenStart}
 use Rattle.kds_tree.proofs.OpenStarts.{reshaped, closes_one, closes_two}
 use Rattle.kds_tree.specs.Tree.{IsTree, IsWithinKeys, split_refusal, merge_refusal, answer_by, value_by}
 
@@ -173,7 +173,7 @@ closed_at (z ∷ zs) ys (suc i) x y closing at is = ap (λ ss. z ∷ ss) (closed
 
 -- the starts after a change: those of two shards are away, some others are there, and all are put in order
 abbrev pub StartsGo : List ShardState → ℕ → ℕ → List ShardState → List ShardState → Type 0
-StartsGo xs sh other born zs = IsTree xs → (ss more ts : List Start) → AreStarts ss xs → more ≡ filter (stays sh other) ss ++ map own_start born → IsPermutation more ts → IsNonDecreasingBy (λ (s : Start). s.key) ts → AreStarts ts zs
+StartsGo xs sh other born zs = IsTree xs → (ss more ts : List OpenStart) → AreStarts ss xs → more ≡ filter (stays sh other) ss ++ map own_start born → IsPermutation more ts → IsNonDecreasingBy (λ (s : OpenStart). s.key) ts → AreStarts ts zs
 
 answered : {A : Type 0} (o : Option Refusal) (x y : A) → Ok x ≡ answer_by o y → (o ≡ None) × (x ≡ y)
 answered None x y h = let e : x ≡ y = cc in (refl, e)

@@ -2,7 +2,7 @@
 use Rattle.std.specs.Prelude.{ℕ, ◌≡◌, refl, Option, Some, None}
 use Rattle.std.proofs.Common.{ap, ◌∙◌}
 use Rattle.kds_defs.specs.Shards.{ShardState, Closing, ending, shown}
-use Rattle.kds_tree.specs.declared.kept.Kept.TheInside.{Inside}
+use Rattle.kds_tree.specs.declared.kept.KeptShard.TheInside.{Inside}
 
 -- how the shard was closed, where it has an ending number and a moment
 abbrev pub closing_from : Option ℕ → Option ℕ → Option Closing

@@ -3,37 +3,37 @@ use Rattle.std.specs.Prelude.{ℕ, ◌≡◌, Bool, true, not, ◌==◌, ◌&&�
 use Rattle.std.specs.List.{All, Contains, filter}
 use Rattle.std.specs.List.Sorted.{IsNonDecreasingBy}
 use Rattle.kds_defs.specs.Shards.{ShardState, is_open}
-use Rattle.kds_tree.specs.declared.start.Start.{Start}
+use Rattle.kds_tree.specs.declared.start.OpenStart.{OpenStart}
 
 -- the shard is there and open, and its range starts at the key
-pub record IsStart (xs : List ShardState) (s : Start) : Type 0 where
+pub record IsStart (xs : List ShardState) (s : OpenStart) : Type 0 where
   pub state : ShardState
   pub made : slice_get xs s.shard ≡ Some state
   pub is_open_now : is_open state ≡ true
   pub begins : state.range.start ≡ s.key
 
 -- the start of the shard of this number
-abbrev pub start_of : ShardState → ℕ → Start
+abbrev pub start_of : ShardState → ℕ → OpenStart
 start_of x number = record { key = x.range.start; shard = number }
 
 -- those of the open shards, and no others
-pub record AreOf (ss : List Start) (xs : List ShardState) : Type 0 where
+pub record AreOf (ss : List OpenStart) (xs : List ShardState) : Type 0 where
   pub each : All (IsStart xs) ss
   pub whole : (number : ℕ) (x : ShardState) → slice_get xs number ≡ Some x → is_open x ≡ true → Contains ss (start_of x number)
 
 -- the starts of the open ones of some shards, in the order of these
-abbrev pub own_start : ShardState → Start
+abbrev pub own_start : ShardState → OpenStart
 own_start x = start_of x x.no
 
-abbrev pub open_starts : List ShardState → List Start
+abbrev pub open_starts : List ShardState → List OpenStart
 open_starts xs = map own_start (filter is_open xs)
 
 -- those of the open shards, each once, in order
-pub record AreStarts (ss : List Start) (xs : List ShardState) : Type 0 where
+pub record AreStarts (ss : List OpenStart) (xs : List ShardState) : Type 0 where
   pub of : AreOf ss xs
-  pub many : (p : Start → Bool) → length (filter p ss) ≡ length (filter p (open_starts xs))
-  pub order : IsNonDecreasingBy (λ (s : Start). s.key) ss
+  pub many : (p : OpenStart → Bool) → length (filter p ss) ≡ length (filter p (open_starts xs))
+  pub order : IsNonDecreasingBy (λ (s : OpenStart). s.key) ss
 
 -- the start is that of neither shard
-abbrev pub stays : ℕ → ℕ → Start → Bool
+abbrev pub stays : ℕ → ℕ → OpenStart → Bool
 stays shard other s = not (s.shard == shard) && not (s.shard == other)

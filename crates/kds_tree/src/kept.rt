@@ -6,19 +6,19 @@ ghost use Rattle.kds_defs.specs.Shards.{is_open, is_child, is_closed_below, new_
 ghost use Rattle.kds_defs.specs.Streams.{floor_of};
 ghost use Rattle.kds_tree.specs.Starts.{start_of};
 
-use crate::start::Start;
+use crate::start::OpenStart;
 use kds_base::{Moment, Range, Seq, ShardNo};
 use kds_defs::Shard;
 use std::marker::Model;
 
 /// A shard, and when it was closed. Contracts see all that is known of it.
 #[derive(Clone, Copy)]
-pub struct Kept {
+pub struct KeptShard {
     shard: Shard,
     closed: Option<Moment>,
 }
 
-impl Model for Kept {
+impl Model for KeptShard {
     ghost use Rattle.kds_defs.specs.Shards.{ShardState};
 
     ghost Value = { ShardState };
@@ -34,7 +34,7 @@ impl Model for Kept {
     ghost inverse_ok = { fields_back };
 }
 
-impl Kept {
+impl KeptShard {
     /// An open shard.
     pub fn new(
         no: ShardNo,
@@ -42,10 +42,10 @@ impl Kept {
         parent: Option<ShardNo>,
         adjacent: Option<ShardNo>,
         start: Seq,
-    ) -> Kept
+    ) -> KeptShard
         ensures { result ≡ new_shard no range parent adjacent start }
     {
-        Kept {
+        KeptShard {
             shard: Shard {
                 no,
                 range,
@@ -72,10 +72,10 @@ impl Kept {
     }
 
     /// Where its range starts.
-    pub fn start(&self) -> Start
+    pub fn start(&self) -> OpenStart
         ensures { result ≡ start_of self.now self.now.no }
     {
-        Start {
+        OpenStart {
             key: self.shard.range.start,
             shard: self.shard.no,
         }

@@ -14,8 +14,8 @@ ghost use Rattle.kds_defs.specs.Tiled.{AreNumbered, IsTiled};
 ghost use Rattle.kds_tree.specs.Starts.{AreStarts};
 ghost use Rattle.kds_tree.specs.Tree.{IsHome, IsWithinKeys, after_merge, after_split, answer_by, merge_refusal, split_parts, split_refusal, was_expired};
 
-use crate::kept::Kept;
-use crate::start::{Start, home_of, put_in_order, take_away};
+use crate::kept::KeptShard;
+use crate::start::{OpenStart, home_of, put_in_order, take_away};
 use kds_base::{Items, Memory, Moment, Range, Seq, ShardNo};
 use kds_defs::{Refusal, Shard};
 use std::alloc::Global;
@@ -26,9 +26,9 @@ use std::marker::Model;
 /// partition the hash keys.
 #[derive(Drop)]
 pub struct ShardTree {
-    shards: Vec<Kept>,
+    shards: Vec<KeptShard>,
     /// The starts of the open shards, in order.
-    starts: Vec<Start>,
+    starts: Vec<OpenStart>,
 }
 
 impl Model for ShardTree {
@@ -53,7 +53,7 @@ impl ShardTree {
         let ranges = Range::uniform(alloc, n)?;
         let mut shards = Vec::new(alloc);
         for (i, range) in ranges.as_slice().iter().enumerate() {
-            shards.push(Kept::new(ShardNo(i as u64), *range, None, None, Seq(1)))?;
+            shards.push(KeptShard::new(ShardNo(i as u64), *range, None, None, Seq(1)))?;
         }
         let starts = open_starts(alloc, &shards)?;
         Ok(ShardTree { shards, starts })
@@ -211,8 +211,8 @@ impl ShardTree {
         let low = ShardNo(self.len());
         let high = ShardNo(self.len() + 1);
         let start = Seq(seq.0 + 1);
-        let lower_child = Kept::new(low, lower, Some(shard), None, start);
-        let upper_child = Kept::new(high, upper, Some(shard), None, start);
+        let lower_child = KeptShard::new(low, lower, Some(shard), None, start);
+        let upper_child = KeptShard::new(high, upper, Some(shard), None, start);
         self.starts.reserve(2)?;
         self.shards.extend_from_slice(&[lower_child, upper_child])?;
         self.shards[shard.0 as usize].close(seq, clock);
@@ -277,7 +277,7 @@ impl ShardTree {
         };
         let child = ShardNo(self.len());
         let start = Seq(seq.0 + 1);
-        let born = Kept::new(child, range, Some(shard), Some(other), start);
+        let born = KeptShard::new(child, range, Some(shard), Some(other), start);
         self.starts.reserve(1)?;
         self.shards.push(born)?;
         self.shards[shard.0 as usize].close(seq, clock);
@@ -290,7 +290,7 @@ impl ShardTree {
 }
 
 /// The starts of the open ones of these shards, in order.
-fn open_starts(alloc: Global, shards: &[Kept]) -> Result<Vec<Start>, Memory>
+fn open_starts(alloc: Global, shards: &[KeptShard]) -> Result<Vec<OpenStart>, Memory>
     ensures { AreNumbered 0 shards.now → IfOk result (λ starts. AreStarts starts.items shards.now) }
 {
     let mut starts = Vec::new(alloc);
@@ -328,7 +328,7 @@ fn place_above(starts: &[u128], key: u128) -> usize
 }
 
 /// The shard of this number as it is shown.
-fn shown_at(shards: &[Kept], no: ShardNo) -> Option<&Shard>
+fn shown_at(shards: &[KeptShard], no: ShardNo) -> Option<&Shard>
     ensures { option_map (λ s. s.now) result ≡ option_map shown (slice_get shards.now no) }
 {
     shards.get(no.0 as usize).map(|kept| kept.shard())

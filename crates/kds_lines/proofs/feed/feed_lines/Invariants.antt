@@ -1,5 +1,5 @@
 use Rattle.std.proofs.Common.{◌≡◌, ◌+◌, ◌≤◌, List, ℕ, length, Option}
-use Rattle.kds_lines.specs.Reading.{Stands, FedLines, fed_count}
+use Rattle.kds_lines.specs.LineBuffer.{Stands, FedLines, fed_count}
 use Rattle.kds_lines.proofs.feed.feed_lines.Given as goal
 
 abbrev pub invariant-loop-at : goal.invariant-loop-at

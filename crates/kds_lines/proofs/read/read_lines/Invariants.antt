@@ -1,6 +1,6 @@
 use Rattle.std.proofs.Common.{◌-◌, ◌≤◌}
 use Rattle.kds_defs.specs.declared.limits.TheConstants.{INPUT_BYTES}
-use Rattle.kds_lines.specs.Reading.{Running, fed_count}
+use Rattle.kds_lines.specs.LineBuffer.{Running, fed_count}
 use Rattle.kds_lines.proofs.read.read_lines.Given as goal
 
 abbrev pub invariant-loop-reading : goal.invariant-loop-reading

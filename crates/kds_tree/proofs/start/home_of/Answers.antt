@@ -1,6 +1,6 @@
 use Rattle.std.proofs.Common.{◌≡◌, ◌-◌, ◌≤◌, length, get_or, leb, rules, arith}
 use Rattle.std.proofs.lemmas.List.Sorted.{IsPartitionPoint-from_clause, IsPartitionedBy-leb}
-use Rattle.kds_tree.specs.declared.start.Start.{Start}
+use Rattle.kds_tree.specs.declared.start.OpenStart.{OpenStart}
 use Rattle.kds_tree.proofs.HomeStarts.{found, some_start}
 use Rattle.kds_tree.proofs.start.home_of.Goals as goal
 
@@ -9,7 +9,7 @@ returns-in-Some c = λ xs tree starts.
     let ss = c.args.starts.now in
     let k = c.args.hash in
     let i = c.partition_point-after.result in
-    let point = IsPartitionPoint-from_clause (λ (s : Start). leb s.key k) ss i c.partition_point-after.ensures.partitioned (IsPartitionedBy-leb (λ (s : Start). s.key) ss k starts.order) (λ a r f' q. search rules) in
+    let point = IsPartitionPoint-from_clause (λ (s : OpenStart). leb s.key k) ss i c.partition_point-after.ensures.partitioned (IsPartitionedBy-leb (λ (s : OpenStart). s.key) ss k starts.order) (λ a r f' q. search rules) in
     let at : c.saturating_sub.result ≡ i - 1 = search rules in
     let is : c.in-Some.start.now ≡ get_or ss c.saturating_sub.result c.in-Some.start.now = search rules in
     let bound : i ≤ length ss = search rules in
@@ -21,7 +21,7 @@ returns-in-None c = λ xs tree starts.
     let ss = c.args.starts.now in
     let k = c.args.hash in
     let i = c.partition_point-after.result in
-    let point = IsPartitionPoint-from_clause (λ (s : Start). leb s.key k) ss i c.partition_point-after.ensures.partitioned (IsPartitionedBy-leb (λ (s : Start). s.key) ss k starts.order) (λ a r f' q. search rules) in
+    let point = IsPartitionPoint-from_clause (λ (s : OpenStart). leb s.key k) ss i c.partition_point-after.ensures.partitioned (IsPartitionedBy-leb (λ (s : OpenStart). s.key) ss k starts.order) (λ a r f' q. search rules) in
     let at : c.saturating_sub.result ≡ i - 1 = search rules in
     let bound : i ≤ length ss = search rules in
     let over : length ss ≤ c.saturating_sub.result = search rules in

@@ -3,7 +3,7 @@ use Rattle.std.specs.List.{filter}
 use Rattle.kds_defs.specs.Shards.{is_open, home_among}
 use Rattle.kds_tree.specs.Starts.{AreStarts}
 use Rattle.kds_tree.specs.Tree.{IsTree, TreeValue}
-use Rattle.kds_tree.specs.declared.start.Start.{Start}
+use Rattle.kds_tree.specs.declared.start.OpenStart.{OpenStart}
 use Rattle.kds_tree.proofs.Homes.{home_is, only_home}
 use Rattle.kds_tree.proofs.tree.ShardTree.home.Goals as goal
 
@@ -12,7 +12,7 @@ returns-clause-found c =
     let xs = c.args.self.now.shards in
     let tree : IsTree xs = subst IsTree (ap (λ (t : TreeValue). t.shards) c.self.view_is) c.self.invariant.0 in
     let starts : AreStarts c.self.inside.starts.items xs = subst (AreStarts c.self.inside.starts.items) (ap (λ (t : TreeValue). t.shards) c.self.view_is) c.self.invariant.1 in
-    c.home_of.ensures xs tree (subst (λ (ss : List Start). AreStarts ss xs) (sym c.deref.ensures.value) starts)
+    c.home_of.ensures xs tree (subst (λ (ss : List OpenStart). AreStarts ss xs) (sym c.deref.ensures.value) starts)
 
 pub returns-clause-value : goal.returns-clause-value
 returns-clause-value c =

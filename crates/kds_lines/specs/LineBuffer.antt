@@ -7,10 +7,10 @@ use Rattle.kds_lines.specs.Telling.{Unwritten}
 use Rattle.kds_lines.specs.Writing.{Wrote}
 use Rattle.kds_lines.specs.declared.outcome.Outcome.{Outcome}
 use Rattle.kds_lines.specs.declared.outcome.Outcome.TheVariants.{Stopped, TooLong, Read, Write, Memory}
-use Rattle.kds_lines.specs.declared.reading.Reading.{Reading}
+use Rattle.kds_lines.specs.declared.reading.LineBuffer.{LineBuffer}
 
 -- these bytes were fed: their whole lines were taken, and their output was written or waits
-pub record Stands (took : List (List ℕ) → Type 0) (output : List (List ℕ) → List ℕ) (fed : List ℕ) (reading : Reading) (start now : Option (List ℕ)) : Type 0 where
+pub record Stands (took : List (List ℕ) → Type 0) (output : List (List ℕ) → List ℕ) (fed : List ℕ) (reading : LineBuffer) (start now : Option (List ℕ)) : Type 0 where
   pub texts : List (List ℕ)
   pub bytes : Fed fed texts reading.used reading.held
   pub count : reading.count ≡ length texts
@@ -43,14 +43,14 @@ pub record Halted (outcome : Outcome) (took : List (List ℕ) → Type 0) (broke
   pub unwritten : Unwritten outcome missing
 
 -- A front of the piece was fed, and this is the rest.
-pub record FedLines (took : List (List ℕ) → Type 0) (output : List (List ℕ) → List ℕ) (fed piece rest : List ℕ) (reading : Reading) (start now : Option (List ℕ)) : Type 0 where
+pub record FedLines (took : List (List ℕ) → Type 0) (output : List (List ℕ) → List ℕ) (fed piece rest : List ℕ) (reading : LineBuffer) (start now : Option (List ℕ)) : Type 0 where
   pub front : List ℕ
   pub parts : piece ≡ front ++ rest
   pub stands : Stands took output (fed ++ front) reading start now
 
 -- ---- one step of a reading, whatever was fed before it, from what the taker took and the sink held to what they do now
 
-module _ (took took_now : List (List ℕ) → Type 0) (output : List (List ℕ) → List ℕ) (before after : Reading) (held now : Option (List ℕ)) where
+module _ (took took_now : List (List ℕ) → Type 0) (output : List (List ℕ) → List ℕ) (before after : LineBuffer) (held now : Option (List ℕ)) where
   -- these bytes are fed too
   abbrev pub Feeds : List ℕ → Type 0
   Feeds piece = (fed : List ℕ) (start : Option (List ℕ)) → Stands took output fed before start held → Stands took_now output (fed ++ piece) after start now
@@ -79,11 +79,11 @@ module _ (took took_now : List (List ℕ) → Type 0) (output : List (List ℕ) 
         → Halted outcome took_now broke refuses output (fed ++ (tail ++ 10 ∷ [])) after.output start now
 
 -- how many bytes were fed
-abbrev pub fed_count : Reading → ℕ
+abbrev pub fed_count : LineBuffer → ℕ
 fed_count reading = reading.used + length reading.held
 
 -- Some bytes were taken from the source and fed, and no output waits.
-pub record Running (took : List (List ℕ) → Type 0) (output : List (List ℕ) → List ℕ) (all left : Option (List ℕ)) (reading : Reading) (start now : Option (List ℕ)) : Type 0 where
+pub record Running (took : List (List ℕ) → Type 0) (output : List (List ℕ) → List ℕ) (all left : Option (List ℕ)) (reading : LineBuffer) (start now : Option (List ℕ)) : Type 0 where
   pub fed : List ℕ
   pub consumed : Consumes all left fed
   pub stands : Stands took output fed reading start now
@@ -98,10 +98,10 @@ pub record HaltedAfter (outcome : Outcome) (took : List (List ℕ) → Type 0) (
 -- ---- a read and all that follows from it, from what was left of the source to what is left now
 
 module _ (took took_now : List (List ℕ) → Type 0) (output : List (List ℕ) → List ℕ) (left left_now held now : Option (List ℕ)) where
-  abbrev pub RunsOn : Reading → Reading → Type 0
+  abbrev pub RunsOn : LineBuffer → LineBuffer → Type 0
   RunsOn before after = (all start : Option (List ℕ)) → Running took output all left before start held → Running took_now output all left_now after start now
 
-  abbrev pub StopsRunning : (List (List ℕ) → List ℕ → Type 0) → (List (List ℕ) → List ℕ → Type 0) → Outcome → Reading → Type 0
+  abbrev pub StopsRunning : (List (List ℕ) → List ℕ → Type 0) → (List (List ℕ) → List ℕ → Type 0) → Outcome → LineBuffer → Type 0
   StopsRunning broke refuses outcome before =
       (all start : Option (List ℕ)) → Running took output all left before start held → HaltedAfter outcome took_now broke refuses output all left_now start now
 
