@@ -26,26 +26,39 @@ if_object _ = Err (fault_of Serialization [])
 abbrev pub object_of : List ℕ → Result Data Fault
 object_of body = if_object (read_body body)
 
--- the operation of a name, if there is one (Kinesis API Reference, Actions; LocalEnforceLimits is this project's own)
+-- The operation of a name, if there is one (Kinesis API Reference, Actions; LocalEnforceLimits is this project's own), in the
+-- four parts in which the code asks for it.
+abbrev pub setting_named : List ℕ → Option Operation
+setting_named name =
+    if bytes_eq name (codes "IncreaseStreamRetentionPeriod") then Some op.IncreaseRetention
+    else if bytes_eq name (codes "DecreaseStreamRetentionPeriod") then Some op.DecreaseRetention
+    else if bytes_eq name (codes "UpdateShardCount") then Some op.UpdateShardCount
+    else if bytes_eq name (codes "LocalEnforceLimits") then Some op.EnforceLimits
+    else None
+
+abbrev pub writing_named : List ℕ → Option Operation
+writing_named name =
+    if bytes_eq name (codes "PutRecord") then Some op.PutRecord
+    else if bytes_eq name (codes "PutRecords") then Some op.PutRecords
+    else if bytes_eq name (codes "SplitShard") then Some op.SplitShard
+    else if bytes_eq name (codes "MergeShards") then Some op.MergeShards
+    else setting_named name
+
+abbrev pub reading_named : List ℕ → Option Operation
+reading_named name =
+    if bytes_eq name (codes "DescribeStreamSummary") then Some op.DescribeStreamSummary
+    else if bytes_eq name (codes "ListShards") then Some op.ListShards
+    else if bytes_eq name (codes "GetShardIterator") then Some op.GetShardIterator
+    else if bytes_eq name (codes "GetRecords") then Some op.GetRecords
+    else writing_named name
+
 abbrev pub operation_named : List ℕ → Option Operation
 operation_named name =
     if bytes_eq name (codes "CreateStream") then Some op.CreateStream
     else if bytes_eq name (codes "DeleteStream") then Some op.DeleteStream
     else if bytes_eq name (codes "ListStreams") then Some op.ListStreams
     else if bytes_eq name (codes "DescribeStream") then Some op.DescribeStream
-    else if bytes_eq name (codes "DescribeStreamSummary") then Some op.DescribeStreamSummary
-    else if bytes_eq name (codes "ListShards") then Some op.ListShards
-    else if bytes_eq name (codes "GetShardIterator") then Some op.GetShardIterator
-    else if bytes_eq name (codes "GetRecords") then Some op.GetRecords
-    else if bytes_eq name (codes "PutRecord") then Some op.PutRecord
-    else if bytes_eq name (codes "PutRecords") then Some op.PutRecords
-    else if bytes_eq name (codes "SplitShard") then Some op.SplitShard
-    else if bytes_eq name (codes "MergeShards") then Some op.MergeShards
-    else if bytes_eq name (codes "IncreaseStreamRetentionPeriod") then Some op.IncreaseRetention
-    else if bytes_eq name (codes "DecreaseStreamRetentionPeriod") then Some op.DecreaseRetention
-    else if bytes_eq name (codes "UpdateShardCount") then Some op.UpdateShardCount
-    else if bytes_eq name (codes "LocalEnforceLimits") then Some op.EnforceLimits
-    else None
+    else reading_named name
 
 -- what the members of an operation ask for
 abbrev pub members_of : Operation → Data → Result Command Fault

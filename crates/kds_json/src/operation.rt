@@ -1,6 +1,6 @@
 //! The operations and their names.
 ghost use Rattle.std.specs.Prelude.{◌≡◌};
-ghost use Rattle.kds_json.specs.Asked.{operation_named as named};
+ghost use Rattle.kds_json.specs.Asked.{operation_named as named, reading_named as reads, writing_named as writes, setting_named as sets};
 
 /// An operation (Kinesis API Reference, Actions).
 #[derive(Clone, Copy)]
@@ -24,6 +24,8 @@ pub enum Operation {
     EnforceLimits,
 }
 
+// One chain of sixteen tests takes the prover far longer than four of four.
+
 /// The operation of a name, if there is one.
 pub fn operation_named(name: &[u8]) -> Option<Operation>
     ensures { result ≡ named name.now }
@@ -36,7 +38,16 @@ pub fn operation_named(name: &[u8]) -> Option<Operation>
         Some(Operation::ListStreams)
     } else if name == b"DescribeStream".as_slice() {
         Some(Operation::DescribeStream)
-    } else if name == b"DescribeStreamSummary".as_slice() {
+    } else {
+        reading_named(name)
+    }
+}
+
+/// The operations that read a stream's shards and records, and those behind them.
+fn reading_named(name: &[u8]) -> Option<Operation>
+    ensures { result ≡ reads name.now }
+{
+    if name == b"DescribeStreamSummary".as_slice() {
         Some(Operation::DescribeStreamSummary)
     } else if name == b"ListShards".as_slice() {
         Some(Operation::ListShards)
@@ -44,7 +55,16 @@ pub fn operation_named(name: &[u8]) -> Option<Operation>
         Some(Operation::GetShardIterator)
     } else if name == b"GetRecords".as_slice() {
         Some(Operation::GetRecords)
-    } else if name == b"PutRecord".as_slice() {
+    } else {
+        writing_named(name)
+    }
+}
+
+/// The operations that write records and change shards, and those behind them.
+fn writing_named(name: &[u8]) -> Option<Operation>
+    ensures { result ≡ writes name.now }
+{
+    if name == b"PutRecord".as_slice() {
         Some(Operation::PutRecord)
     } else if name == b"PutRecords".as_slice() {
         Some(Operation::PutRecords)
@@ -52,7 +72,16 @@ pub fn operation_named(name: &[u8]) -> Option<Operation>
         Some(Operation::SplitShard)
     } else if name == b"MergeShards".as_slice() {
         Some(Operation::MergeShards)
-    } else if name == b"IncreaseStreamRetentionPeriod".as_slice() {
+    } else {
+        setting_named(name)
+    }
+}
+
+/// The operations that set a stream up.
+fn setting_named(name: &[u8]) -> Option<Operation>
+    ensures { result ≡ sets name.now }
+{
+    if name == b"IncreaseStreamRetentionPeriod".as_slice() {
         Some(Operation::IncreaseRetention)
     } else if name == b"DecreaseStreamRetentionPeriod".as_slice() {
         Some(Operation::DecreaseRetention)
