@@ -1,52 +1,11 @@
 //! The names of rules, and the lines that tell what an audit found.
 ghost use Rattle.std.specs.Prelude.{◌≡◌, ◌++◌, OnErr, OnOk};
-ghost use Rattle.kcl_script_fields.specs.Answers.{refusal_name as name_of};
 ghost use Rattle.kcl_audit.specs.Text.{named_text, rule_name as name_of_rule, sound_text};
 
 use kcl_audit_streams::Rule;
-use kcl_script_fields::with_number;
+use kcl_script_fields::{refusal_name, with_number};
 use kds_base::{Memory, Octets};
-use kds_defs::Refusal;
 use std::alloc::Global;
-
-/// The name of a refusal, without its value.
-fn refusal_name(refusal: &Refusal) -> &'static str
-    ensures { result.now ≡ name_of refusal.now }
-{
-    match refusal {
-        Refusal::NoStream => "NoStream",
-        Refusal::StreamThere => "StreamThere",
-        Refusal::NoShard => "NoShard",
-        Refusal::ShardClosed => "ShardClosed",
-        Refusal::NotAdjacent => "NotAdjacent",
-        Refusal::BadSplit => "BadSplit",
-        Refusal::BadNumber => "BadNumber",
-        Refusal::BadRetention => "BadRetention",
-        Refusal::Expired => "Expired",
-        Refusal::PageExpired => "PageExpired",
-        Refusal::Full => "Full",
-        Refusal::Spent => "Spent",
-        Refusal::Throttled(_) => "Throttled",
-        Refusal::NoLease => "NoLease",
-        Refusal::NoTenure => "NoTenure",
-        Refusal::NotYours => "NotYours",
-        Refusal::Lost(_) => "Lost",
-        Refusal::Moved(_) => "Moved",
-        Refusal::Ended => "Ended",
-        Refusal::Beyond(_) => "Beyond",
-        Refusal::Below(_) => "Below",
-        Refusal::NotAtEnd => "NotAtEnd",
-        Refusal::ParentsOpen(_) => "ParentsOpen",
-        Refusal::NotOpened => "NotOpened",
-        Refusal::OpenedBefore => "OpenedBefore",
-        Refusal::NothingPending => "NothingPending",
-        Refusal::TooManyPending => "TooManyPending",
-        Refusal::OutOfPlace(_) => "OutOfPlace",
-        Refusal::ShardGone => "ShardGone",
-        Refusal::LeaseThere => "LeaseThere",
-        Refusal::ShardListed => "ShardListed",
-    }
-}
 
 /// The name of a rule as an audit tells it; of a refusal, without its value.
 pub fn rule_name(rule: &Rule) -> &'static str

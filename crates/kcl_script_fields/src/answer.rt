@@ -158,7 +158,8 @@ fn fill_reply(alloc: Global, reply: &Reply, long: bool, to: &mut Octets) -> Resu
     }
 }
 
-fn refusal_name(refusal: &Refusal) -> &'static str
+/// The name of a refusal, without its value, as schedules and audits spell it.
+pub fn refusal_name(refusal: &Refusal) -> &'static str
     ensures { result.now ≡ name_of refusal.now }
 {
     match refusal {
