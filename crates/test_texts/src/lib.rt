@@ -1,5 +1,5 @@
-//! Tests of the texts of schedules and journals, of recorders, scribes and audits, of what no schedule reaches. They stand
-//! apart, so that no crate is proved a second time beside its tests.
+//! Tests of texts, of what no schedule reaches: those of schedules and journals, of recorders, scribes and audits, and the words
+//! of the command line. They stand apart, so that no crate is proved a second time beside its tests.
 #![tactic(auto)]
 
 #[cfg(test)]
@@ -12,3 +12,5 @@ mod lines;
 mod records;
 #[cfg(test)]
 mod scribes;
+#[cfg(test)]
+mod words;

@@ -1,0 +1,11 @@
+//! What tests run on: runs over ends in memory, and what a run leaves behind.
+
+mod cases;
+mod left;
+mod rows;
+mod runs;
+
+pub use cases::Case;
+pub use left::Left;
+pub use rows::{Row, first_other};
+pub use runs::{Run, run_on};

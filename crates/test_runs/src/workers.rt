@@ -1,0 +1,235 @@
+//! Worked rows of workers in schedules, and what each writes.
+use crate::harness::{Row, Run, first_other};
+use std::test::Fail;
+
+/// A worker, and its restart beside it, which takes the row over: the mark of the first is refused.
+const RESTART: Row = (
+    r#"3000 api CreateStream {"StreamName":"s","ShardCount":1}
+3000 api PutRecord {"StreamName":"s","Data":"aGk=","PartitionKey":"a"}
+3000 api PutRecord {"StreamName":"s","Data":"","PartitionKey":"abc"}
+3000 worker w1 tally
+3000 step 1000
+3000 step 1000
+3000 step 1000
+3000 step 1000
+3000 step 1000
+3000 step 1000
+3000 step 1000
+3000 step 1000
+3000 step 1000
+3000 step 1000
+3000 worker w1 tally
+3000 step 1001
+3000 step 1001
+3000 step 1000
+3000 step 7
+"#,
+    0,
+    r#"200
+200 {"SequenceNumber":"1","ShardId":"shardId-000000000000"}
+200 {"SequenceNumber":"2","ShardId":"shardId-000000000000"}
+worker 1000
+survey = ok 1 0
+make 1/0 = ok
+survey = ok 1 1
+take 1/0 0 w1 = ok tenure 1 counter 1 start TRIM_HORIZON
+open 1 = ok
+survey = ok 1 1
+read 1 0 1000 = ok reach 3 more 1 2
+survey = ok 1 1
+give 1 = ok delivered 3
+survey = ok 1 1
+worker 1001
+survey = ok 1 1
+take 1/0 1 w1 = ok tenure 2 counter 2 start TRIM_HORIZON
+mark 1 1 2 = refused Lost 2
+none
+"#,
+    "",
+);
+
+/// A processor that asks for the first number of its batch: the worker's eleventh step marks it.
+const FIRST_NUMBER: Row = (
+    r#"3000 api CreateStream {"StreamName":"s","ShardCount":1}
+3000 api PutRecord {"StreamName":"s","Data":"aGk=","PartitionKey":"a"}
+3000 api PutRecord {"StreamName":"s","Data":"","PartitionKey":"abc"}
+3000 worker w1 lines
+3000 step 1000
+3000 step 1000
+3000 step 1000
+3000 step 1000
+3000 step 1000
+3000 step 1000
+3000 step 1000
+3000 step 1000
+3000 step 1000
+3000 step 1000
+3000 step 1000
+"#,
+    0,
+    r#"200
+200 {"SequenceNumber":"1","ShardId":"shardId-000000000000"}
+200 {"SequenceNumber":"2","ShardId":"shardId-000000000000"}
+worker 1000
+survey = ok 1 0
+make 1/0 = ok
+survey = ok 1 1
+take 1/0 0 w1 = ok tenure 1 counter 1 start TRIM_HORIZON
+open 1 = ok
+survey = ok 1 1
+read 1 0 1000 = ok reach 3 more 1 2
+survey = ok 1 1
+give 1 = ok delivered 3
+survey = ok 1 1
+mark 1 1 1 = ok counter 2
+"#,
+    "",
+);
+
+/// A processor of user records, where the second record is an aggregate of two of them: all but the last are done, so the
+/// worker's eleventh step marks the record before.
+const USER_RECORDS: Row = (
+    r#"3000 api CreateStream {"StreamName":"s","ShardCount":1}
+3000 api PutRecord {"StreamName":"s","Data":"aGk=","PartitionKey":"a"}
+3000 api PutRecord {"StreamName":"s","Data":"84mawgoBYQoBYhIBNRoGCAAaAmhpGggIARAAGgJ5b6p0rTCTYKXGBNMY5vYP+w8=","PartitionKey":"abc"}
+3000 worker w1 users
+3000 step 1000
+3000 step 1000
+3000 step 1000
+3000 step 1000
+3000 step 1000
+3000 step 1000
+3000 step 1000
+3000 step 1000
+3000 step 1000
+3000 step 1000
+3000 step 1000
+"#,
+    0,
+    r#"200
+200 {"SequenceNumber":"1","ShardId":"shardId-000000000000"}
+200 {"SequenceNumber":"2","ShardId":"shardId-000000000000"}
+worker 1000
+survey = ok 1 0
+make 1/0 = ok
+survey = ok 1 1
+take 1/0 0 w1 = ok tenure 1 counter 1 start TRIM_HORIZON
+open 1 = ok
+survey = ok 1 1
+read 1 0 1000 = ok reach 3 more 1 2
+survey = ok 1 1
+give 1 = ok delivered 3
+survey = ok 1 1
+mark 1 1 1 = ok counter 2
+"#,
+    "",
+);
+
+/// A worker that is stopped frees its lease, and is idle then. Who has no worker is told so.
+const STOPPED: Row = (
+    r#"3000 api CreateStream {"StreamName":"s","ShardCount":1}
+3000 api PutRecord {"StreamName":"s","Data":"aGk=","PartitionKey":"a"}
+3000 api PutRecord {"StreamName":"s","Data":"","PartitionKey":"abc"}
+3000 worker w1 tally
+3000 step 1000
+3000 step 1000
+3000 step 1000
+3000 step 1000
+3000 step 1000
+3000 step 1000
+3000 step 1000
+3000 step 1000
+3000 step 1000
+3000 step 1000
+3000 stop 1000
+3000 step 1000
+3000 step 1000
+3000 step 1000
+3000 stop 1000
+3000 stop 1001
+3000 stop 0
+3000 step 1001
+3000 step 999
+3000 step 4294967295
+3000 raw 1 rows
+"#,
+    0,
+    r#"200
+200 {"SequenceNumber":"1","ShardId":"shardId-000000000000"}
+200 {"SequenceNumber":"2","ShardId":"shardId-000000000000"}
+worker 1000
+survey = ok 1 0
+make 1/0 = ok
+survey = ok 1 1
+take 1/0 0 w1 = ok tenure 1 counter 1 start TRIM_HORIZON
+open 1 = ok
+survey = ok 1 1
+read 1 0 1000 = ok reach 3 more 1 2
+survey = ok 1 1
+give 1 = ok delivered 3
+survey = ok 1 1
+stopping
+free 1 1 = ok counter 2
+idle
+idle
+stopping
+none
+none
+none
+none
+none
+ok 1 1/0 - 2 TRIM_HORIZON 0
+"#,
+    "",
+);
+
+/// A worker whose rows begin at LATEST reads what is put after its row was made.
+const AT_LATEST: Row = (
+    r#"3000 api CreateStream {"StreamName":"s","ShardCount":1}
+3000 api PutRecord {"StreamName":"s","Data":"aGk=","PartitionKey":"a"}
+3000 api PutRecord {"StreamName":"s","Data":"","PartitionKey":"abc"}
+3000 worker w1 tally latest
+3000 step 1000
+3000 step 1000
+3000 step 1000
+3000 step 1000
+3000 step 1000
+3000 step 1000
+3000 step 1000
+3000 step 1000
+3000 step 1000
+3000 step 1000
+3000 api PutRecord {"StreamName":"s","Data":"eA==","PartitionKey":"a"}
+3000 step 1000
+3000 step 1000
+3000 step 1000
+"#,
+    0,
+    r#"200
+200 {"SequenceNumber":"1","ShardId":"shardId-000000000000"}
+200 {"SequenceNumber":"2","ShardId":"shardId-000000000000"}
+worker 1000
+survey = ok 1 0
+make 1/0 latest = ok
+survey = ok 1 1
+take 1/0 0 w1 = ok tenure 1 counter 1 start 2
+open 1 = ok
+survey = ok 1 1
+read 1 3 1000 = ok reach 3 more
+survey = ok 1 1
+give 1 = ok delivered 3
+survey = ok 1 1
+200 {"SequenceNumber":"3","ShardId":"shardId-000000000000"}
+read 1 3 1000 = ok reach 4 more 3
+survey = ok 1 1
+give 1 = ok delivered 4
+"#,
+    "",
+);
+
+#[test]
+fn workers(rt: HostRuntime) -> Result<(), Fail> {
+    let rows = [RESTART, FIRST_NUMBER, USER_RECORDS, STOPPED, AT_LATEST];
+    assert_eq!(rt; first_other(rt.alloc(), Run::Replay, &rows, &[4096])?, None);
+    Ok(())
+}
