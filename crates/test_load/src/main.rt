@@ -1,15 +1,24 @@
-//! Many passes of a hall at once, over the machine that the server has: `test_stress PASSES ROUNDS`. Each pass makes a
-//! turn and then two a round, and the program prints how many turns the closed history has and whether each pass's records are
-//! there once and in order. Before that it shows a note between two passes, and a turn of each of four. `rt run -- 64 30000` makes 3,840,064 turns.
+//! Many passes of a hall at once, over the machine that the server has: `test_load PASSES ROUNDS`. Each pass makes a turn and
+//! then two a round, and the program prints how many turns the closed history has and whether each pass's records are there once
+//! and in order. Before that it shows a note between two passes, and a turn of each of four. `rt run -- 64 30000` makes
+//! 3,840,064 turns.
 #![tactic(auto)]
 
 ghost use Rattle.std.specs.Prelude.{◌≤◌, IfSome};
 
+mod checking;
+mod commands;
+mod joining;
+mod play;
+mod relaying;
+mod running;
+
 use kcl_world::World;
 use kds_base::read_u64;
+use relaying::{Relayed, relay};
+use running::{Outcome, run};
 use std::process::ExitCode;
 use std::{env, io};
-use test_load::{Outcome, Relayed, relay, run};
 
 /// The number of a word, where it is one from 1 to the greatest.
 fn number(word: Option<String>, most: u64) -> Option<u32>
@@ -68,7 +77,7 @@ fn show_relayed(rt: &HostRuntime, relayed: Relayed) -> io::Result<()> {
 
 fn main(rt: HostRuntime) -> io::Result<ExitCode> {
     let Some((passes, rounds)) = given(&rt) else {
-        println!(rt; "usage: test_stress PASSES ROUNDS")?;
+        println!(rt; "usage: test_load PASSES ROUNDS")?;
         return Ok(ExitCode::from(2));
     };
     let alloc = rt.alloc();
