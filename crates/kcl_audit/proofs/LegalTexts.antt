@@ -1,5 +1,6 @@
 -- The text of a legal journal is found sound, unless a length in it is too great.
-use Rattle.std.proofs.Common.{◌≡◌, ◌⊎◌, ℕ, ◌+◌, ◌≤◌, ◌<◌, ◌^◌, Bool, true, false, cond, List, [], ◌∷◌, ◌++◌, length, map, Option, Some, None, refl, sym, ap, subst, ◌∙◌, arith, inl, inr}
+use Rattle.std.proofs.Common.{◌≡◌, ◌⊎◌, ℕ, ◌+◌, ◌≤◌, ◌<◌, ◌^◌, Bool, true, false, cond, List, [], ◌∷◌, ◌++◌, length, map, Option, Some, None, refl, sym, ap}
+use Rattle.std.proofs.Common.{subst, ◌∙◌, arith, inl, inr}
 use Rattle.std.specs.Prelude.{◌≢◌, nat_lt, flat_map, if◌then◌else◌, Ok, Err}
 use Rattle.std.specs.List.{AllByRecursion, onto_first}
 use Rattle.std.specs.Str.{bytes_eq}
@@ -17,7 +18,8 @@ use Rattle.kcl_journal.specs.Entries.{IsVersion, end_of, end_spelling, entry_of,
 use Rattle.kcl_journal.specs.Ranges.{IsEntryLine}
 use Rattle.kcl_audit_streams.specs.declared.rule.Rule.TheVariants as rule
 use Rattle.kcl_audit_streams.specs.Verdict.{verdict}
-use Rattle.kcl_audit.specs.Progress.{AuditEnd, Progress, after_end, after_entry, after_line, after_other, audit_of, behind_end, closed, finish, found, fresh, going, line_of, line_step, next, over, progress, progress_from, sound, step, without_end}
+use Rattle.kcl_audit.specs.Progress.{AuditEnd, Progress, after_end, after_entry, after_line, after_other, audit_of, behind_end, closed, finish, found}
+use Rattle.kcl_audit.specs.Progress.{fresh, going, line_of, line_step, next, over, progress, progress_from, sound, step, without_end}
 use Rattle.kcl_audit.specs.Text.{IsJournal, counted, entries_text, journal_of, with_feed}
 use Rattle.kcl_audit.proofs.SoundTexts.{lines_are}
 
@@ -38,12 +40,14 @@ pieces_line [] z lacks = slice_split-cons_yes is_feed 10 z refl
 pieces_line (b ∷ bs) z lacks = slice_split-cons_no is_feed b (bs ++ 10 ∷ z) lacks.0 ∙ ap (onto_first b) (pieces_line bs z lacks.1)
 
 lined_cut : (used : ℕ) (text : List ℕ) (ps : List (List ℕ)) → (ps ≡ [] → ⊥)
-    → lined_from used (text ∷ ps) ≡ (if is_over (length text) (used + length text + 1) then ended too_long else preceded text (lined_from (used + length text + 1) ps))
+    → lined_from used (text ∷ ps) ≡ (if is_over (length text) (used + length text + 1) then ended too_long else preceded text
+    (lined_from (used + length text + 1) ps))
 lined_cut used text [] there = absurd (there refl)
 lined_cut used text (q ∷ qs) there = refl
 
 lined_line : (used : ℕ) (text z : List ℕ) → Lacks 10 text
-    → lined_from used (pieces (text ++ 10 ∷ z)) ≡ (if is_over (length text) (used + length text + 1) then ended too_long else preceded text (lined_from (used + length text + 1) (pieces z)))
+    → lined_from used (pieces (text ++ 10 ∷ z)) ≡ (if is_over (length text) (used + length text + 1) then ended too_long else preceded text
+    (lined_from (used + length text + 1) (pieces z)))
 lined_line used text z lacks = ap (lined_from used) (pieces_line text z lacks) ∙ lined_cut used text (pieces z) (pieces_there z)
 
 -- ---- how an audit ends that came so far
@@ -153,9 +157,11 @@ module _ (again : (v : ℕ) (line : EntryLine) → IsEntryLine v line → entry_
       let goes =
       steps (entry_spelling v e) (λ no none. is_there (entry_of v (entry_spelling v e)) e read no)
       ∙ entry_step v log count e lines.0 (good_first (line_of e) (map line_of es) log legal) in
-      let later = rest_ends v (line_of e ∷ log) (next count) es end (going v (line_of e ∷ log) (next count)) in_time lines.1 legal order refl (λ text is. refl) in
+      let later = rest_ends v (line_of e ∷ log) (next count) es end (going v (line_of e ∷ log) (next count)) in_time lines.1 legal order refl
+      (λ text is. refl) in
       subst (λ z. Ends p z (counted (next count) es)) (sym (rest_cons v e es end)) (
-      past p (entry_spelling v e) (rest_text v es end) (counted (next count) es) stops (one_line v e lines.0) (subst (λ q. Ends q (rest_text v es end) (counted (next count) es)) (sym goes) later))
+      past p (entry_spelling v e) (rest_text v es end) (counted (next count) es) stops (one_line v e lines.0)
+      (subst (λ q. Ends q (rest_text v es end) (counted (next count) es)) (sym goes) later))
 
   fresh_by : (text : List ℕ) (b : Bool) → bytes_eq text heading ≡ b → IsTold FIRST_VERSION text
       → (if b then going VERSION [] 0 else line_step FIRST_VERSION [] 0 text) ≡ line_step FIRST_VERSION [] 0 text
@@ -165,7 +171,8 @@ module _ (again : (v : ℕ) (line : EntryLine) → IsEntryLine v line → entry_
   fresh_by text false is told = refl
 
   first_ends : (es : List EntryLine) (end : ℕ) → end < 2 ^ 62 → AllByRecursion (IsEntryLine FIRST_VERSION) es
-      → IsLegal (with_lines (map line_of es) []) → last_clock (with_lines (map line_of es) []) ≤ end → Ends fresh (entries_text FIRST_VERSION es end) (counted 0 es)
+      → IsLegal (with_lines (map line_of es) []) → last_clock (with_lines (map line_of es) []) ≤ end
+      → Ends fresh (entries_text FIRST_VERSION es end) (counted 0 es)
   first_ends es end in_time lines legal order =
       rest_ends FIRST_VERSION [] 0 es end fresh in_time lines legal order refl (λ text told. fresh_by text (bytes_eq text heading) refl told)
 
@@ -189,5 +196,7 @@ module _ (again : (v : ℕ) (line : EntryLine) → IsEntryLine v line → entry_
   pub legal_text : (bytes : List ℕ) (n : ℕ) → IsJournal bytes n → audit_of bytes ≢ over → audit_of bytes ≡ sound n
   legal_text bytes n j not_over =
       let its : journal_of j.entries ≡ with_lines (map line_of j.entries) [] = sym (lines_are (map line_of j.entries) [] ∙ append-nil (journal_of j.entries)) in
-      let fine = version_ends j.version j.entries j.end j.is_version j.in_time j.lines (subst IsLegal its j.legal) (subst (λ log. last_clock log ≤ j.end) its j.order) 0 in
-      fine_so n (audit_of bytes) (subst (λ z. IsFine n (audit_of z)) (sym j.text) (subst (λ m. IsFine m (audit_of (entries_text j.version j.entries j.end))) (sym j.many) fine)) not_over
+      let fine = version_ends j.version j.entries j.end j.is_version j.in_time j.lines (subst IsLegal its j.legal)
+      (subst (λ log. last_clock log ≤ j.end) its j.order) 0 in
+      fine_so n (audit_of bytes) (subst (λ z. IsFine n (audit_of z)) (sym j.text)
+      (subst (λ m. IsFine m (audit_of (entries_text j.version j.entries j.end))) (sym j.many) fine)) not_over

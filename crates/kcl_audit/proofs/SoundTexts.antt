@@ -1,5 +1,6 @@
 -- A text whose audit is sound is that of a legal journal.
-use Rattle.std.proofs.Common.{◌≡◌, ℕ, ◌+◌, ◌≤◌, ◌<◌, ◌^◌, Bool, true, false, List, [], ◌∷◌, ◌++◌, length, map, Option, Some, None, refl, sym, ap, subst, ◌∙◌, arith, inl, inr}
+use Rattle.std.proofs.Common.{◌≡◌, ℕ, ◌+◌, ◌≤◌, ◌<◌, ◌^◌, Bool, true, false, List, [], ◌∷◌, ◌++◌, length, map, Option, Some, None, refl, sym, ap, subst}
+use Rattle.std.proofs.Common.{◌∙◌, arith, inl, inr}
 use Rattle.std.specs.Prelude.{nat_lt, reverse, flat_map, if◌then◌else◌, Ok, Err}
 use Rattle.std.specs.List.{AllByRecursion, join_with_byte}
 use Rattle.std.specs.Str.{bytes_eq}
@@ -19,7 +20,8 @@ use Rattle.kcl_journal.specs.Ranges.{IsEntryLine}
 use Rattle.kcl_audit_streams.specs.declared.rule.Rule.{Rule}
 use Rattle.kcl_audit_streams.specs.declared.rule.Rule.TheVariants as rule
 use Rattle.kcl_audit_streams.specs.Verdict.{IsFit, Verdict, verdict}
-use Rattle.kcl_audit.specs.Progress.{Progress, after_end, after_entry, after_line, after_other, audit_of, behind_end, closed, finish, found, fresh, going, line_of, next, progress, progress_from, sound, step, without_end}
+use Rattle.kcl_audit.specs.Progress.{Progress, after_end, after_entry, after_line, after_other, audit_of, behind_end, closed, finish, found, fresh, going}
+use Rattle.kcl_audit.specs.Progress.{line_of, next, progress, progress_from, sound, step, without_end}
 use Rattle.kcl_audit.specs.Text.{IsJournal, counted, heading_text, journal_of, with_feed}
 use Rattle.kcl_audit.proofs.Fits.{tellable_fit}
 
@@ -37,7 +39,8 @@ last_whole used [] h = refl
 last_whole used (b ∷ bs) h = absurd (by_over (is_over (length (b ∷ bs)) (used + length (b ∷ bs))) h)
 
 over_whole : (b : Bool) (piece rest : List ℕ) (later : Lined) → (later.end ≡ whole → rest ≡ lines_text later.texts)
-    → (if b then ended too_long else preceded piece later).end ≡ whole → piece ++ 10 ∷ rest ≡ lines_text (if b then ended too_long else preceded piece later).texts
+    → (if b then ended too_long else preceded piece later).end ≡ whole
+    → piece ++ 10 ∷ rest ≡ lines_text (if b then ended too_long else preceded piece later).texts
 over_whole true piece rest later go h = absurd cc
 over_whole false piece rest later go h = ap (λ r. piece ++ 10 ∷ r) (go h) ∙ sym (append_assoc piece (10 ∷ []) (lines_text later.texts))
 
@@ -45,7 +48,8 @@ whole_from : (used : ℕ) (ps : List (List ℕ)) → (lined_from used ps).end �
 whole_from used [] h = refl
 whole_from used (piece ∷ []) h = last_whole used piece h
 whole_from used (piece ∷ another ∷ more) h =
-    over_whole (is_over (length piece) (used + length piece + 1)) piece (join_with_byte 10 (another ∷ more)) (lined_from (used + length piece + 1) (another ∷ more)) (
+    over_whole (is_over (length piece) (used + length piece + 1)) piece (join_with_byte 10 (another ∷ more))
+    (lined_from (used + length piece + 1) (another ∷ more)) (
     whole_from (used + length piece + 1) (another ∷ more)) h
 
 pub whole_text : (bytes : List ℕ) → (lined bytes).end ≡ whole → bytes ≡ lines_text (lined bytes).texts
@@ -97,7 +101,8 @@ lines_are (x ∷ xs) log = lines_are xs (x ∷ log) ∙ sym (append_assoc (rever
 module _ (reads : (v : ℕ) (text : List ℕ) (line : EntryLine) → entry_of v text ≡ Some line → IsEntryLine v line × (text ≡ entry_spelling v line))
     (end_reads : (text : List ℕ) (clock : ℕ) → end_of text ≡ Some clock → (clock < 2 ^ 62) × (text ≡ end_spelling clock))
     (ok : (log : Journal) (c by : ℕ) (what : Entry) → IsFit what → verdict log (entry_line c by what) ≡ Ok tt → IsGood log (entry_line c by what)) where
-  entry_sound : (v : ℕ) (log : Journal) (count : ℕ) (text : List ℕ) (texts : List (List ℕ)) (n : ℕ) (e : EntryLine) (x : Verdict) → entry_of v text ≡ Some e → verdict log (line_of e) ≡ x → IsLegal log
+  entry_sound : (v : ℕ) (log : Journal) (count : ℕ) (text : List ℕ) (texts : List (List ℕ)) (n : ℕ) (e : EntryLine) (x : Verdict) → entry_of v text ≡ Some e
+      → verdict log (line_of e) ≡ x → IsLegal log
       → ((log' : Journal) (count' : ℕ) → IsLegal log' → progress_from (going v log' count') texts ≡ closed n → AreSound v log' count' texts n)
       → progress_from (after_entry v log count e x) texts ≡ closed n → AreSound v log count (text ∷ texts) n
   entry_sound v log count text texts n e (Ok u) read is legal later h =
@@ -118,7 +123,8 @@ module _ (reads : (v : ℕ) (text : List ℕ) (line : EntryLine) → entry_of v 
       }
   entry_sound v log count text texts n e (Err r) read is legal later h = absurd (found_stays (next count) r texts n h)
 
-  end_sound : (v : ℕ) (log : Journal) (count : ℕ) (text : List ℕ) (texts : List (List ℕ)) (n c : ℕ) (b : Bool) → end_of text ≡ Some c → nat_lt c (last_clock log) ≡ b → IsLegal log
+  end_sound : (v : ℕ) (log : Journal) (count : ℕ) (text : List ℕ) (texts : List (List ℕ)) (n c : ℕ) (b : Bool) → end_of text ≡ Some c
+      → nat_lt c (last_clock log) ≡ b → IsLegal log
       → progress_from (after_end count (if b then Err rule.Clock else Ok tt)) texts ≡ closed n → AreSound v log count (text ∷ texts) n
   end_sound v log count text texts n c true read is legal h = absurd (found_stays (next count) rule.Clock texts n h)
   end_sound v log count text texts n c false read is legal h =
@@ -148,14 +154,18 @@ module _ (reads : (v : ℕ) (text : List ℕ) (line : EntryLine) → entry_of v 
   line_sound v log count text texts n None read legal later h = other_sound v log count text texts n (end_of text) refl legal h
   line_sound v log count text texts n (Some e) read legal later h = entry_sound v log count text texts n e (verdict log (line_of e)) read refl legal later h
 
-  sound_from : (v : ℕ) (log : Journal) (count : ℕ) (texts : List (List ℕ)) (n : ℕ) → IsLegal log → progress_from (going v log count) texts ≡ closed n → AreSound v log count texts n
+  sound_from : (v : ℕ) (log : Journal) (count : ℕ) (texts : List (List ℕ)) (n : ℕ) → IsLegal log → progress_from (going v log count) texts ≡ closed n
+      → AreSound v log count texts n
   sound_from v log count [] n legal h = absurd cc
-  sound_from v log count (t ∷ ts) n legal h = line_sound v log count t ts n (entry_of v t) refl legal (λ log' count' legal' h'. sound_from v log' count' ts n legal' h') h
+  sound_from v log count (t ∷ ts) n legal h = line_sound v log count t ts n (entry_of v t) refl legal
+      (λ log' count' legal' h'. sound_from v log' count' ts n legal' h') h
 
   -- the journal, by the version of its text
-  journal_by : (bytes : List ℕ) (n v : ℕ) (texts : List (List ℕ)) → IsVersion v → AreSound v [] 0 texts n → bytes ≡ heading_text v ++ lines_text texts → IsJournal bytes n
+  journal_by : (bytes : List ℕ) (n v : ℕ) (texts : List (List ℕ)) → IsVersion v → AreSound v [] 0 texts n → bytes ≡ heading_text v ++ lines_text texts
+      → IsJournal bytes n
   journal_by bytes n v texts version s is =
-      let its : with_lines (map line_of s.entries) [] ≡ journal_of s.entries = lines_are (map line_of s.entries) [] ∙ append-nil (reverse (map line_of s.entries)) in
+      let its : with_lines (map line_of s.entries) [] ≡ journal_of s.entries = lines_are (map line_of s.entries) [] ∙ append-nil
+      (reverse (map line_of s.entries)) in
       record {
         version = v;
         entries = s.entries;
@@ -172,7 +182,8 @@ module _ (reads : (v : ℕ) (text : List ℕ) (line : EntryLine) → entry_of v 
   first_by : (bytes : List ℕ) (n : ℕ) (t : List ℕ) (ts : List (List ℕ)) (b : Bool) → bytes_eq t heading ≡ b → bytes ≡ lines_text (t ∷ ts)
       → progress_from (if b then going VERSION [] 0 else step (going FIRST_VERSION [] 0) t) ts ≡ closed n → IsJournal bytes n
   first_by bytes n t ts true is text h =
-      journal_by bytes n VERSION ts (inr refl) (sound_from VERSION [] 0 ts n tt h) (text ∙ ap (λ x. with_feed x ++ lines_text ts) ((bytes_eq-Decides t heading).0 is))
+      journal_by bytes n VERSION ts (inr refl) (sound_from VERSION [] 0 ts n tt h)
+      (text ∙ ap (λ x. with_feed x ++ lines_text ts) ((bytes_eq-Decides t heading).0 is))
   first_by bytes n t ts false is text h = journal_by bytes n FIRST_VERSION (t ∷ ts) (inl refl) (sound_from FIRST_VERSION [] 0 (t ∷ ts) n tt h) text
 
   fresh_by : (bytes : List ℕ) (n : ℕ) (texts : List (List ℕ)) → bytes ≡ lines_text texts → progress_from fresh texts ≡ closed n → IsJournal bytes n

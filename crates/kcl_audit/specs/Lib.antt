@@ -1,2 +1,4 @@
+pub mod Audited
 pub mod Progress
+pub mod Stages
 pub mod Text

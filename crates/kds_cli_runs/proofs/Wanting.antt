@@ -6,7 +6,7 @@ use Rattle.kds_defs.specs.declared.command.Turn.{Turn}
 use Rattle.kds_defs.specs.Histories.{journal, clock}
 use Rattle.kds_defs.specs.Lawful.{IsHistory}
 use Rattle.kds_defs.specs.Safe.{IsSafe}
-use Rattle.kds_audit.specs.Audited.{TellsAudit}
+use Rattle.kcl_audit.specs.Audited.{TellsAudit}
 use Rattle.kds_ends.specs.Moments.{Gives}
 use Rattle.kds_ends.specs.declared.status.Status.TheVariants.{Done, Memory, Unsound}
 use Rattle.kds_cli_tasks.specs.declared.task.Task.{Task}

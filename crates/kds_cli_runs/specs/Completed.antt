@@ -1,7 +1,7 @@
 -- How each task ends over ends whose faults don't rise.
 use Rattle.std.specs.Prelude.{◌≡◌, ◌⊎◌, ℕ, List, IfSome}
 use Rattle.std.specs.declared.option.Option.{Option}
-use Rattle.kds_audit.specs.Audited.{AuditsAs}
+use Rattle.kcl_audit.specs.Audited.{AuditsAs}
 use Rattle.kds_ends.specs.declared.status.Status.{Status}
 use Rattle.kds_ends.specs.declared.status.Status.TheVariants.{Done, BadLine, Memory, TooLong}
 use Rattle.kds_server.specs.Texts.{EndsAs}

@@ -2,7 +2,7 @@
 use Rattle.std.specs.Prelude.{◌≡◌, ◌⊎◌, ℕ, List, [], Bool, true, false, IfSome}
 use Rattle.std.specs.declared.option.Option.{Option}
 use Rattle.std.specs.Io.KnownBytes.{Appends}
-use Rattle.kds_audit.specs.Audited.{IsAuditStatus, IsNoJournal, IsSafely, TellsAudit}
+use Rattle.kcl_audit.specs.Audited.{IsAuditStatus, IsNoJournal, IsSafely, TellsAudit}
 use Rattle.kds_ends.specs.declared.status.Status.{Status}
 use Rattle.kds_ends.specs.declared.status.Status.TheVariants.{Done, Unsound, Write, Memory, Door}
 use Rattle.kds_ends.specs.Causes.{AppendsPart}

@@ -6,8 +6,8 @@ ghost use Rattle.kds_cli_runs.specs.Completed.{Completed};
 ghost use Rattle.kds_cli_runs.specs.Ends.{Performed, reads_input, serves_door};
 
 use crate::runs::{run_answer, run_replay, run_serve};
+use kcl_audit::run_audit;
 use kcl_drill_run::run_drill;
-use kds_audit::run_audit;
 use kds_cli_tasks::{Task, limits};
 use kds_ends::{Clock, Door, Sink, Source, Status};
 use std::alloc::Global;

@@ -1,4 +1,5 @@
-use kcl_auditor::AuditTaker;
+//! Audits of the lines of a text.
+use kcl_audit::AuditTaker;
 use kds_base::{Memory, Octets};
 use kds_lines::Taker;
 use std::alloc::Global;

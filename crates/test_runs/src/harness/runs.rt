@@ -2,7 +2,7 @@
 ghost use Rattle.std.specs.Prelude.{◌<◌};
 
 use crate::harness::left::Left;
-use kds_audit::run_audit;
+use kcl_audit::run_audit;
 use kds_base::{Items, Memory, Moment, Octets};
 use kds_cli_runs::{run_answer, run_replay};
 use kds_ends::{MemClock, MemSink, MemSource};

@@ -1,0 +1,118 @@
+-- Where an audit stands after one more line.
+use Rattle.std.proofs.Common.{◌≡◌, ℕ, Bool, true, false, List, [], ◌∷◌, ◌++◌, refl, sym, ap, subst, ◌∙◌, inl, inr, Some, None}
+use Rattle.std.specs.Prelude.{Result, Ok, Err, OnErr, codes}
+use Rattle.std.proofs.lemmas.List.{append-nil}
+use Rattle.kds_lines.specs.Lines.{End, unfinished, whole}
+use Rattle.kds_lines.specs.Taking.{Breaks, Goes}
+use Rattle.kcl_audit_judge.specs.Standing.{JudgeValue, Stands}
+use Rattle.kcl_audit.specs.declared.stage.Stage.{Stage}
+use Rattle.kcl_audit.specs.declared.stage.Stage.TheVariants as stage
+use Rattle.kds_defs.specs.Journal.{Journal}
+use Rattle.kcl_journal.specs.declared.line.EntryLine.{EntryLine}
+use Rattle.kcl_journal.specs.Entries.{IsVersion}
+use Rattle.kcl_audit_streams.specs.Verdict.{Verdict}
+use Rattle.kcl_audit.specs.Progress.{Progress, after_end, after_entry, closed, fresh, going, line_of, next, progress, progress_from, step}
+use Rattle.kcl_audit.specs.Stages.{Broke, Finishes, IsAt, IsNamed, IsOver, TakerValue, Took, end_by, is_bad, is_found, name_in, stage_report, texts_report}
+use Rattle.kcl_audit.specs.Text.{named_text, report, rule_name, sound_text}
+
+from_last : (p : Progress) (texts : List (List ℕ)) (text : List ℕ) → progress_from p (texts ++ text ∷ []) ≡ step (progress_from p texts) text
+from_last p [] text = refl
+from_last p (t ∷ ts) text = from_last (step p t) ts text
+
+pub report_at : (s : Stage) (a : JudgeValue) (p : Progress) → IsAt s a p → report p ≡ stage_report s
+report_at stage.Fresh a p h = ap report h.0
+report_at (stage.Going version count) a p h = ap report h.1.1.0
+report_at (stage.Closed count) a p h = ap report h
+report_at (stage.Found n name) a p h = ap report h.1.0 ∙ ap (named_text n) (sym h.1.1)
+
+nothing : (s : Stage) → is_found s ≡ false → stage_report s ≡ []
+nothing stage.Fresh h = refl
+nothing (stage.Going version count) h = refl
+nothing (stage.Closed count) h = refl
+nothing (stage.Found n name) h = absurd cc
+
+over_at : (s : Stage) (a : JudgeValue) (texts : List (List ℕ)) (text : List ℕ) → is_found s ≡ true → IsAt s a (progress texts) → IsOver texts text
+over_at stage.Fresh a texts text h at = absurd cc
+over_at (stage.Going version count) a texts text h at = absurd cc
+over_at (stage.Closed count) a texts text h at = absurd cc
+over_at (stage.Found n name) a texts text h at = (n, (at.0, at.1.0))
+
+pub is_over : (v : TakerValue) (texts : List (List ℕ)) (text : List ℕ) → is_found v.stage ≡ true → Took v texts → IsOver texts text
+is_over v texts text h at = over_at v.stage v.judge texts text h at
+
+-- ---- after an entry, and after the last line
+
+module _ (v : ℕ) (version : IsVersion v) (log : Journal) (count : ℕ) (e : EntryLine) (a : JudgeValue) where
+  pub named_by : (x : Verdict) (name : List ℕ) → Some name ≡ name_in x → IsNamed (next count) name (after_entry v log count e x)
+  named_by (Ok u) name h = absurd cc
+  named_by (Err r) name h = let same : name ≡ rule_name r = cc in (r, (refl, same))
+
+  pub good_by : (x : Verdict) → None ≡ name_in x → Stands a (line_of e ∷ log) → IsAt (stage.Going v (next count)) a (after_entry v log count e x)
+  good_by (Ok u) h st = (version, (line_of e ∷ log, (refl, st)))
+  good_by (Err r) h st = absurd cc
+
+module _ (count : ℕ) (a : JudgeValue) where
+  pub ended_bad : (x : Verdict) (name : List ℕ) → Some name ≡ name_in x → IsNamed (next count) name (after_end count x)
+  ended_bad (Ok u) name h = absurd cc
+  ended_bad (Err r) name h = let same : name ≡ rule_name r = cc in (r, (refl, same))
+
+  pub ended_good : (x : Verdict) → None ≡ name_in x → after_end count x ≡ closed count
+  ended_good (Ok u) h = refl
+  ended_good (Err r) h = absurd cc
+
+-- ---- after one more line
+
+module _ (old new : TakerValue) (texts : List (List ℕ)) (text : List ℕ) (before : is_found old.stage ≡ false) (took : Took old texts)
+    (at : IsAt new.stage new.judge (step (progress texts) text)) where
+  takes : Took new (texts ++ text ∷ [])
+  takes = subst (IsAt new.stage new.judge) (sym (from_last _ texts text)) at
+
+  grows : texts_report (texts ++ text ∷ []) ≡ texts_report texts ++ stage_report new.stage
+  grows =
+      report_at new.stage new.judge (progress (texts ++ text ∷ [])) takes
+      ∙ ap (λ r. r ++ stage_report new.stage) (sym (report_at old.stage old.judge (progress texts) took ∙ nothing old.stage before))
+
+  pub goes_on : (from to : List ℕ) → to ≡ from ++ stage_report new.stage → Goes (Took new) texts_report texts text from to
+  goes_on from to wrote = record { taken = takes; added = stage_report new.stage; grows = grows; wrote = wrote }
+
+  pub breaks_off : Breaks (Took new) (Broke new) texts_report texts text
+  breaks_off = inr (inl (takes, (stage_report new.stage, grows)))
+
+pub on_err : {A B : Type 0} (r : Result A B) (X : Type 0) → X → OnErr r X
+on_err (Ok x) X h = tt
+on_err (Err e) X h = h
+
+-- ---- where the lines end
+
+pub bad_at : (s : Stage) (a : JudgeValue) (p : Progress) → IsAt s a p → is_found s ≡ is_bad p
+bad_at stage.Fresh a p h = sym (ap is_bad h.0)
+bad_at (stage.Going version count) a p h = sym (ap is_bad h.1.1.0)
+bad_at (stage.Closed count) a p h = sym (ap is_bad h)
+bad_at (stage.Found n name) a p h = sym (ap is_bad h.1.0)
+
+pub finish_found : (n : ℕ) (name : List ℕ) (p : Progress) (end : End) (from : List ℕ) → IsNamed n name p → Finishes p end false from from
+finish_found n name p end from h = subst (λ q. Finishes q end false from from) (sym h.1.0)
+    (record { says_so = refl; added = []; text = append-nil _; wrote = sym (append-nil from) })
+
+pub finish_closed : (count : ℕ) (p : Progress) (from to : List ℕ) → p ≡ closed count → to ≡ from ++ sound_text count → Finishes p whole true from to
+finish_closed count p from to h wrote = subst (λ q. Finishes q whole true from to) (sym h)
+    (record { says_so = refl; added = sound_text count; text = refl; wrote = wrote })
+
+pub finish_behind : (count : ℕ) (p : Progress) (from to : List ℕ) → p ≡ closed count → to ≡ from ++ named_text (next (next count)) (codes "Form")
+    → Finishes p unfinished false from to
+finish_behind count p from to h wrote = subst (λ q. Finishes q unfinished false from to) (sym h)
+    (record { says_so = refl; added = named_text (next (next count)) (codes "Form"); text = refl; wrote = wrote })
+
+pub finish_going : (v count : ℕ) (log : Journal) (p : Progress) (b : Bool) (from to : List ℕ) → p ≡ going v log count
+    → to ≡ from ++ named_text (next count) (codes "Form") → Finishes p (end_by b) false from to
+finish_going v count log p true from to h wrote = subst (λ q. Finishes q unfinished false from to) (sym h)
+    (record { says_so = refl; added = named_text (next count) (codes "Form"); text = refl; wrote = wrote })
+finish_going v count log p false from to h wrote = subst (λ q. Finishes q whole false from to) (sym h)
+    (record { says_so = refl; added = named_text (next count) (codes "Form"); text = refl; wrote = wrote })
+
+pub finish_fresh : (p : Progress) (b : Bool) (from to : List ℕ) → p ≡ fresh → to ≡ from ++ named_text (next 0) (codes "Form")
+    → Finishes p (end_by b) false from to
+finish_fresh p true from to h wrote = subst (λ q. Finishes q unfinished false from to) (sym h)
+    (record { says_so = refl; added = named_text (next 0) (codes "Form"); text = refl; wrote = wrote })
+finish_fresh p false from to h wrote = subst (λ q. Finishes q whole false from to) (sym h)
+    (record { says_so = refl; added = named_text (next 0) (codes "Form"); text = refl; wrote = wrote })

@@ -1,0 +1,63 @@
+-- What the end of an audit tells of the bytes of a text and of the output.
+use Rattle.std.specs.Prelude.{◌≡◌, ◌⊎◌, ℕ, List, [], ◌++◌, true, false}
+use Rattle.std.specs.declared.option.Option.{Option}
+use Rattle.std.specs.Io.KnownBytes.{Appends}
+use Rattle.kds_defs.specs.Safe.{IsSafe}
+use Rattle.kds_ends.specs.Causes.{AppendsFront}
+use Rattle.kds_ends.specs.declared.status.Status.{Status}
+use Rattle.kds_ends.specs.declared.status.Status.TheVariants.{Done, Unsound, Read, Write, Memory, TooLong}
+use Rattle.kcl_audit_streams.specs.declared.rule.Rule.{Rule}
+use Rattle.kcl_audit.specs.Progress.{AuditEnd, audit_of, over, sound, unsound}
+use Rattle.kcl_audit.specs.Text.{IsJournal, audit_text, journal_of}
+use Rattle.kcl_audit.specs.Stages.{is_sound}
+
+-- Of the bytes of a text, what the sink held and holds. With Done every entry is sound, with Unsound one is bad, and it
+-- was written which, and why; with TooLong a length is too great. With Read nothing was written, with Write and Memory a
+-- front of what an audit of these bytes says.
+abbrev pub TellsAudit : Status → List ℕ → Option (List ℕ) → Option (List ℕ) → Type 0
+TellsAudit Done bytes held now = (n : ℕ) × (audit_of bytes ≡ sound n) × Appends held now (audit_text (audit_of bytes))
+TellsAudit Unsound bytes held now = (n : ℕ) × (r : Rule) × (audit_of bytes ≡ unsound n r) × Appends held now (audit_text (audit_of bytes))
+TellsAudit TooLong bytes held now = (audit_of bytes ≡ over) × Appends held now []
+TellsAudit Read bytes held now = Appends held now []
+TellsAudit Write bytes held now = AppendsFront held now (audit_text (audit_of bytes))
+TellsAudit Memory bytes held now = AppendsFront held now (audit_text (audit_of bytes))
+TellsAudit _ bytes held now = ⊥
+
+-- what an audit may answer
+abbrev pub IsAuditStatus : Status → Type 0
+IsAuditStatus Done = Unit {0}
+IsAuditStatus Unsound = Unit {0}
+IsAuditStatus TooLong = Unit {0}
+IsAuditStatus Read = Unit {0}
+IsAuditStatus Write = Unit {0}
+IsAuditStatus Memory = Unit {0}
+IsAuditStatus _ = ⊥
+
+-- how an audit ends that says this
+abbrev pub audit_status : AuditEnd → Status
+audit_status (sound n) = Done
+audit_status (unsound n r) = Unsound
+audit_status over = TooLong
+
+-- how an audit of these bytes ends, unless memory runs out; no length is too great: Done or Unsound
+abbrev pub AuditsAs : List ℕ → Status → Type 0
+AuditsAs bytes status = (status ≡ audit_status (audit_of bytes)) ⊎ (status ≡ Memory)
+
+-- the bytes are the text of a legal journal and its last line, and the state that it tells is safe, at that line's clock
+pub record IsSafely (bytes : List ℕ) : Type 0 where
+  pub count : ℕ
+  pub journal : IsJournal bytes count
+  pub safe : IsSafe (journal_of journal.entries) journal.end
+
+-- they are the text of no legal journal and its last line
+abbrev pub IsNoJournal : List ℕ → Type 0
+IsNoJournal bytes = (n : ℕ) → IsJournal bytes n → ⊥
+
+-- Where the lines end and an audit ends so, behind what was written along them: with Done and Unsound the rest of what
+-- it says was written, with Write a front of that, with Memory nothing.
+abbrev pub TellsEnd : Status → AuditEnd → List ℕ → Option (List ℕ) → Option (List ℕ) → Type 0
+TellsEnd Done end along held now = (is_sound end ≡ true) × ((added : List ℕ) × (along ++ added ≡ audit_text end) × Appends held now added)
+TellsEnd Unsound end along held now = (is_sound end ≡ false) × ((added : List ℕ) × (along ++ added ≡ audit_text end) × Appends held now added)
+TellsEnd Write end along held now = (added : List ℕ) × (along ++ added ≡ audit_text end) × AppendsFront held now added
+TellsEnd Memory end along held now = Appends held now []
+TellsEnd _ end along held now = ⊥

@@ -1,0 +1,97 @@
+//! The run of an audit.
+ghost use Rattle.std.specs.Prelude.{◌≡◌, ◌⊎◌, ◌≤◌, ℕ, List, IfSome};
+ghost use Rattle.std.specs.declared.option.Option.{Option};
+ghost use Rattle.kds_ends.specs.Causes.{Rose};
+ghost use Rattle.kds_lines.specs.Telling.{Told};
+ghost use Rattle.kcl_audit.specs.Progress.{finish, progress};
+ghost use Rattle.kcl_audit.specs.Text.{report};
+ghost use Rattle.kcl_audit.specs.Stages.{Broke, IsOver, Took, end_by, texts_report};
+ghost use Rattle.kcl_audit.specs.Audited.{AuditsAs, IsAuditStatus, IsNoJournal, IsSafely, TellsAudit, TellsEnd};
+
+use crate::laws::{complete, legal};
+use crate::lines::AuditTaker;
+use kcl_laws::step;
+use kds_base::Octets;
+use kds_ends::{Sink, Source, Status, write_all};
+use kds_lines::{Outcome, read_lines};
+use std::alloc::Global;
+
+/// The lines end at a line feed, or inside a line: writes what is said then.
+fn tell_end<K: Sink>(alloc: Global, taker: &AuditTaker, unfinished: bool, out: &mut K) -> Status
+    ensures told { (texts : List (List ℕ)) → Took taker.now texts
+        → TellsEnd result (finish (progress texts) (end_by unfinished)) (report (progress texts)) (K.held out.old) (K.held out.new) }
+    ensures later { K.faults out.old ≤ K.faults out.new }
+    ensures write { result ≡ Status.Write → Rose (K.faults out.old) (K.faults out.new) }
+    ensures read { result ≡ Status.Read → ⊥ }
+    ensures kinds { IsAuditStatus result }
+{
+    let mut text = Octets::new(alloc);
+    match taker.finish(alloc, unfinished, &mut text) {
+        Ok(is_sound) => match write_all(out, text.as_slice()) {
+            Ok(()) => if is_sound {
+                Status::Done
+            } else {
+                Status::Unsound
+            },
+            Err(_) => Status::Write,
+        },
+        Err(_) => Status::Memory,
+    }
+}
+
+/// The end of an audit by that of the reading of its input. A bad entry comes before all that follows it.
+fn end_audit<K: Sink>(alloc: Global, taker: &AuditTaker, outcome: Outcome, out: &mut K) -> Status
+    ensures told { (bytes : List ℕ) (left start : Option (List ℕ))
+        → Told outcome (Took taker.now) (Broke taker.now) IsOver texts_report bytes left start (K.held out.old)
+        → TellsAudit result bytes start (K.held out.new) }
+    ensures later { K.faults out.old ≤ K.faults out.new }
+    ensures write { result ≡ Status.Write → (outcome ≡ Outcome.Write) ⊎ Rose (K.faults out.old) (K.faults out.new) }
+    ensures read { result ≡ Status.Read → outcome ≡ Outcome.Read }
+    ensures kinds { IsAuditStatus result }
+{
+    match outcome {
+        Outcome::Write => return Status::Write,
+        Outcome::Memory => return Status::Memory,
+        _ => {}
+    }
+    if taker.is_over() {
+        return Status::Unsound;
+    }
+    match outcome {
+        Outcome::Whole => tell_end(alloc, taker, false, out),
+        Outcome::Unfinished(_) => tell_end(alloc, taker, true, out),
+        Outcome::TooLong => Status::TooLong,
+        Outcome::Read => Status::Read,
+        // no line is left out but behind a bad entry
+        Outcome::Stopped(_) => Status::Unsound,
+        Outcome::Write => Status::Write,
+        Outcome::Memory => Status::Memory,
+    }
+}
+
+/// Audits the text of a journal, and writes what it found: `sound N` with the number of its entries, or `entry N RULE` of the
+/// first that is bad. Done: all are sound. Unsound: exactly where one is bad. TooLong: exactly where a line or the
+/// input is longer than the limits, and no entry before it is bad; these three unless an end failed or memory ran out
+/// before. Read, Write: the source or the sink failed. Memory: want of memory.
+pub fn run_audit<S: Source, K: Sink>(alloc: Global, input: &mut S, out: &mut K) -> Status
+    ensures told { IfSome (S.left input.old) (λ bytes. TellsAudit result bytes (K.held out.old) (K.held out.new)) }
+
+    // A sound text is that of a legal journal, and the state that it tells is safe, at its last line's clock. The text of a
+    // legal journal isn't found unsound.
+    ensures safe { result ≡ Status.Done → IfSome (S.left input.old) IsSafely }
+    ensures legal { result ≡ Status.Unsound → IfSome (S.left input.old) IsNoJournal }
+
+    // Over ends whose faults don't rise the bytes decide the end, unless memory runs out.
+    ensures complete { (Rose (S.faults input.old) (S.faults input.new) → ⊥) → (Rose (K.faults out.old) (K.faults out.new) → ⊥)
+        → IfSome (S.left input.old) (λ bytes. AuditsAs bytes result) }
+    ensures read { result ≡ Status.Read → Rose (S.faults input.old) (S.faults input.new) }
+    ensures write { result ≡ Status.Write → Rose (K.faults out.old) (K.faults out.new) }
+    ensures kinds { IsAuditStatus result }
+{
+    legal();
+    complete();
+    step();
+    let mut taker = AuditTaker::new(alloc);
+    let outcome = read_lines(alloc, &mut taker, input, out);
+    end_audit(alloc, &taker, outcome, out)
+}
