@@ -1,6 +1,11 @@
+mod Accounts
+mod AfterClose
 mod Answered
 mod Come
-mod Leased
 mod Counts
+pub mod Drills
+mod Horizons
+mod Leased
+mod Origins
 mod Parents
 mod Puts

@@ -1,3 +1,4 @@
+pub mod Closed
 pub mod Holding
 pub mod Leasing
 pub mod Parents

@@ -1,4 +1,4 @@
-//! The laws.
+//! What a tenure is answered that its actor alone uses, and what turns on leases leave as it is.
 ghost use Rattle.std.specs.Prelude.{ℕ, ◌≡◌, ◌+◌, ◌<◌, ◌≤◌, ◌==◌, true, false, length, List, ◌∷◌, ◌++◌, Some};
 ghost use Rattle.kds_base.specs.declared.lease_key.ShardRef.{ShardRef};
 ghost use Rattle.kds_defs.specs.declared.command.Target.{Target};

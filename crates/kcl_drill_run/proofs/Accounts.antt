@@ -8,7 +8,7 @@ use Rattle.kds_turn.specs.declared.view.Account.{Account}
 use Rattle.kds_turn.specs.Known.{account, times}
 use Rattle.kds_turn.specs.Passes.{Place, Standing}
 use Rattle.kds_turn.proofs.Turns.{has_one}
-use Rattle.kcl_closed.specs.Closed.{all_accounts}
+use Rattle.kcl_drill_laws.specs.Closed.{all_accounts}
 use Rattle.kcl_live.specs.declared.crew.Member.{Member}
 use Rattle.kcl_drill_run.specs.Running.{HavePasses, account_in, accounts_in}
 

@@ -8,7 +8,7 @@ use Rattle.kds_defs.specs.Lawful.{IsHistory}
 use Rattle.kds_turn.specs.declared.view.Account.{Account}
 use Rattle.kds_turn.specs.Known.{Continues, account, times}
 use Rattle.kds_turn.specs.Passes.{AreAllBy, HasAll, IsSplitInto, Place, Standing, accounts_of}
-use Rattle.kcl_closed.specs.Closed.{AreFromHorizon, IsClosed, IsFew, IsMemberAccount, IsStopped, all_accounts}
+use Rattle.kcl_drill_laws.specs.Closed.{AreFromHorizon, IsClosed, IsFew, IsMemberAccount, IsStopped, all_accounts}
 use Rattle.kcl_drill.specs.Fed.{IsDrill}
 use Rattle.kcl_live.specs.declared.crew.Member.{Member}
 use Rattle.kcl_world.specs.Standing.{StandsFor, WorldValue}
@@ -19,17 +19,21 @@ use Rattle.kcl_drill_run.proofs.Accounts.{count_accounts, counted, each_alone, h
 
 -- what the laws `closed` and `stopped` say
 pub record HasLaws : Type 0 where
-  pub drill : (number records : ℕ) (root feeder : Standing) (members : List Account) (h : List Turn) → IsClosed number records root feeder members h → IsDrill h number records
-  pub horizon : (number records : ℕ) (root feeder : Standing) (members : List Account) (h : List Turn) → IsClosed number records root feeder members h → AreFromHorizon (journal h)
+  pub drill : (number records : ℕ) (root feeder : Standing) (members : List Account) (h : List Turn) → IsClosed number records root feeder members h
+      → IsDrill h number records
+  pub horizon : (number records : ℕ) (root feeder : Standing) (members : List Account) (h : List Turn) → IsClosed number records root feeder members h
+      → AreFromHorizon (journal h)
 
 abbrev pub StoppedIsShort : Type 0
-StoppedIsShort = (number records : ℕ) (root feeder : Standing) (members : List Account) (h : List Turn) → IsStopped number records root feeder members h → length h < 2 ^ 32
+StoppedIsShort = (number records : ℕ) (root feeder : Standing) (members : List Account) (h : List Turn) → IsStopped number records root feeder members h
+    → length h < 2 ^ 32
 
 -- what is seen is no longer than what goes on with it
 short_of : (h seen : List Turn) → Continues h seen → length h < 2 ^ 32 → length seen < 2 ^ 32
 short_of h seen more short = omega (arith, short, ap length more.1, length-append more.0 seen)
 
-short_members : {M P F G : Type 0} (h last : List Turn) (ms : List (Member M P F G)) → Continues h last → length h < 2 ^ 32 → AllByRecursion (λ m. Continues last m.pass.seen) ms → AllByRecursion (λ m. IsShort m.pass) ms
+short_members : {M P F G : Type 0} (h last : List Turn) (ms : List (Member M P F G)) → Continues h last → length h < 2 ^ 32
+    → AllByRecursion (λ m. Continues last m.pass.seen) ms → AllByRecursion (λ m. IsShort m.pass) ms
 short_members h last [] more short are = tt
 short_members h last (m ∷ ms) more short are =
     (short_of h m.pass.seen (continues_all h last m.pass.seen more are.0) short, short_members h last ms more short are.1)

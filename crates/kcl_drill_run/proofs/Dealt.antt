@@ -11,7 +11,8 @@ use Rattle.kcl_drill_run.specs.declared.participants.Participants.{Participants}
 
 module _ {M G : Type 0} where
   -- one more worker, with one more pass
-  pub one_more : (name : ℕ) (ps : List Standing) (ms : List (Member M Stock Kind G)) (p : Standing) (m : Member M Stock Kind G) → AreMembersOf name ps ms → IsMemberOf (name + length ms) p m → AreMembersOf name (ps ++ p ∷ []) (ms ++ m ∷ [])
+  pub one_more : (name : ℕ) (ps : List Standing) (ms : List (Member M Stock Kind G)) (p : Standing) (m : Member M Stock Kind G) → AreMembersOf name ps ms
+      → IsMemberOf (name + length ms) p m → AreMembersOf name (ps ++ p ∷ []) (ms ++ m ∷ [])
   one_more name [] [] p m are is = let e : name + 0 ≡ name = omega arith in (subst (λ n. IsMemberOf n p m) e is, tt)
   one_more name [] (y ∷ ms) p m are is = absurd are
   one_more name (x ∷ ps) [] p m are is = absurd are
@@ -51,7 +52,8 @@ module _ (hall : Place) (workers : ℕ) (all some rest : List Standing) (new : a
       are_rest : rest ≡ new_passes hall 3 workers
       are_rest = second.left_are ∙ ap (λ xs. remove xs 0) are_some
 
-      pub dealt : (p : Participants) → p.root ≡ root → p.feeder ≡ feeder → AreMembersOf 1 rest p.members.items → hall.passes ≡ workers + 2 → workers ≤ 64 → AreDealt hall p × (length p.members.items ≡ workers)
+      pub dealt : (p : Participants) → p.root ≡ root → p.feeder ≡ feeder → AreMembersOf 1 rest p.members.items → hall.passes ≡ workers + 2 → workers ≤ 64
+          → AreDealt hall p × (length p.members.items ≡ workers)
       dealt p root_is feeder_is are passes few =
           let ms = p.members.items in
           let count : length ms ≡ workers = as_many 1 rest ms are ∙ ap length are_rest ∙ count_new hall 3 workers in (

@@ -51,7 +51,8 @@ module _ {M P F G : Type 0} (stands : P → List Call → Type 0) (turns : ℕ) 
   one_full : (b a : Member M P F G) → HasEnded stands turns 50 b a → a.outcome ≡ Err failed.Spent → IsFull a.pass
   one_full b a ended is = cut_full a (subst (λ o. IfErr o (WasCut stands a.worker a.pass)) is ended.err)
 
-  pub members_full : (e : TurnErr) (before after : List (Member M P F G)) → e ≡ failed.Spent → length after ≡ length before → HaveEnded stands turns before after → SomeFailed e after → SomeIsFull after
+  pub members_full : (e : TurnErr) (before after : List (Member M P F G)) → e ≡ failed.Spent → length after ≡ length before
+      → HaveEnded stands turns before after → SomeFailed e after → SomeIsFull after
   members_full e before [] is same ended some = absurd some
   members_full e [] (a ∷ after) is same ended some = absurd (omega (arith, same))
   members_full e (b ∷ before) (a ∷ after) is same ended (inl one) = inl (one_full b a (ended 0 b (omega arith)) (subst (λ x. a.outcome ≡ Err x) is one))

@@ -7,7 +7,8 @@ use Rattle.kcl_live.specs.declared.crew.Member.{Member}
 use Rattle.kcl_drill_run.specs.Running.{accounts_in}
 
 module _ {M P F G : Type 0} where
-  pub joined_more : (old now total : List Account) (m : Member M P F G) (rest items : List (Member M P F G)) → now ≡ old ++ accounts_in m → items ≡ m ∷ rest → old ++ flat_map accounts_in items ≡ total → now ++ flat_map accounts_in rest ≡ total
+  pub joined_more : (old now total : List Account) (m : Member M P F G) (rest items : List (Member M P F G)) → now ≡ old ++ accounts_in m → items ≡ m ∷ rest
+      → old ++ flat_map accounts_in items ≡ total → now ++ flat_map accounts_in rest ≡ total
   joined_more old now total m rest items e step before =
       ap (λ xs. xs ++ flat_map accounts_in rest) e
       ∙ append_assoc old (accounts_in m) (flat_map accounts_in rest)

@@ -1,6 +1,7 @@
-mod Dealt
-mod Ran
 mod Accounts
-mod Joined
 mod Closed
+mod Dealt
+mod Drained
 mod Full
+mod Joined
+mod Ran

@@ -2,8 +2,8 @@
 use Rattle.std.proofs.Common.{◌≡◌, ◌⊎◌, inl, inr, ℕ, zero, suc, ◌+◌, ◌≤◌, List, [], ◌∷◌, length, sym, ap, subst, ◌∙◌, arith, Result, Ok, Err}
 use Rattle.std.specs.Prelude.{◌/◌, IfErr, IsOk, OnOk}
 use Rattle.std.specs.List.{All, AllByRecursion}
-use Rattle.kcl_closed.proofs.Drills.{fed_so_far}
-use Rattle.kcl_closed.specs.Closed.{AreDrillTurns, IsFew, IsMemberAccount}
+use Rattle.kcl_drill_laws.proofs.Drills.{fed_so_far}
+use Rattle.kcl_drill_laws.specs.Closed.{AreDrillTurns, IsFew, IsMemberAccount}
 use Rattle.kcl_drill_threads.specs.Asking.{IsKept}
 use Rattle.kcl_drill_threads.specs.Feeding.{HasFed, HasFedSoFar}
 use Rattle.kcl_drill_threads.specs.Running.{HaveEnded, HaveEndedOrNot}
@@ -56,7 +56,8 @@ module _ {M G : Type 0} (hall : Place) where
     abbrev EndedOrNot : Member M Stock Kind G → Member M Stock Kind G → Type 0
     EndedOrNot b a = HasEnded StockStandsFor (200 + records / 100) 50 b a ⊎ (a ≡ b)
 
-    one_passed : (name from : ℕ) (b a : Member M Stock Kind G) → IsMemberOf name (new_pass hall.id from) b → EndedOrNot b a → HasPass hall from a × IsFew records (account_in a)
+    one_passed : (name from : ℕ) (b a : Member M Stock Kind G) → IsMemberOf name (new_pass hall.id from) b → EndedOrNot b a
+        → HasPass hall from a × IsFew records (account_in a)
     one_passed name from b a is (inl ended) = (
       record {
         at = ended.kept.0 ∙ ap (λ (p : Standing). p.hall) is.pass_is;
@@ -76,8 +77,10 @@ module _ {M G : Type 0} (hall : Place) where
           omega (arith, none),
         )
 
-    pub all_passed : (name from n : ℕ) (before after : List (Member M Stock Kind G)) → AreMembersOf name (new_passes hall from n) before → length after ≡ length before
-        → HaveEndedOrNot StockStandsFor (200 + records / 100) before after → HavePasses hall from after × AllByRecursion (λ m. IsFew records (account_in m)) after
+    pub all_passed : (name from n : ℕ) (before after : List (Member M Stock Kind G)) → AreMembersOf name (new_passes hall from n) before
+        → length after ≡ length before
+        → HaveEndedOrNot StockStandsFor (200 + records / 100) before after
+        → HavePasses hall from after × AllByRecursion (λ m. IsFew records (account_in m)) after
     all_passed name from n [] [] are same ended = (tt, tt)
     all_passed name from n [] (a ∷ after) are same ended = absurd (omega (arith, same))
     all_passed name from n (b ∷ before) [] are same ended = absurd (omega (arith, same))
@@ -88,7 +91,8 @@ module _ {M G : Type 0} (hall : Place) where
         ((one.0, more.0), (one.1, more.1))
 
     module _ (law : FromHorizon) where
-      one_made : (name from : ℕ) (b a : Member M Stock Kind G) → IsMemberOf name (new_pass hall.id from) b → IsOk a.outcome → HasEnded StockStandsFor (200 + records / 100) 50 b a → IsMemberAccount records (account_in a)
+      one_made : (name from : ℕ) (b a : Member M Stock Kind G) → IsMemberOf name (new_pass hall.id from) b → IsOk a.outcome
+          → HasEnded StockStandsFor (200 + records / 100) 50 b a → IsMemberAccount records (account_in a)
       one_made name from b a is ran ended =
           let run = of_ok a.outcome (HasRun StockStandsFor a.worker a.pass) ran ended.ok in
           let made : a.worker.made.settings.from ≡ origin.TrimHorizon = ap (λ (m : WorkerMade). m.settings.from) (ended.made ∙ is.made) in
@@ -98,7 +102,8 @@ module _ {M G : Type 0} (hall : Place) where
             horizon = subst AreDrillTurns (sym run.driven.own_are) (law a.pass.by a.worker.made run.past made);
           }
 
-      pub all_made : (name from n : ℕ) (before after : List (Member M Stock Kind G)) → AreMembersOf name (new_passes hall from n) before → length after ≡ length before → AllEnded after
+      pub all_made : (name from n : ℕ) (before after : List (Member M Stock Kind G)) → AreMembersOf name (new_passes hall from n) before
+          → length after ≡ length before → AllEnded after
           → HaveEnded StockStandsFor (200 + records / 100) before after → AllByRecursion (λ m. IsMemberAccount records (account_in m)) after
       all_made name from n [] [] are same ran ended = tt
       all_made name from n [] (a ∷ after) are same ran ended = absurd (omega (arith, same))
@@ -111,9 +116,11 @@ module _ {M G : Type 0} (hall : Place) where
 
 -- ---- all of them
 
-module _ (hall : Place) (number records : ℕ) (before after : Participants) (dealt : AreDealt hall before) (limit : records ≤ 1000000) (root : IsKept before.root after.root) (feeder : IsKept before.feeder after.feeder)
+module _ (hall : Place) (number records : ℕ) (before after : Participants) (dealt : AreDealt hall before) (limit : records ≤ 1000000)
+    (root : IsKept before.root after.root) (feeder : IsKept before.feeder after.feeder)
     (same : length after.members.items ≡ length before.members.items) where
-  pub have_stopped : HasFedSoFar number records after.root after.feeder → HaveEndedOrNot StockStandsFor (200 + records / 100) before.members.items after.members.items → HaveStopped hall number records after
+  pub have_stopped : HasFedSoFar number records after.root after.feeder
+      → HaveEndedOrNot StockStandsFor (200 + records / 100) before.members.items after.members.items → HaveStopped hall number records after
   have_stopped begun ended =
       let passed = all_passed hall records 1 3 (length before.members.items) before.members.items after.members.items dealt.members same ended in
       record {
@@ -128,7 +135,8 @@ module _ (hall : Place) (number records : ℕ) (before after : Participants) (de
         few = omega (arith, dealt.few, same);
       }
 
-  module _ (fed : HasFed number records after.root after.feeder) (ended : HaveEnded StockStandsFor (200 + records / 100) before.members.items after.members.items) where
+  module _ (fed : HasFed number records after.root after.feeder)
+      (ended : HaveEnded StockStandsFor (200 + records / 100) before.members.items after.members.items) where
     pub have_stopped_all : HaveStopped hall number records after
     have_stopped_all = have_stopped (fed_so_far number records after.root after.feeder fed) (λ i m below. inl (ended i m below))
 

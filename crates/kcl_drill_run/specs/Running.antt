@@ -6,7 +6,7 @@ use Rattle.kds_defs.specs.Histories.{journal}
 use Rattle.kds_turn.specs.declared.view.Account.{Account}
 use Rattle.kds_turn.specs.Known.{Continues, account}
 use Rattle.kds_turn.specs.Passes.{Place, Standing, accounts_of}
-use Rattle.kcl_closed.specs.Closed.{AreFromHorizon, IsFew, IsMemberAccount}
+use Rattle.kcl_drill_laws.specs.Closed.{AreFromHorizon, IsFew, IsMemberAccount}
 use Rattle.kcl_drill_threads.specs.Feeding.{HasFed, HasFedSoFar, IsCrowdErr}
 use Rattle.kcl_drill.specs.declared.limits.TheConstants.{MOST_RECORDS, MOST_WORKERS}
 use Rattle.kcl_drill.specs.Fed.{IsDrill}

@@ -3,7 +3,7 @@ ghost use Rattle.std.specs.Prelude.{◌≡◌, ℕ, All};
 ghost use Rattle.kcl_drill_run.specs.Running.{AreShort, HasDrilled, HasTaken, HaveRun, HaveStopped};
 
 use crate::participants::Participants;
-use kcl_closed::{closed, stopped};
+use kcl_drill_laws::{closed, stopped};
 use kcl_live::Member;
 use kcl_world::World;
 use kds_turn::{Hall, Pass};

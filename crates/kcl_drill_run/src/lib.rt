@@ -4,6 +4,7 @@
 mod closing;
 mod participants;
 mod run;
+mod text;
 mod threads;
 
 pub use run::run_drill;

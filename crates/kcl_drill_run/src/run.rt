@@ -8,8 +8,8 @@ ghost use Rattle.kcl_drill_run.specs.Told.{DrillTells};
 
 use crate::closing::close;
 use crate::participants::assemble;
+use crate::text::drained_text;
 use crate::threads::run_threads;
-use kcl_drained::drained_text;
 use kcl_world::World;
 use kds_base::{Memory, Octets};
 use kds_ends::{Sink, Status, write_all};

@@ -7,7 +7,7 @@ ghost use Rattle.kcl_drill_run.specs.Participants.{AreDealt};
 ghost use Rattle.kcl_drill_run.specs.Running.{AreFull, HaveFailed, HaveRun, HaveStopped};
 
 use crate::participants::{DrillMember, Participants};
-use kcl_closed::horizon;
+use kcl_drill_laws::horizon;
 use kcl_drill_threads::crowd;
 use kcl_world::World;
 use kds_turn::{Hall, TurnErr};

@@ -1,6 +1,4 @@
-//! Laws: what is known of a drill's history once its hall was closed.
-#![tactic(auto)]
-
+//! What is known of a drill's history once its hall was closed.
 ghost use Rattle.std.specs.Prelude.{ℕ, ◌≡◌, ◌++◌, ◌<◌, ◌≤◌, ◌^◌, List, length};
 ghost use Rattle.kds_defs.specs.declared.command.Turn.{Turn};
 ghost use Rattle.kds_defs.specs.Histories.{clock, journal};
@@ -12,7 +10,7 @@ ghost use Rattle.kcl_live.specs.Records.{turns_in};
 ghost use Rattle.kds_defs.specs.declared.command.Origin.TheVariants as origin;
 ghost use Rattle.kcl_drill.specs.Fed.{IsDrill, IsFed};
 ghost use Rattle.kcl_drill_summary.specs.Counting.{CanSum};
-ghost use Rattle.kcl_closed.specs.Closed.{AreDrillTurns, AreFromHorizon, AreLeased, IsClosed, IsStopped};
+ghost use Rattle.kcl_drill_laws.specs.Closed.{AreDrillTurns, AreFromHorizon, AreLeased, IsClosed, IsStopped};
 
 use kcl_drill::{one_order, one_text, untrimmed};
 use kcl_laws::rows;

@@ -1,8 +1,8 @@
 use Rattle.std.proofs.Common.{arith}
 use Rattle.kds_defs.specs.Histories.{clock, journal}
 use Rattle.kds_defs.specs.Records.{records}
-use Rattle.kcl_closed.proofs.Leased.{none_below}
-use Rattle.kcl_closed.proofs.summed.Goals as goal
+use Rattle.kcl_drill_laws.proofs.AfterClose.{none_below}
+use Rattle.kcl_drill_laws.proofs.histories.summed.Goals as goal
 
 pub returns : goal.returns
 returns c h number count is =

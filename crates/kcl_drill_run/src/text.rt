@@ -4,11 +4,11 @@ ghost use Rattle.kds_defs.specs.declared.command.Turn.{Turn};
 ghost use Rattle.kds_defs.specs.Histories.{journal};
 ghost use Rattle.kcl_drill.specs.Fed.{IsDrill};
 ghost use Rattle.kcl_drill.specs.Summed.{drill_text};
-ghost use Rattle.kcl_closed.specs.Closed.{AreFromHorizon};
+ghost use Rattle.kcl_drill_laws.specs.Closed.{AreFromHorizon};
 
-use kcl_closed::{drained, summed};
 use kcl_drill::{one_text, untrimmed};
 use kcl_drill_drain::lone_drain;
+use kcl_drill_laws::{drained, summed};
 use kcl_drill_summary::summary;
 use kds_base::{Memory, Moment, Octets};
 use kds_defs::Machine;

@@ -1,5 +1,6 @@
 -- The closed history of a drill.
-use Rattle.std.proofs.Common.{◌≡◌, ℕ, zero, suc, ◌+◌, ◌*◌, ◌<◌, ◌≤◌, false, List, [], ◌∷◌, ◌++◌, length, map, Option, Some, None, refl, sym, ap, subst, ◌∙◌, arith, append_assoc, le_refl, length-append, length-take, take_all}
+use Rattle.std.proofs.Common.{◌≡◌, ℕ, zero, suc, ◌+◌, ◌*◌, ◌<◌, ◌≤◌, false, List, [], ◌∷◌, ◌++◌, length, map, Option, Some, None, refl, sym, ap}
+use Rattle.std.proofs.Common.{subst, ◌∙◌, arith, append_assoc, le_refl, length-append, length-take, take_all}
 use Rattle.std.specs.Prelude.{◌==◌, ◌^◌, reverse, drop, take}
 use Rattle.std.specs.List.{AllByRecursion}
 use Rattle.std.proofs.lemmas.List.{length-map, length-reverse, nil_from_length, reverse-append}
@@ -22,8 +23,8 @@ use Rattle.kcl_drill.specs.Fed.{IsFed, commands_in}
 use Rattle.kcl_drill.specs.Generated.{Opens, draw, drill_name, first_open, from_record, generated, opens_then, plan, with_plan}
 use Rattle.kcl_drill_threads.specs.Asking.{HasAsked, HasBegun, turn_of, turns_of}
 use Rattle.kcl_drill_threads.specs.Feeding.{HasFed, HasFedSoFar}
-use Rattle.kcl_closed.specs.Closed.{AreDrillTurns, IsClosed, IsDrillCommand, IsFew, IsMemberAccount, IsStopped, all_accounts}
-use Rattle.kcl_closed.proofs.Accounts.{all_turns, clock_by, count_of, few_turns}
+use Rattle.kcl_drill_laws.specs.Closed.{AreDrillTurns, IsClosed, IsDrillCommand, IsFew, IsMemberAccount, IsStopped, all_accounts}
+use Rattle.kcl_drill_laws.proofs.Accounts.{all_turns, clock_by, count_of, few_turns}
 
 -- ---- the turns of commands
 
@@ -59,11 +60,13 @@ records_are i (suc left) x opens =
 
 -- ---- the turns of members
 
-at_most : (P : Turn → Type 0) (n : ℕ) (turns : List Turn) → length turns ≤ n → AreOnLeasesAt 50 turns → ((t : Turn) → t.at ≤ n * 50 → is_service t.what ≡ false → P t) → AllByRecursion P turns
+at_most : (P : Turn → Type 0) (n : ℕ) (turns : List Turn) → length turns ≤ n → AreOnLeasesAt 50 turns
+    → ((t : Turn) → t.at ≤ n * 50 → is_service t.what ≡ false → P t) → AllByRecursion P turns
 at_most P n [] few on is = tt
 at_most P n (t ∷ turns) few on is = (is t (omega (arith, few, on.0.0)) on.0.1, at_most P n turns (omega (arith, few)) on.1 is)
 
-member_turns : (P : Turn → Type 0) (records : ℕ) (members : List Account) → records ≤ 1000000 → AllByRecursion (IsMemberAccount records) members → ((t : Turn) → t.at ≤ 30600 * 50 → is_service t.what ≡ false → P t) → AllByRecursion (λ a. AllByRecursion P a.turns) members
+member_turns : (P : Turn → Type 0) (records : ℕ) (members : List Account) → records ≤ 1000000 → AllByRecursion (IsMemberAccount records) members
+    → ((t : Turn) → t.at ≤ 30600 * 50 → is_service t.what ≡ false → P t) → AllByRecursion (λ a. AllByRecursion P a.turns) members
 member_turns P records [] limit ran is = tt
 member_turns P records (a ∷ rest) limit ran is =
     (at_most P 30600 a.turns (omega (arith, ran.0.most, limit)) ran.0.moments is, member_turns P records rest limit ran.1 is)
@@ -114,7 +117,8 @@ fed_so_far number records root feeder fed = record {
   after = λ some. fed.after;
 }
 
-pub is_short_stopped : (number records : ℕ) (root feeder : Standing) (members : List Account) (h : List Turn) → IsStopped number records root feeder members h → length h < 2 ^ 32
+pub is_short_stopped : (number records : ℕ) (root feeder : Standing) (members : List Account) (h : List Turn) → IsStopped number records root feeder members h
+    → length h < 2 ^ 32
 is_short_stopped number records root feeder members h is =
     let rest : List Command = from_record 0 records number first_open in
     let all = few_turns (all_accounts root feeder members) h is.own is.all in
@@ -156,10 +160,12 @@ module _ (number records : ℕ) (root feeder : Standing) (members : List Account
   not_feeder : (what : Command) → IsOther (turn_of feeder.by what)
   not_feeder what a b = let t = sym b ∙ is_itself feeder.by in absurd cc
 
-  each_turn : (P : Turn → Type 0) → P (turn_of root.by create) → AllByRecursion (λ what. P (turn_of feeder.by what)) rest → AllByRecursion (λ a. AllByRecursion P a.turns) members → AllByRecursion P h
+  each_turn : (P : Turn → Type 0) → P (turn_of root.by create) → AllByRecursion (λ what. P (turn_of feeder.by what)) rest
+      → AllByRecursion (λ a. AllByRecursion P a.turns) members → AllByRecursion P h
   each_turn P of_root of_feeder of_members =
       let first : AllByRecursion P root.own = subst (AllByRecursion P) (sym is.fed.of_root) (of_root, tt) in
-      let others : AllByRecursion P feeder.own = subst (AllByRecursion P) (sym is.fed.of_feeder) (all_asked P feeder.by (reverse rest) (all_reverse (λ what. P (turn_of feeder.by what)) rest of_feeder)) in
+      let others : AllByRecursion P feeder.own = subst (AllByRecursion P) (sym is.fed.of_feeder)
+      (all_asked P feeder.by (reverse rest) (all_reverse (λ what. P (turn_of feeder.by what)) rest of_feeder)) in
       all_turns P (all_accounts root feeder members) h is.own is.all (first, (others, of_members))
 
   leased : (P : Turn → Type 0) → ((t : Turn) → t.at ≤ 30600 * 50 → is_service t.what ≡ false → P t) → AllByRecursion (λ a. AllByRecursion P a.turns) members
@@ -179,7 +185,8 @@ module _ (number records : ℕ) (root feeder : Standing) (members : List Account
         made = ap commands_in (is.own.0 ∙ is.fed.of_root);
         fed = ap commands_in (is.own.1.0 ∙ is.fed.of_feeder) ∙ commands_of feeder.by (reverse rest);
         after = none_older feeder.own refl;
-        others = each_turn IsOther (not_root create) (always (λ what. IsOther (turn_of feeder.by what)) rest not_feeder) (leased IsOther (λ t below service a b. service));
+        others = each_turn IsOther (not_root create) (always (λ what. IsOther (turn_of feeder.by what)) rest not_feeder)
+            (leased IsOther (λ t below service a b. service));
       }
 
   pub is_short : length h < 2 ^ 32
@@ -194,7 +201,8 @@ module _ (number records : ℕ) (root feeder : Standing) (members : List Account
 
   pub is_below : clock h < LEAST_RETENTION
   is_below =
-      let most = clock_by 1530000 h (each_turn (λ t. t.at ≤ 1530000) (omega arith) (always (λ what. 0 ≤ 1530000) rest (λ _. omega arith)) (leased (λ t. t.at ≤ 1530000) (λ t below service. below))) in
+      let most = clock_by 1530000 h (each_turn (λ t. t.at ≤ 1530000) (omega arith) (always (λ what. 0 ≤ 1530000) rest (λ _. omega arith))
+      (leased (λ t. t.at ≤ 1530000) (λ t below service. below))) in
       omega (arith, most)
 
   horizons : (xs : List Account) → AllByRecursion (IsMemberAccount records) xs → AllByRecursion (λ a. AreDrillTurns a.turns) xs

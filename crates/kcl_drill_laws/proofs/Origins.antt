@@ -23,7 +23,7 @@ use Rattle.kds_defs.specs.LeaseCommands.{counting_origin, follows_parent, past_p
 use Rattle.kds_defs.specs.Leases.{TenureState, origin_after, origin_of, row}
 use Rattle.kds_defs.specs.Shards.{ShardState}
 use Rattle.kcl_laws.specs.RowLines.{IsToldRow, Making, last_bound, making}
-use Rattle.kcl_closed.specs.Closed.{AreDrillTurns, AreFromHorizon, IsDrillCommand}
+use Rattle.kcl_drill_laws.specs.Closed.{AreDrillTurns, AreFromHorizon, IsDrillCommand}
 
 -- a row that the line makes lets reading begin at the trim horizon
 abbrev IsSoMade : Entry → Type 0

@@ -1,5 +1,6 @@
 -- From a drill's history to its text.
-use Rattle.std.proofs.Common.{◌≡◌, ℕ, ◌<◌, ◌≤◌, ◌^◌, max, false, List, [], ◌∷◌, ◌++◌, length, Option, Some, None, refl, sym, ap, subst, ◌∙◌, append_assoc, arith}
+use Rattle.std.proofs.Common.{◌≡◌, ℕ, ◌<◌, ◌≤◌, ◌^◌, max, false, List, [], ◌∷◌, ◌++◌, length, Option, Some, None, refl, sym, ap, subst, ◌∙◌, append_assoc}
+use Rattle.std.proofs.Common.{arith}
 use Rattle.std.specs.Prelude.{nat_lt}
 use Rattle.std.specs.List.{AllByRecursion}
 use Rattle.std.proofs.lemmas.Bool.Decides.{nat_tests}
@@ -14,7 +15,7 @@ use Rattle.kcl_drill.specs.Fed.{IsDrill}
 use Rattle.kcl_drill.specs.Summed.{AreDrained, drill_text, summary_text}
 use Rattle.kcl_drill_summary.specs.Counting.{AreAbove, CanSum}
 use Rattle.kcl_drill_summary.specs.Reading.{HasRead}
-use Rattle.kcl_closed.specs.Closed.{AreFromHorizon, AreLeased}
+use Rattle.kcl_drill_laws.specs.Closed.{AreFromHorizon, AreLeased}
 use Rattle.kcl_drill_drain.specs.Draining.{CanDrain}
 use Rattle.kcl_drill_drain.specs.Leased.{HasDrained}
 
@@ -56,9 +57,11 @@ module _ (untrimmed : (h : List Turn) (c s : ℕ) → IsHistory h → clock h �
 
 -- what the laws say of a drill's history
 pub record HasLaws : Type 0 where
-  pub drill : (number records by at : ℕ) (more h : List Turn) → IsDrill h number records → at ≤ clock h → AreLeased by at more → IsDrill (more ++ h) number records
+  pub drill : (number records by at : ℕ) (more h : List Turn) → IsDrill h number records → at ≤ clock h → AreLeased by at more
+      → IsDrill (more ++ h) number records
   pub summed : (h : List Turn) (number records : ℕ) → IsDrill h number records → CanSum h (clock h)
-  pub text : (h : List Turn) (number records : ℕ) → IsDrill h number records → AreDrained (journal h) (clock h) → summary_text (journal h) (clock h) ≡ drill_text number records
+  pub text : (h : List Turn) (number records : ℕ) → IsDrill h number records → AreDrained (journal h) (clock h)
+      → summary_text (journal h) (clock h) ≡ drill_text number records
 
 -- the machine's history once it was drained can be summed, and its summary is the drill's text
 pub record IsReady (stands : List Turn → Type 0) (by at number records : ℕ) : Type 0 where

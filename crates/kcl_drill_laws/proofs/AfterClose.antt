@@ -8,7 +8,7 @@ use Rattle.kds_defs.specs.Records.{Logged}
 use Rattle.kcl_drill.specs.Apart.{service_turns}
 use Rattle.kcl_drill.specs.Fed.{IsDrill, commands_in}
 use Rattle.kcl_drill_summary.specs.Counting.{AreAbove}
-use Rattle.kcl_closed.specs.Closed.{AreLeased}
+use Rattle.kcl_drill_laws.specs.Closed.{AreLeased}
 
 pub clock_same : (by at : ℕ) (more h : List Turn) → at ≤ clock h → AreLeased by at more → clock (more ++ h) ≡ clock h
 clock_same by at [] h below are = refl
@@ -26,7 +26,8 @@ history_more : (by at : ℕ) (more h : List Turn) → AreLeased by at more → I
 history_more by at [] h are is = is
 history_more by at (t ∷ more) h are is = (are.0.3, history_more by at more h are.1 is)
 
-pub still_drill : (number records by at : ℕ) (more h : List Turn) → IsDrill h number records → at ≤ clock h → AreLeased by at more → IsDrill (more ++ h) number records
+pub still_drill : (number records by at : ℕ) (more h : List Turn) → IsDrill h number records → at ≤ clock h → AreLeased by at more
+    → IsDrill (more ++ h) number records
 still_drill number records by at more h is below are =
     record {
       lawful = history_more by at more h are is.lawful;

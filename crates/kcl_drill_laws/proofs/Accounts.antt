@@ -30,7 +30,8 @@ one_here : (P : Turn → Type 0) (b : Bool) (t : Turn) (ts : List Turn) → b �
 one_here P true t ts is mine = mine.0
 one_here P false t ts is mine = absurd cc
 
-one_by : (P : Turn → Type 0) (a : Account) (t : Turn) (h : List Turn) (n : ℕ) (b : Bool) → (t.by == a.by) ≡ b → AllByRecursion P (cond (t.by == a.by) (t ∷ turns_by a.by h) (turns_by a.by h)) → 0 < has t.by a + n → (0 < n → P t) → P t
+one_by : (P : Turn → Type 0) (a : Account) (t : Turn) (h : List Turn) (n : ℕ) (b : Bool) → (t.by == a.by) ≡ b
+    → AllByRecursion P (cond (t.by == a.by) (t ∷ turns_by a.by h) (turns_by a.by h)) → 0 < has t.by a + n → (0 < n → P t) → P t
 one_by P a t h n true is mine some later = one_here P (t.by == a.by) t (turns_by a.by h) is mine
 one_by P a t h n false is mine some later =
     let none : has t.by a ≡ 0 = ap (λ b. cond b 1 0) (same_test a.by t.by ∙ is) in
@@ -44,11 +45,13 @@ all_of : (P : Turn → Type 0) (accounts : List Account) (h : List Turn) → OfE
 all_of P accounts [] of all = tt
 all_of P accounts (t ∷ h) of all = (one_of P accounts t h of all.0, all_of P accounts h (rest_of P accounts t h of) all.1)
 
-each_of : (P : Turn → Type 0) (accounts : List Account) (h : List Turn) → IsSplitInto accounts h → AllByRecursion (λ a. AllByRecursion P a.turns) accounts → OfEach P accounts h
+each_of : (P : Turn → Type 0) (accounts : List Account) (h : List Turn) → IsSplitInto accounts h → AllByRecursion (λ a. AllByRecursion P a.turns) accounts
+    → OfEach P accounts h
 each_of P [] h own of = tt
 each_of P (a ∷ rest) h own of = (subst (AllByRecursion P) (sym own.0) of.0, each_of P rest h own.1 of.1)
 
-pub all_turns : (P : Turn → Type 0) (accounts : List Account) (h : List Turn) → IsSplitInto accounts h → AreAllBy accounts h → AllByRecursion (λ a. AllByRecursion P a.turns) accounts → AllByRecursion P h
+pub all_turns : (P : Turn → Type 0) (accounts : List Account) (h : List Turn) → IsSplitInto accounts h → AreAllBy accounts h
+    → AllByRecursion (λ a. AllByRecursion P a.turns) accounts → AllByRecursion P h
 all_turns P accounts h own all of = all_of P accounts h (each_of P accounts h own of) all
 
 -- ---- how many turns there are
@@ -67,7 +70,8 @@ one_more t h [] = omega arith
 one_more t h (a ∷ rest) = either (t.by == a.by) refl (one_more t h rest)
   where
     either : (b : Bool) → (t.by == a.by) ≡ b → count_in (t ∷ h) rest ≡ times t.by rest + count_in h rest
-        → length (cond b (t ∷ turns_by a.by h) (turns_by a.by h)) + count_in (t ∷ h) rest ≡ (has t.by a + times t.by rest) + (length (turns_by a.by h) + count_in h rest)
+        → length (cond b (t ∷ turns_by a.by h) (turns_by a.by h)) + count_in (t ∷ h) rest ≡ (has t.by a + times t.by rest) +
+        (length (turns_by a.by h) + count_in h rest)
     either true is so = let one : has t.by a ≡ 1 = ap (λ b. cond b 1 0) (same_test a.by t.by ∙ is) in omega (arith, so, one)
     either false is so = let none : has t.by a ≡ 0 = ap (λ b. cond b 1 0) (same_test a.by t.by ∙ is) in omega (arith, so, none)
 
