@@ -4,9 +4,9 @@ use Rattle.kds_defs.specs.Safe.{IsSafe}
 use Rattle.kcl_sim.specs.Schedule.{history, ran}
 use Rattle.kcl_sim.specs.Serving.{AreAllServed}
 use Rattle.kds_cli_runs.specs.Answered.{AreHandedOn}
-use Rattle.kds_cli_program.proofs.Asked.{sound_by}
-use Rattle.kds_cli_program.proofs.Codes.{done_by, door_by, each, read_by, refused_code, usage_by, write_by}
-use Rattle.kds_cli_program.proofs.program.run.Goals as goal
+use Rattle.kds_cli_runs.proofs.Asked.{sound_by}
+use Rattle.kds_cli_runs.proofs.Codes.{done_by, door_by, each, read_by, refused_code, usage_by, write_by}
+use Rattle.kds_cli_runs.proofs.program.run.Goals as goal
 
 pub returns-clause-usage : goal.returns-clause-usage
 returns-clause-usage g c = λ two. c.perform_words-status.ensures.usage (usage_by c.perform_words-status.result (sym c.code.ensures ∙ two))
@@ -39,7 +39,8 @@ returns-clause-complete g c = λ read write door. record {
 }
 
 pub returns-clause-safe : goal.returns-clause-safe
-returns-clause-safe g c = λ journal is. each (λ bytes. IsSafe (journal_of (history bytes)) (clock (history bytes))) c.schedules.ensures.safe (g.S.Source.left c.args.input.now)
+returns-clause-safe g c = λ journal is. each (λ bytes. IsSafe (journal_of (history bytes)) (clock (history bytes))) c.schedules.ensures.safe
+    (g.S.Source.left c.args.input.now)
 
 pub returns-clause-served : goal.returns-clause-served
 returns-clause-served g c = λ journal is. each (λ bytes. AreAllServed (ran bytes)) c.schedules.ensures.served (g.S.Source.left c.args.input.now)

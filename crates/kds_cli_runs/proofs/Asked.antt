@@ -7,10 +7,11 @@ use Rattle.kds_cli_tasks.specs.declared.task.Task.{Task}
 use Rattle.kds_cli_tasks.specs.declared.task.Task.TheVariants.{Replay, Answer, Audit, Serve, Drill}
 use Rattle.kds_cli_runs.specs.Completed.{Completed}
 use Rattle.kds_cli_runs.specs.Ends.{Performed, Replayed, reads_input, serves_door}
-use Rattle.kds_cli_program.specs.Ends.{asks_for_door, asks_for_input}
+use Rattle.kds_cli_runs.specs.Program.{asks_for_door, asks_for_input}
 use Rattle.kds_cli_runs.specs.Journal.{IsAuditedSound}
 
-pub performed_by : (asked : Option Task) (task : Task) (status : Status) (bytes left moments held now : Option (List ℕ)) (listens : ℕ → Type 0) → Some task ≡ asked
+pub performed_by : (asked : Option Task) (task : Task) (status : Status) (bytes left moments held now : Option (List ℕ)) (listens : ℕ → Type 0)
+    → Some task ≡ asked
     → Performed task status bytes left moments held now listens → IfSome asked (λ t. Performed t status bytes left moments held now listens)
 performed_by asked task status bytes left moments held now listens is p =
     subst (λ (o : Option Task). IfSome o (λ t. Performed t status bytes left moments held now listens)) is p
@@ -35,7 +36,8 @@ pub sound_by : (asked : Option Task) (status : Status) (bytes left moments held 
 sound_by asked status bytes left moments held now listens p is done =
     sound_so status bytes left held now (subst (λ (o : Option Task). IfSome o (λ t. Performed t status bytes left moments held now listens)) is p) done
 
-pub completed_by : (asked : Option Task) (task : Task) (status : Status) (bytes : Option (List ℕ)) → Some task ≡ asked → Completed task status bytes → IfSome asked (λ t. Completed t status bytes)
+pub completed_by : (asked : Option Task) (task : Task) (status : Status) (bytes : Option (List ℕ)) → Some task ≡ asked → Completed task status bytes
+    → IfSome asked (λ t. Completed t status bytes)
 completed_by asked task status bytes is p = subst (λ (o : Option Task). IfSome o (λ t. Completed t status bytes)) is p
 
 if_some : {A : Type 0} (P : A → Type 0) → ((x : A) → P x) → (o : Option A) → IfSome o P
@@ -51,7 +53,8 @@ none_completed (Serve port passes) bytes = refl
 none_completed (Drill number workers records) bytes = inr refl
 
 -- the end of a task whose door doesn't listen is one of a task whose door may
-pub listens_or_not : (task : Task) (bytes left moments held now : Option (List ℕ)) (listens : ℕ → Type 0) → Performed task Memory bytes left moments held now (λ port. ⊥)
+pub listens_or_not : (task : Task) (bytes left moments held now : Option (List ℕ)) (listens : ℕ → Type 0)
+    → Performed task Memory bytes left moments held now (λ port. ⊥)
     → Performed task Memory bytes left moments held now listens
 listens_or_not (Replay journal) bytes left moments held now listens p = p
 listens_or_not Answer bytes left moments held now listens p = p

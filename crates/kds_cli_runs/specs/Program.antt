@@ -14,7 +14,8 @@ use Rattle.kds_cli_runs.specs.Words.{error_text}
 
 -- How the program ended: this is its exit status, the error output gained its text unless that output's own faults rose,
 -- and the run of the task that its words ask for ended so, where `listens` says that the door listens at a port.
-pub record EndsSo (code : ℕ) (words : List (String Global)) (bytes left moments held now told tells : Option (List ℕ)) (faults fails : ℕ) (listens : ℕ → Type 0) : Type 0 where
+pub record EndsSo (code : ℕ) (words : List (String Global)) (bytes left moments held now told tells : Option (List ℕ)) (faults fails : ℕ)
+    (listens : ℕ → Type 0) : Type 0 where
   pub status : Status
   pub is_code : code ≡ code_of status
   pub error : Appends told tells (error_text status) ⊎ Rose faults fails

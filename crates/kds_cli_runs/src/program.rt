@@ -11,9 +11,11 @@ ghost use Rattle.kds_cli_runs.specs.Answered.{AreHandedOn};
 ghost use Rattle.kds_cli_runs.specs.Completed.{Completed};
 ghost use Rattle.kds_cli_runs.specs.Ends.{Performed};
 ghost use Rattle.kds_cli_runs.specs.Journal.{IsAuditedSound};
-ghost use Rattle.kds_cli_program.specs.Ends.{CompletesSo, EndsSo, asks_for_door, asks_for_input};
+ghost use Rattle.kds_cli_runs.specs.Program.{CompletesSo, EndsSo, asks_for_door, asks_for_input};
 
-use kds_cli_runs::{no_room, perform, schedules, tell};
+use crate::errors::tell;
+use crate::laws::{no_room, schedules};
+use crate::tasks::perform;
 use kds_cli_words::find_task;
 use kds_ends::{Clock, Door, Sink, Source, Status};
 use std::alloc::Global;

@@ -3,9 +3,9 @@ use Rattle.kds_ends.specs.declared.status.Status.TheVariants.{Memory}
 use Rattle.kds_cli_tasks.specs.Words.{task_of, texts_of}
 use Rattle.kds_cli_runs.specs.Completed.{Completed}
 use Rattle.kds_cli_runs.specs.Ends.{Performed}
-use Rattle.kds_cli_program.proofs.Asked.{completed_by, listens_or_not, no_door, no_input, none_completed, not_none, performed_by}
-use Rattle.kds_cli_program.proofs.Codes.{each, no_usage}
-use Rattle.kds_cli_program.proofs.program.perform_words.Goals as goal
+use Rattle.kds_cli_runs.proofs.Asked.{completed_by, listens_or_not, no_door, no_input, none_completed, not_none, performed_by}
+use Rattle.kds_cli_runs.proofs.Codes.{each, no_usage}
+use Rattle.kds_cli_runs.proofs.program.perform_words.Goals as goal
 
 -- ---- the words are those of a task
 
@@ -30,7 +30,8 @@ returns-in-Ok-Some-clause-performed g c =
 
 pub returns-in-Ok-Some-clause-complete : goal.returns-in-Ok-Some-clause-complete
 returns-in-Ok-Some-clause-complete g c = λ read write door.
-    completed_by (task_of (texts_of c.args.words.now.items)) c.in-Ok-Some.task c.perform.result _ (sym c.in-Ok-Some.field-0-is ∙ c.in-Ok-Some.ensures.task) (c.perform.ensures.complete read write door)
+    completed_by (task_of (texts_of c.args.words.now.items)) c.in-Ok-Some.task c.perform.result _ (sym c.in-Ok-Some.field-0-is ∙ c.in-Ok-Some.ensures.task)
+    (c.perform.ensures.complete read write door)
 
 pub returns-in-Ok-Some-clause-door_left : goal.returns-in-Ok-Some-clause-door_left
 returns-in-Ok-Some-clause-door_left g c = λ none.
@@ -73,7 +74,9 @@ pub returns-in-Err-clause-untouched : goal.returns-in-Err-clause-untouched
 returns-in-Err-clause-untouched g c = λ none. (refl, refl)
 
 pub returns-in-Err-clause-performed : goal.returns-in-Err-clause-performed
-returns-in-Err-clause-performed g c = each (λ task. Performed task Memory _ _ _ _ _ _) (λ task. listens_or_not task _ _ _ _ _ _ (c.no_room.ensures task _ _ _ _)) (task_of (texts_of c.args.words.now.items))
+returns-in-Err-clause-performed g c = each (λ task. Performed task Memory _ _ _ _ _ _)
+    (λ task. listens_or_not task _ _ _ _ _ _ (c.no_room.ensures task _ _ _ _)) (task_of (texts_of c.args.words.now.items))
 
 pub returns-in-Err-clause-complete : goal.returns-in-Err-clause-complete
-returns-in-Err-clause-complete g c = λ read write door. each (λ task. Completed task Memory _) (λ task. none_completed task _) (task_of (texts_of c.args.words.now.items))
+returns-in-Err-clause-complete g c = λ read write door. each (λ task. Completed task Memory _) (λ task. none_completed task _)
+    (task_of (texts_of c.args.words.now.items))
