@@ -84,9 +84,13 @@ module _ (bytes : List ℕ) (texts rest : List (List ℕ)) (front back : List �
           let n = unsound_is (progress texts) b t.0 in
           (n.0, n.1, said ∙ n.2, wrote_all t.1.0 t.1.1 t.1.2)
       end_tells status.Write t =
-          let f = t.2 in
-          (front ++ f.0, f.1, sym (whole_text t.0 t.1) ∙ ap (λ z. front ++ z) f.2 ∙ sym (append_assoc front f.0 f.1), Appends-trans held mid now front f.0
-          written f.3)
+          let f = t.2 in (
+            front ++ f.0,
+            f.1,
+            sym (whole_text t.0 t.1) ∙ ap (λ z. front ++ z) f.2 ∙ sym (append_assoc front f.0 f.1),
+            Appends-trans held mid now front f.0
+                written f.3,
+          )
       end_tells status.Memory t =
           let f = front_told in
           (f.0, f.1, f.2, subst (λ (z : List ℕ). Appends held now z) (append-nil f.0) (Appends-trans held mid now f.0 [] f.3 t))

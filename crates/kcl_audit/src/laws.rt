@@ -10,7 +10,6 @@ ghost use Rattle.kcl_audit.specs.Progress.{audit_of, line_of, over, sound};
 ghost use Rattle.kcl_audit.specs.Text.{IsJournal};
 
 use kcl_audit_judge::exact as exact_verdicts;
-use kcl_journal::one_entry;
 
 /// A good line meets no rule; and of the entries that a text can tell, one that meets no rule is good.
 pub fn exact()
@@ -25,7 +24,7 @@ pub fn legal()
     ensures { (bytes : List ℕ) (n : ℕ) → audit_of bytes ≡ sound n → IsJournal bytes n }
 {
     exact_verdicts();
-    one_entry();
+    kcl_journal::one_entry();
 }
 
 /// The text of a legal journal, and its last line, is found sound, unless a line or the input is too long.
@@ -34,5 +33,5 @@ pub fn complete()
     ensures lengths { (bytes : List ℕ) → audit_of bytes ≡ over → (lined bytes).end ≡ too_long }
 {
     exact_verdicts();
-    one_entry();
+    kcl_journal::one_entry();
 }

@@ -8,7 +8,7 @@ ghost use Rattle.kcl_audit.specs.Stages.{Finishes, HasVersion, IsAt, Took, end_b
 
 use crate::stage::{Stage, end_name, entry_name, finish_stage, is_found, next, report_stage};
 use crate::verdict::Audit;
-use kcl_journal::{FIRST_VERSION, VERSION, one_entry, read_end, read_entry};
+use kcl_journal::{FIRST_VERSION, VERSION, read_end, read_entry};
 use kds_base::{Memory, Octets};
 use kds_lines::Taker;
 use std::alloc::Global;
@@ -29,7 +29,7 @@ fn line(
     ensures stands { (log : Journal) × Stands audit.new log }
     ensures known { IfOk result HasVersion }
 {
-    one_entry();
+    kcl_journal::one_entry();
     let number = next(count);
     if let Some(entry) = read_entry(alloc, text, version)? {
         return Ok(match entry_name(alloc, audit, entry)? {

@@ -10,7 +10,6 @@ ghost use Rattle.kcl_audit.specs.Audited.{AuditsAs, IsAuditStatus, IsNoJournal, 
 
 use crate::laws::{complete, legal};
 use crate::lines::AuditTaker;
-use kcl_laws::step;
 use kds_base::Octets;
 use kds_ends::{Sink, Source, Status, write_all};
 use kds_lines::{Outcome, read_lines};
@@ -90,7 +89,7 @@ pub fn run_audit<S: Source, K: Sink>(alloc: Global, input: &mut S, out: &mut K) 
 {
     legal();
     complete();
-    step();
+    kcl_laws::step();
     let mut taker = AuditTaker::new(alloc);
     let outcome = read_lines(alloc, &mut taker, input, out);
     end_audit(alloc, &taker, outcome, out)

@@ -6,7 +6,7 @@ ghost use Rattle.kcl_drill_drain.specs.Leased.{HasDrained, HasLeased};
 ghost use Rattle.kcl_drill_drain.specs.Steps.{Drains, Makes};
 
 use crate::asking::ask;
-use crate::laws::drain_laws;
+use crate::laws;
 use crate::making::make_keys;
 use crate::rows::drain_keys;
 use kds_base::{Memory, Moment};
@@ -57,7 +57,7 @@ pub fn lone_drain<M: Machine>(machine: &mut M, by: u32, at: Moment) -> Result<()
     ensures drained { (h : List Asked) → M.stands_for machine.old h → CanDrain h at → OnOk result (HasDrained (M.stands_for machine.new) by at h) }
     ensures begun { (h : List Asked) → M.stands_for machine.old h → HasLeased (M.stands_for machine.new) by at h }
 {
-    drain_laws();
+    laws::drain_laws();
     let before = ask(machine, by, at, Command::Survey)?;
     make_missing(machine, by, at, &before)?;
     let after = ask(machine, by, at, Command::Survey)?;

@@ -12,21 +12,18 @@ ghost use Rattle.kcl_drill_drain.specs.Draining.{AreFromHorizon, CanDrain};
 ghost use Rattle.kcl_drill_drain.specs.Laws.{HasLaws};
 ghost use Rattle.kcl_drill_drain.specs.Leased.{AreOwn};
 
-use kcl_drill_laws::{closed_parents, lease_counts, lease_floors, lease_turns, record_counts};
-use kcl_laws::{checkpoints, shard_records, step};
-
 /// The facts of a history that can be drained, and what turns on leases leave after it.
 pub fn drain_laws()
     ensures { (h : List Turn) (at : ℕ) → CanDrain h at → HasLaws h (max (clock h) at) }
 {
-    step();
-    checkpoints();
-    shard_records();
-    closed_parents();
-    lease_counts();
-    lease_floors();
-    lease_turns();
-    record_counts();
+    kcl_laws::step();
+    kcl_laws::checkpoints();
+    kcl_laws::shard_records();
+    kcl_drill_laws::closed_parents();
+    kcl_drill_laws::lease_counts();
+    kcl_drill_laws::lease_floors();
+    kcl_drill_laws::lease_turns();
+    kcl_drill_laws::record_counts();
 }
 
 /// The turns of a drain ask the stream service nothing, are lawful, and are no later than its moment.

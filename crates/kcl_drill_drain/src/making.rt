@@ -5,7 +5,7 @@ ghost use Rattle.kcl_drill_drain.specs.Leased.{HasLeased};
 ghost use Rattle.kcl_drill_drain.specs.Steps.{MakesKeys, MakesRow};
 
 use crate::asking::ask;
-use crate::laws::drain_laws;
+use crate::laws;
 use crate::rows::row_among;
 use kds_base::{Memory, Moment, ShardRef};
 use kds_defs::{Command, Machine, Origin, Row};
@@ -21,7 +21,7 @@ fn make_row<M: Machine>(
     ensures ok { MakesRow (M.stands_for machine.old) (M.stands_for machine.new) by at key seen result }
     ensures leased { (h : List Asked) → HasLeased (M.stands_for machine.old) by at h → HasLeased (M.stands_for machine.new) by at h }
 {
-    drain_laws();
+    laws::drain_laws();
     if seen.is_none() {
         let from = Origin::TrimHorizon;
         let _answer = ask(machine, by, at, Command::MakeLease { key, from })?;

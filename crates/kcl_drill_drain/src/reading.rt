@@ -8,7 +8,7 @@ ghost use Rattle.kcl_drill_drain.specs.Leased.{HasLeased};
 ghost use Rattle.kcl_drill_drain.specs.Steps.{Delivers, MarksLast, ReadsToEnd, Settles, StepsOn};
 
 use crate::held::DrainTenure;
-use crate::laws::drain_laws;
+use crate::laws;
 use crate::turns::{give, mark, read};
 use kcl_consumer::{Ask, Processor};
 use kcl_proc::Tally;
@@ -75,7 +75,7 @@ fn mark_last<M: Machine>(
     ensures ok { MarksLast (M.stands_for machine.old) (M.stands_for machine.new) by at held.now last result }
     ensures leased { (h : List Asked) → HasLeased (M.stands_for machine.old) by at h → HasLeased (M.stands_for machine.new) by at h }
 {
-    drain_laws();
+    laws::drain_laws();
     match last {
         Some(q) => mark(machine, by, at, held, Target::At(q)),
         None => Ok(held.counter),
@@ -96,7 +96,7 @@ fn settle<M: Machine>(
     ensures leased { (h : List Asked) → HasLeased (M.stands_for machine.old) by at h → HasLeased (M.stands_for machine.new) by at h }
     ensures rises { IfOk result (λ o. IfSome o (λ next. place < next.place)) }
 {
-    drain_laws();
+    laws::drain_laws();
     if ended {
         mark(machine, by, at, &held, Target::End)?;
         Ok(None)
@@ -119,7 +119,7 @@ fn deliver<M: Machine>(
     ensures leased { (h : List Asked) → HasLeased (M.stands_for machine.old) by at h → HasLeased (M.stands_for machine.new) by at h }
     ensures rises { IfOk result (λ o. IfSome o (λ next. held.now.place < next.place)) }
 {
-    drain_laws();
+    laws::drain_laws();
     give(machine, by, at, held)?;
     let counter = mark_last(machine, by, at, held, fetch.last)?;
     let next = DrainTenure {

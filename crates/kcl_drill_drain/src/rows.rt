@@ -6,7 +6,7 @@ ghost use Rattle.kcl_drill_summary.specs.Counting.{row_in};
 ghost use Rattle.kcl_drill_drain.specs.Leased.{HasLeased};
 ghost use Rattle.kcl_drill_drain.specs.Steps.{DrainsKeys, DrainsRow, DrainsTaken};
 
-use crate::laws::drain_laws;
+use crate::laws;
 use crate::reading::read_on;
 use crate::turns::{open, take};
 use kds_base::{Memory, Moment, ShardRef};
@@ -57,7 +57,7 @@ fn drain_row<M: Machine>(
     ensures ok { DrainsRow (M.stands_for machine.old) (M.stands_for machine.new) by at key row result }
     ensures leased { (h : List Asked) → HasLeased (M.stands_for machine.old) by at h → HasLeased (M.stands_for machine.new) by at h }
 {
-    drain_laws();
+    laws::drain_laws();
     match row {
         Some(row) => {
             if row.checkpoint.is_end() {

@@ -9,8 +9,7 @@ ghost use Rattle.kcl_drill_drain.specs.Steps.{Gives, Marks, Opens, Reads, Takes}
 
 use crate::asking::ask;
 use crate::held::{DrainTenure, READ};
-use crate::laws::drain_laws;
-use kcl_drill_laws::{held_answers, held_states};
+use crate::laws;
 use kds_base::{Checkpoint, Memory, Moment, ShardRef, WorkerNo};
 use kds_defs::{Answer, Command, Machine, Reply, Target};
 
@@ -67,8 +66,8 @@ pub fn take<M: Machine>(
     ensures ok { Takes (M.stands_for machine.old) (M.stands_for machine.new) by at key counter result }
     ensures leased { (h : List Asked) → HasLeased (M.stands_for machine.old) by at h → HasLeased (M.stands_for machine.new) by at h }
 {
-    drain_laws();
-    held_answers();
+    laws::drain_laws();
+    kcl_drill_laws::held_answers();
     let owner = WorkerNo(1);
     let what = Command::Take {
         key,
@@ -90,9 +89,9 @@ pub fn open<M: Machine>(
     ensures ok { Opens (M.stands_for machine.old) (M.stands_for machine.new) by at held.now result }
     ensures leased { (h : List Asked) → HasLeased (M.stands_for machine.old) by at h → HasLeased (M.stands_for machine.new) by at h }
 {
-    drain_laws();
-    held_answers();
-    held_states();
+    laws::drain_laws();
+    kcl_drill_laws::held_answers();
+    kcl_drill_laws::held_states();
     let tenure = held.tenure;
     let _answer = ask(machine, by, at, Command::OpenShard { tenure })?;
     Ok(())
@@ -108,9 +107,9 @@ pub fn read<M: Machine>(
     ensures ok { Reads (M.stands_for machine.old) (M.stands_for machine.new) by at held.now result }
     ensures leased { (h : List Asked) → HasLeased (M.stands_for machine.old) by at h → HasLeased (M.stands_for machine.new) by at h }
 {
-    drain_laws();
-    held_answers();
-    held_states();
+    laws::drain_laws();
+    kcl_drill_laws::held_answers();
+    kcl_drill_laws::held_states();
     let what = Command::Read {
         tenure: held.tenure,
         position: held.place,
@@ -129,8 +128,8 @@ pub fn give<M: Machine>(
     ensures ok { Gives (M.stands_for machine.old) (M.stands_for machine.new) by at held.now result }
     ensures leased { (h : List Asked) → HasLeased (M.stands_for machine.old) by at h → HasLeased (M.stands_for machine.new) by at h }
 {
-    held_answers();
-    held_states();
+    kcl_drill_laws::held_answers();
+    kcl_drill_laws::held_states();
     let tenure = held.tenure;
     let _answer = ask(machine, by, at, Command::Give { tenure })?;
     Ok(())
@@ -147,9 +146,9 @@ pub fn mark<M: Machine>(
     ensures ok { Marks (M.stands_for machine.old) (M.stands_for machine.new) by at held.now to result }
     ensures leased { (h : List Asked) → HasLeased (M.stands_for machine.old) by at h → HasLeased (M.stands_for machine.new) by at h }
 {
-    drain_laws();
-    held_answers();
-    held_states();
+    laws::drain_laws();
+    kcl_drill_laws::held_answers();
+    kcl_drill_laws::held_states();
     let what = Command::Mark {
         tenure: held.tenure,
         counter: held.counter,

@@ -12,7 +12,7 @@ ghost use Rattle.kcl_drill.specs.Fed.{IsDrill, IsFed};
 ghost use Rattle.kcl_drill_summary.specs.Counting.{CanSum};
 ghost use Rattle.kcl_drill_laws.specs.Closed.{AreDrillTurns, AreFromHorizon, AreLeased, IsClosed, IsStopped};
 
-use kcl_drill::{one_order, one_text, untrimmed};
+use kcl_drill::untrimmed;
 use kcl_laws::rows;
 
 /// However its passes came after one another, the closed history of a drill has the generator's commands in their order
@@ -27,7 +27,7 @@ pub fn closed()
     ensures short { (number records : ℕ) (root feeder : Standing) (members : List Account) (h : List Turn)
         → IsClosed number records root feeder members h → length h < 2 ^ 32 }
 {
-    one_order();
+    kcl_drill::one_order();
     rows()
 }
 
@@ -54,6 +54,6 @@ pub fn drained()
 pub fn summed()
     ensures { (h : List Turn) (number records : ℕ) → IsDrill h number records → CanSum h (clock h) }
 {
-    one_text();
+    kcl_drill::one_text();
     untrimmed()
 }

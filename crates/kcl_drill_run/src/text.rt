@@ -6,9 +6,7 @@ ghost use Rattle.kcl_drill.specs.Fed.{IsDrill};
 ghost use Rattle.kcl_drill.specs.Summed.{drill_text};
 ghost use Rattle.kcl_drill_laws.specs.Closed.{AreFromHorizon};
 
-use kcl_drill::{one_text, untrimmed};
 use kcl_drill_drain::lone_drain;
-use kcl_drill_laws::{drained, summed};
 use kcl_drill_summary::summary;
 use kds_base::{Memory, Moment, Octets};
 use kds_defs::Machine;
@@ -24,10 +22,10 @@ pub fn drained_text<M: Machine>(alloc: Global, machine: &mut M) -> Result<Octets
         → AreFromHorizon (journal h) → IfOk result (λ text. text ≡ drill_text number records) }
     ensures leased { (h : List Turn) → M.stands_for machine.old h → (more : List Turn) × M.stands_for machine.new (more ++ h) }
 {
-    one_text();
-    untrimmed();
-    drained();
-    summed();
+    kcl_drill::one_text();
+    kcl_drill::untrimmed();
+    kcl_drill_laws::drained();
+    kcl_drill_laws::summed();
     lone_drain(machine, NOBODY, Moment::start())?;
     let mut text = Octets::new(alloc);
     summary(alloc, machine, NOBODY, Moment::start(), &mut text)?;

@@ -7,7 +7,6 @@ ghost use Rattle.kcl_drill_run.specs.Participants.{AreDealt};
 ghost use Rattle.kcl_drill_run.specs.Running.{AreFull, HaveFailed, HaveRun, HaveStopped};
 
 use crate::participants::{DrillMember, Participants};
-use kcl_drill_laws::horizon;
 use kcl_drill_threads::crowd;
 use kcl_world::World;
 use kds_turn::{Hall, TurnErr};
@@ -46,7 +45,7 @@ pub fn run_threads<R: Threads + Wait + Sync>(
     ensures err { IfErr result (HaveFailed participants.old participants.new) }
     ensures full { IfErr result (λ e. e ≡ failed.Spent → AreFull participants.new) }
 {
-    horizon();
+    kcl_drill_laws::horizon();
     match crowd(
         rt,
         alloc,

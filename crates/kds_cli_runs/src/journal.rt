@@ -13,10 +13,9 @@ ghost use Rattle.kds_cli_runs.specs.Journal.{EndTells, IsAuditedSound, JournalTe
 ghost use Rattle.kds_cli_runs.specs.Told.{IsReplayStatus, TellsBy};
 
 use crate::schedule::status_of;
-use kcl_audit_sound::{have_bits, sound_histories};
+use kcl_audit_sound::have_bits;
 use kcl_journal::print_end;
-use kcl_sim::{lawful, one_after_another};
-use kcl_sim_recorder::{Recorder, line_by_line};
+use kcl_sim_recorder::Recorder;
 use kds_base::{Memory, Moment, Octets};
 use kds_defs::Machine;
 use kds_ends::{Sink, Source, Status, write_all};
@@ -63,8 +62,8 @@ fn write_entries<M: Machine, S: Source, K: Sink>(
     ensures later { K.faults out.old ≤ K.faults out.new }
     ensures kinds { IsReplayStatus result }
 {
-    one_after_another();
-    line_by_line();
+    kcl_sim::one_after_another();
+    kcl_sim_recorder::line_by_line();
     let outcome = read_lines(alloc, recorder, input, out);
     status_of(outcome)
 }
@@ -130,8 +129,8 @@ pub fn record_schedule<M: Machine + Drop, S: Source, K: Sink>(
     ensures write { result.status ≡ Status.Write → Rose (K.faults out.old) (K.faults out.new) }
     ensures kinds { IsReplayStatus result.status }
 {
-    lawful();
-    sound_histories();
+    kcl_sim::lawful();
+    kcl_audit_sound::sound_histories();
     let mut recorder = Recorder::new(alloc, machine);
     match write_all(out, b"journal 2\n".as_slice()) {
         Ok(()) => Recorded {

@@ -11,15 +11,14 @@ ghost use Rattle.kcl_sim.specs.Serving.{AreAllServed};
 ghost use Rattle.kds_cli_runs.specs.Answered.{AreHandedOn};
 ghost use Rattle.kds_cli_runs.specs.Ends.{Performed};
 
-use kcl_laws::step;
-use kcl_sim::{handed_off, lawful, served};
+use kcl_sim::{lawful, served};
 use kds_ends::Status;
 
 /// The state of every lawful history is safe, at its clock.
 pub fn safety()
     ensures { (h : List Turn) → IsHistory h → IsSafe (journal_of h) (clock_of h) }
 {
-    step();
+    kcl_laws::step();
 }
 
 /// The state of every schedule's turns is safe, at their clock; its workers' processors are called for what is given; and
@@ -32,7 +31,7 @@ pub fn schedules()
     lawful();
     safety();
     served();
-    handed_off();
+    kcl_sim::handed_off();
 }
 
 /// Want of memory before anything is read is an end of each task, whose door doesn't listen.

@@ -14,7 +14,7 @@ ghost use Rattle.kds_cli_runs.specs.Journal.{IsAuditedSound};
 ghost use Rattle.kds_cli_runs.specs.Program.{CompletesSo, EndsSo, asks_for_door, asks_for_input};
 
 use crate::errors::tell;
-use crate::laws::{no_room, schedules};
+use crate::laws;
 use crate::tasks::perform;
 use kds_cli_words::find_task;
 use kds_ends::{Clock, Door, Sink, Source, Status};
@@ -54,7 +54,7 @@ where
     ensures write { result ≡ Status.Write → Rose (K.faults out.old) (K.faults out.new) }
     ensures door { result ≡ Status.Door → Rose (D.faults door.old) (D.faults door.new) }
 {
-    no_room();
+    laws::no_room();
     match find_task(alloc, words) {
         Ok(Some(task)) => perform(rt, alloc, task, input, out, clock, door),
         Ok(None) => Status::Usage,
@@ -110,7 +110,7 @@ where
     ensures write { result ≡ 5 → Rose (K.faults out.old) (K.faults out.new) }
     ensures door { result ≡ 8 → Rose (D.faults door.old) (D.faults door.new) }
 {
-    schedules();
+    laws::schedules();
     let status = perform_words(rt, alloc, words, input, out, clock, door);
     tell(err, status);
     status.code()

@@ -14,9 +14,9 @@ ghost use Rattle.kds_cli_runs.specs.Journal.{IsAuditedSound};
 ghost use Rattle.kds_cli_runs.specs.Told.{IsReplayStatus};
 
 use crate::journal::record_schedule;
-use crate::laws::{safety, schedules};
+use crate::laws;
 use crate::schedule::run_schedule;
-use kcl_sim::{lawful, served};
+use kcl_sim::served;
 use kcl_world::World;
 use kds_ends::{Clock, Door, Sink, Source, Status, write_all};
 use kds_server::{crew, serve_lone};
@@ -64,10 +64,10 @@ pub fn run_replay<S: Source, K: Sink>(
     ensures write { result ≡ Status.Write → Rose (K.faults out.old) (K.faults out.new) }
     ensures kinds { IsReplayStatus result }
 {
-    lawful();
-    safety();
+    kcl_sim::lawful();
+    laws::safety();
     served();
-    schedules();
+    laws::schedules();
     if journal {
         return record_schedule(alloc, World::new(alloc), input, out).status;
     }

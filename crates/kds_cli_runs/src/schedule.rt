@@ -4,7 +4,7 @@ ghost use Rattle.kds_ends.specs.Causes.{Rose};
 ghost use Rattle.kds_cli_runs.specs.Answered.{status_of as status_at, RanSo};
 ghost use Rattle.kds_cli_runs.specs.Told.{Tells, IsReplayStatus};
 
-use kcl_sim::{Sim, one_after_another};
+use kcl_sim::Sim;
 use kds_defs::Machine;
 use kds_ends::{Sink, Source, Status};
 use kds_lines::{Outcome, read_lines};
@@ -49,7 +49,7 @@ pub fn run_schedule<M: Machine + Drop, S: Source, K: Sink>(
     ensures write { result.status ≡ Status.Write → Rose (K.faults out.old) (K.faults out.new) }
     ensures kinds { IsReplayStatus result.status }
 {
-    one_after_another();
+    kcl_sim::one_after_another();
     let mut sim = Sim::new(alloc, machine);
     let outcome = read_lines(alloc, &mut sim, input, out);
     let status = status_of(outcome);

@@ -8,7 +8,7 @@ ghost use Rattle.kds_cli_runs.specs.Ends.{Performed, reads_input, serves_door};
 use crate::runs::{run_answer, run_replay, run_serve};
 use kcl_audit::run_audit;
 use kcl_drill_run::run_drill;
-use kds_cli_tasks::{Task, limits};
+use kds_cli_tasks::Task;
 use kds_ends::{Clock, Door, Sink, Source, Status};
 use std::alloc::Global;
 use std::sync::Wait;
@@ -45,7 +45,7 @@ where
     ensures write { result ≡ Status.Write → Rose (K.faults out.old) (K.faults out.new) }
     ensures door { result ≡ Status.Door → Rose (D.faults door.old) (D.faults door.new) }
 {
-    limits();
+    kds_cli_tasks::limits();
     match task {
         Task::Replay { journal } => run_replay(alloc, input, out, journal),
         Task::Answer => {
