@@ -13,3 +13,4 @@ pub mod Counted
 pub mod Keys
 pub mod Members
 pub mod Rising
+pub mod Elsewhere

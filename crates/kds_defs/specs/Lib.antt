@@ -23,3 +23,4 @@ pub mod Scaling
 pub mod Rates
 pub mod ScaleCommands
 pub mod PutCommands
+pub mod Subjects

@@ -1,7 +1,8 @@
 //! What can be asked of the machine.
-ghost use Rattle.std.specs.Prelude.{◌≡◌};
+ghost use Rattle.std.specs.Prelude.{◌≡◌, option_map};
 ghost use Rattle.kds_defs.specs.Kinds.{is_change, is_service};
 ghost use Rattle.kds_defs.specs.Requests.{request_turn};
+ghost use Rattle.kds_defs.specs.Subjects.{name_of_command};
 
 use crate::limits::API_ACTOR;
 use crate::reply::{Iter, Page};
@@ -226,6 +227,27 @@ impl Command {
                 | Command::Scale { .. }
                 | Command::Enforce { .. }
         )
+    }
+
+    /// The name of the stream that it is for: a stream that must be there, so CreateStream has none.
+    pub fn stream_name(&self) -> Option<&Name>
+        ensures { option_map (λ n. n.now) result ≡ name_of_command self.now }
+    {
+        match self {
+            Command::Delete { name }
+            | Command::Describe { name, .. }
+            | Command::Summary { name }
+            | Command::Shards { name, .. }
+            | Command::GetIterator { name, .. }
+            | Command::Put { name, .. }
+            | Command::PutMany { name, .. }
+            | Command::Split { name, .. }
+            | Command::Merge { name, .. }
+            | Command::Keep { name, .. }
+            | Command::Scale { name, .. }
+            | Command::Enforce { name, .. } => Some(name),
+            _ => None,
+        }
     }
 }
 

@@ -1,4 +1,7 @@
 //! What the lines of the journal say.
+ghost use Rattle.std.specs.Prelude.{◌≡◌};
+ghost use Rattle.kds_defs.specs.Subjects.{stream_of};
+
 use crate::command::{Origin, Target};
 use kds_base::{Items, Name, Seq, ShardNo, ShardRef, StreamNo, TenureNo, WorkerNo};
 
@@ -99,4 +102,22 @@ pub enum Entry {
         key: ShardRef,
         counter: u64,
     },
+}
+
+impl Entry {
+    /// The stream that it speaks of, if it isn't of a lease.
+    pub fn stream(&self) -> Option<StreamNo>
+        ensures { result ≡ stream_of self.now }
+    {
+        match self {
+            Entry::Made { stream, .. }
+            | Entry::Gone { stream }
+            | Entry::Put { stream, .. }
+            | Entry::Split { stream, .. }
+            | Entry::Merged { stream, .. }
+            | Entry::Kept { stream, .. }
+            | Entry::Enforced { stream, .. } => Some(*stream),
+            _ => None,
+        }
+    }
 }
