@@ -7,6 +7,8 @@ pub mod KindLemmas
 pub mod Homes
 pub mod ScalingExamples
 pub mod ThroughputExamples
+pub mod Leads
+pub mod Walk
 mod LastPlaces
 pub mod Batches
 pub mod Counted
