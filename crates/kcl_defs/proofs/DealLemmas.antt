@@ -1,6 +1,6 @@
 -- The reads and gives among an actor's turns are those of its tenures in the journal.
 use Rattle.std.proofs.Common.{◌≡◌, ℕ, ◌+◌, ◌<◌, Bool, true, false, List, [], ◌∷◌, ◌++◌, Option, Some, None, Ok, Err, refl, sym, ap, subst, ◌∙◌, arith}
-use Rattle.std.specs.Prelude.{◌==◌, not, cond, if◌then◌else◌, Result, map}
+use Rattle.std.specs.Prelude.{◌==◌, cond, if◌then◌else◌, Result, map}
 use Rattle.std.specs.List.{AllByRecursion}
 use Rattle.std.specs.Option.{option_map}
 use Rattle.std.proofs.lemmas.Bool.Decides.{nat_tests}
@@ -11,9 +11,6 @@ use Rattle.kds_base.specs.declared.lease_key.ShardRef.{ShardRef}
 use Rattle.kds_base.proofs.Facts.{plus_none, equal_so, apart as apart_tests}
 use Rattle.kds_defs.specs.declared.command.Command.{Command}
 use Rattle.kds_defs.specs.declared.command.Command.TheVariants as command
-use Rattle.kds_defs.specs.declared.command.NewItem.{NewItem}
-use Rattle.kds_defs.specs.declared.command.Target.{Target}
-use Rattle.kds_defs.specs.declared.command.Target.TheVariants as target
 use Rattle.kds_defs.specs.declared.command.Turn.{Turn}
 use Rattle.kcl_defs.specs.declared.consumer.Fetched.{Fetched}
 use Rattle.kds_defs.specs.declared.entry.Entry.{Entry}
@@ -22,42 +19,20 @@ use Rattle.kds_defs.specs.declared.reply.Refusal.{Refusal}
 use Rattle.kds_defs.specs.declared.reply.Reply.{Reply}
 use Rattle.kds_defs.specs.declared.reply.Reply.TheVariants as reply
 use Rattle.kds_defs.specs.declared.reply.Stored.{Stored}
-use Rattle.kds_defs.specs.declared.scale.ScaleStep.{ScaleStep}
-use Rattle.kds_defs.specs.declared.scale.ScaleStep.TheVariants.{Join, Cut}
-use Rattle.kds_defs.specs.Decision.{Decision, Refused, Accepted, refuse◌if◌else◌, with◌or◌then◌}
+use Rattle.kds_defs.specs.Decision.{Decision, refuse◌if◌else◌, with◌or◌then◌}
 use Rattle.kds_defs.specs.Histories.{decide, lines_of, answer_of, journal, clock, answer}
 use Rattle.kds_defs.specs.Journal.{Line, Journal, with_lines}
 use Rattle.kds_defs.specs.Leases.{TenureState, tenure, tenure_after, taken_count, taken_count_after, new_tenure, with_opened, with_read, with_given, row, checkpoint_in, reach, delivered}
-use Rattle.kds_defs.specs.LeaseCommands.{take_lease, open_shard, read, give, past_parent, past_parents, past_target}
-use Rattle.kds_defs.specs.Listings.{records_reply, ends_at, behind, iterator_at}
+use Rattle.kds_defs.specs.LeaseCommands.{take_lease, open_shard, read, give}
+use Rattle.kds_defs.specs.Listings.{ends_at}
 use Rattle.kcl_defs.specs.Lives.{Deal, deals_of, reads_of, reads_in, gives_of, gives_in, give_in}
-use Rattle.kds_defs.specs.Records.{Logged, left_from, stored, numbers_of, batch, place_after}
-use Rattle.kds_defs.specs.Shards.{ShardState, shard_at, shown, children}
-use Rattle.kds_defs.specs.PutCommands.{is_held_back, put_lines}
-use Rattle.kds_defs.specs.ScaleCommands.{step_lines}
+use Rattle.kds_defs.specs.Records.{Logged, stored, numbers_of, batch, place_after}
+use Rattle.kds_defs.specs.Shards.{shard_at}
 use Rattle.kds_defs.proofs.Counted.{numbers_stored}
+use Rattle.kds_defs.proofs.Leads.{Leads, leads_so, past_none, past_test, past_the_parents}
+use Rattle.kds_defs.proofs.Walk.{Outcome, IsAdded, Alone, Answers, Adds, Creates, Takes, Surveys, each_line, walk}
 use Rattle.kcl_defs.proofs.WorkerLemmas.{begins, was_taken, IsNewTenure, AreNewTenures, IsQuiet}
 use Rattle.kcl_defs.specs.WorkerLives.{read_done, AreOfTenure}
-
--- ---- what a decision leads to
-
-abbrev pub Leads : (List Line → Result Reply Refusal → Type 0) → Decision → Type 0
-Leads P (Refused r) = P [] (Err r)
-Leads P (Accepted lines reply) = P lines (Ok reply)
-
-pub leads_so : (P : List Line → Result Reply Refusal → Type 0) (d : Decision) → Leads P d → P (lines_of d) (answer_of d)
-leads_so P (Refused r) h = h
-leads_so P (Accepted lines reply) h = h
-
-if_refused : (P : List Line → Result Reply Refusal → Type 0) (r : Refusal) (b : Bool) (d : Decision) → P [] (Err r) → (b ≡ false → Leads P d) → Leads P (refuse r if b else d)
-unfolding refuse◌if◌else◌
-if_refused P r true d h g = h
-if_refused P r false d h g = g refl
-
-if_none : {A : Type 0} (P : List Line → Result Reply Refusal → Type 0) (r : Refusal) (o : Option A) (d : A → Decision) → P [] (Err r) → ((x : A) → o ≡ Some x → Leads P (d x)) → Leads P (with o or r then d)
-unfolding with◌or◌then◌
-if_none P r None d h g = h
-if_none P r (Some x) d h g = g x refl
 
 -- ---- lines that leave the tenures
 
@@ -87,52 +62,6 @@ pub record LeavesTenures (lines : List Line) (answer : Result Reply Refusal) : T
   pub lines_still : AreStill lines
   pub begins_none : (t : ℕ) → begins t answer ≡ false
 
-refused_leaves : (r : Refusal) → LeavesTenures [] (Err r)
-refused_leaves r = record { lines_still = tt; begins_none = λ t. refl }
-
--- ---- which commands do so
-
-one_still : (b : Bool) (xs ys : List Line) → AreStill xs → AreStill ys → AreStill (if b then xs else ys)
-one_still true xs ys h g = h
-one_still false xs ys h g = g
-
-put_still : (c by s : ℕ) (items : List NewItem) (log : Journal) → AreStill (put_lines log c by s items)
-put_still c by s [] log = tt
-put_still c by s (item ∷ items) log = one_still (is_held_back log c s item) _ _ (put_still c by s items log) (tt, put_still c by s items _)
-
-step_still : (c by s : ℕ) (steps : List ScaleStep) (log : Journal) → AreStill (step_lines log c by s steps)
-step_still c by s [] log = tt
-step_still c by s (Join b ∷ steps) log = (tt, step_still c by s steps _)
-step_still c by s (Cut b ∷ steps) log = (tt, step_still c by s steps _)
-
-no : (r : Refusal) (b : Bool) (d : Decision) → Leads LeavesTenures d → Leads LeavesTenures (refuse r if b else d)
-no r b d h = if_refused LeavesTenures r b d (refused_leaves r) (λ e. h)
-
-on : {A : Type 0} (r : Refusal) (o : Option A) (d : A → Decision) → ((x : A) → Leads LeavesTenures (d x)) → Leads LeavesTenures (with o or r then d)
-on r o d h = if_none LeavesTenures r o d (refused_leaves r) (λ x e. h x)
-
-done : {lines : List Line} {reply : Reply} → AreStill lines → ((t : ℕ) → begins t (Ok reply) ≡ false) → LeavesTenures lines (Ok reply)
-done h g = record { lines_still = h; begins_none = g }
-
-records_leave : (log : Journal) (c s sh : ℕ) (rs : List Logged) (place : ℕ) → Leads LeavesTenures (records_reply log c s sh rs place)
-records_leave log c s sh rs place = record { lines_still = tt; begins_none = λ t. choice t (ends_at log c s sh place) (reply.Records (map stored rs) None (behind c (left_from log c s sh place)) (map shown (children log s sh))) (reply.Records (map stored rs) (Some (iterator_at c s sh place)) (behind c (left_from log c s sh place)) []) refl refl }
-  where
-    choice : (t : ℕ) (b : Bool) (x y : Reply) → begins t (Ok x) ≡ false → begins t (Ok y) ≡ false → begins t (Ok (cond b x y)) ≡ false
-    choice t true x y h g = h
-    choice t false x y h g = g
-
--- a parent that is unread refuses
-parent_leaves : (log : Journal) (c s : ℕ) (o : Option ℕ) (d : Decision) → Leads LeavesTenures d → Leads LeavesTenures (past_parent log c s o d)
-parent_leaves log c s None d h = h
-parent_leaves log c s (Some parent) d h = no _ _ d h
-
-plain : Leads LeavesTenures (Accepted [] reply.Done)
-plain = record { lines_still = tt; begins_none = λ t. refl }
-
-target_leaves : (log : Journal) (T : TenureState) (to : Target) (d : Decision) → Leads LeavesTenures d → Leads LeavesTenures (past_target log T to d)
-target_leaves log T (target.At q) d h = no _ _ _ (no _ _ _ (no _ _ _ h))
-target_leaves log T target.End d h = no _ _ _ h
-
 -- the commands that begin, open, read or give no tenure
 abbrev pub TouchesNone : Command → Type 0
 TouchesNone (command.Take key counter owner) = ⊥
@@ -141,33 +70,22 @@ TouchesNone (command.Read t position limit) = ⊥
 TouchesNone (command.Give t) = ⊥
 TouchesNone _ = Unit {0}
 
-command_leaves : (log : Journal) (c by : ℕ) (what : Command) → TouchesNone what → Leads LeavesTenures (decide log c by what)
-command_leaves log c by (command.Create name count) h = no _ _ _ (no _ _ _ (no _ _ _ (done (tt, tt) (λ t. refl))))
-command_leaves log c by (command.Delete name) h = on _ _ _ (λ s. done (tt, tt) (λ t. refl))
-command_leaves log c by (command.Streams after limit) h = done tt (λ t. refl)
-command_leaves log c by (command.Describe name after limit) h = on _ _ _ (λ s. done tt (λ t. refl))
-command_leaves log c by (command.Summary name) h = on _ _ _ (λ s. done tt (λ t. refl))
-command_leaves log c by (command.Shards name after limit) h = on _ _ _ (λ s. done tt (λ t. refl))
-command_leaves log c by (command.More page limit) h = no _ _ _ (no _ _ _ (done tt (λ t. refl)))
-command_leaves log c by (command.GetIterator name sh from) h = on _ _ _ (λ s. no _ _ _ (on _ _ _ (λ x. no _ _ _ (done tt (λ t. refl)))))
-command_leaves log c by (command.Records iter limit) h = no _ _ _ (no _ _ _ (no _ _ _ (records_leave log c iter.stream iter.shard _ _)))
-command_leaves log c by (command.Put name item) h = on _ _ _ (λ s. no _ _ _ (no _ _ _ (done (tt, tt) (λ t. refl))))
-command_leaves log c by (command.PutMany name items) h = on _ _ _ (λ s. no _ _ _ (done (put_still c by s items log) (λ t. refl)))
-command_leaves log c by (command.Split name sh at) h = on _ _ _ (λ s. no _ _ _ (no _ _ _ (no _ _ _ (no _ _ _ (no _ _ _ (done (tt, tt) (λ t. refl)))))))
-command_leaves log c by (command.Merge name sh other) h = on _ _ _ (λ s. no _ _ _ (no _ _ _ (no _ _ _ (no _ _ _ (done (tt, tt) (λ t. refl))))))
-command_leaves log c by (command.Keep name wanted raise) h = on _ _ _ (λ s. no _ _ _ (done (tt, tt) (λ t. refl)))
-command_leaves log c by (command.Scale name target) h = on _ _ _ (λ s. no _ _ _ (no _ _ _ (done (step_still c by s _ log) (λ t. refl))))
-command_leaves log c by (command.Enforce name limits) h = on _ _ _ (λ s. done (tt, tt) (λ t. refl))
-command_leaves log c by command.Survey h = done tt (λ t. refl)
-command_leaves log c by (command.MakeLease key from) h = no _ _ _ (no _ _ _ (done (tt, tt) (λ t. refl)))
-command_leaves log c by (command.Take key counter owner) h = absurd h
-command_leaves log c by (command.Renew t counter) h = on _ _ _ (λ T. no _ _ _ (no _ _ _ (no _ _ _ (no _ _ _ (done (tt, tt) (λ u. refl))))))
-command_leaves log c by (command.Free t counter) h = on _ _ _ (λ T. no _ _ _ (no _ _ _ (no _ _ _ (no _ _ _ (done (tt, tt) (λ u. refl))))))
-command_leaves log c by (command.OpenShard t) h = absurd h
-command_leaves log c by (command.Read t position limit) h = absurd h
-command_leaves log c by (command.Give t) h = absurd h
-command_leaves log c by (command.Mark t counter to) h = on _ _ _ (λ T. no _ _ _ (no _ _ _ (no _ _ _ (target_leaves log T to _ (no _ _ _ (done (tt, tt) (λ u. refl)))))))
-command_leaves log c by (command.CutLease key counter) h = on _ _ _ (λ r. no _ _ _ (no _ _ _ (done (tt, tt) (λ t. refl))))
+still_told : (log : Journal) (c by : ℕ) (what : Command) (line : Line) → IsAdded log c by what line → TouchesNone what → IsStill line.what
+still_told log c by _ _ (Alone _ _ _ (Creates name count fits)) h = tt
+still_told log c by _ _ _ h = h
+
+begins_not : (log : Journal) (c by : ℕ) (what : Command) (lines : List Line) (answer : Result Reply Refusal) → Outcome log c by what lines answer
+    → TouchesNone what → (t : ℕ) → begins t answer ≡ false
+begins_not log c by _ _ _ (Answers _ _ (Surveys keys rows)) h t = refl
+begins_not log c by _ _ _ (Adds _ _ _ (Takes key counter owner r there same fits)) h t = absurd h
+begins_not log c by _ _ _ _ h t = refl
+
+command_leaves : (log : Journal) (c by : ℕ) (what : Command) → TouchesNone what
+    → LeavesTenures (lines_of (decide log c by what)) (answer_of (decide log c by what))
+command_leaves log c by what h = record {
+  lines_still = each_line (λ line. IsStill line.what) log c by what (λ line is. still_told log c by what line is h);
+  begins_none = begins_not log c by what _ _ (walk log c by what) h;
+}
 
 -- ---- an actor's reads and gives are those of its tenures
 
@@ -179,7 +97,8 @@ AgreeWith by t deals (Some T) =
     × ((T.by == by) ≡ false → (reads_in t deals ≡ []) × (gives_in t deals ≡ 0))
 
 -- a command that adds nothing
-agree_still : (by t : ℕ) (deal : Deal) (deals : List Deal) (o : Option TenureState) → begins t deal.answer ≡ false → reads_of t deal.what deal.answer ≡ [] → gives_of t deal.what deal.answer ≡ 0 → AgreeWith by t deals o → AgreeWith by t (deal ∷ deals) o
+agree_still : (by t : ℕ) (deal : Deal) (deals : List Deal) (o : Option TenureState) → begins t deal.answer ≡ false → reads_of t deal.what deal.answer ≡ []
+    → gives_of t deal.what deal.answer ≡ 0 → AgreeWith by t deals o → AgreeWith by t (deal ∷ deals) o
 agree_still by t deal deals None b r g h = (
   or_from (begins t deal.answer) (was_taken t deals) b h.0,
   ap (λ rs. reads_in t deals ++ rs) r ∙ append-nil (reads_in t deals) ∙ h.1,
@@ -200,7 +119,8 @@ none_of : {o : Option TenureState} (f : TenureState → TenureState) (b : Bool) 
 none_of f b h = ap (λ o. cond b (option_map f o) o) h ∙ same_none b
 
 -- of a tenure that is there, whatever begins
-agree_still_some : (by t : ℕ) (deal : Deal) (deals : List Deal) (T : TenureState) → reads_of t deal.what deal.answer ≡ [] → gives_of t deal.what deal.answer ≡ 0 → AgreeWith by t deals (Some T) → AgreeWith by t (deal ∷ deals) (Some T)
+agree_still_some : (by t : ℕ) (deal : Deal) (deals : List Deal) (T : TenureState) → reads_of t deal.what deal.answer ≡ [] → gives_of t deal.what deal.answer ≡ 0
+    → AgreeWith by t deals (Some T) → AgreeWith by t (deal ∷ deals) (Some T)
 agree_still_some by t deal deals T r g h =
     let same_reads : reads_in t (deal ∷ deals) ≡ reads_in t deals = ap (λ rs. reads_in t deals ++ rs) r ∙ append-nil (reads_in t deals) in
     let same_gives : gives_in t (deal ∷ deals) ≡ gives_in t deals = ap (λ n. gives_in t deals + n) g ∙ plus_none (gives_in t deals) in (
@@ -209,9 +129,11 @@ agree_still_some by t deal deals T r g h =
     )
 
 -- the tenures of a journal have numbers up to their count
-unborn_at : (log : Journal) (line : Line) (what : Entry) (t : ℕ) → (taken_count log < t → tenure log t ≡ None) → taken_count_after what (taken_count log) < t → tenure_after log line what t (tenure log t) ≡ None
+unborn_at : (log : Journal) (line : Line) (what : Entry) (t : ℕ) → (taken_count log < t → tenure log t ≡ None) → taken_count_after what (taken_count log) < t
+    → tenure_after log line what t (tenure log t) ≡ None
 unborn_at log line (entry.Taken key which counter owner) t before h =
-    ap (λ b. cond b (Some (new_tenure line.by key (checkpoint_in (row log key)))) (tenure_at log t)) (apart (taken_count log) t h) ∙ before (below (taken_count log) t h)
+    ap (λ b. cond b (Some (new_tenure line.by key (checkpoint_in (row log key)))) (tenure_at log t)) (apart (taken_count log) t h)
+    ∙ before (below (taken_count log) t h)
   where
     tenure_at : Journal → ℕ → Option TenureState
     tenure_at log t = tenure log t
@@ -256,7 +178,8 @@ other_actor : (a b d : ℕ) → (a == b) ≡ true → (b == d) ≡ false → (a 
 other_actor a b d h g = grind (arith, nat_tests)
 
 -- nothing of a tenure that is not there yet
-nothing_yet : (by : ℕ) (deals : List Deal) (log : Journal) → AllAgree by deals log → (was_taken (taken_count log + 1) deals ≡ false) × (reads_in (taken_count log + 1) deals ≡ []) × (gives_in (taken_count log + 1) deals ≡ 0)
+nothing_yet : (by : ℕ) (deals : List Deal) (log : Journal) → AllAgree by deals log
+    → (was_taken (taken_count log + 1) deals ≡ false) × (reads_in (taken_count log + 1) deals ≡ []) × (gives_in (taken_count log + 1) deals ≡ 0)
 nothing_yet by deals log h =
     subst (λ o. AgreeWith by (taken_count log + 1) deals o) (unborn log (taken_count log + 1) (above (taken_count log))) (h (taken_count log + 1))
   where
@@ -264,39 +187,30 @@ nothing_yet by deals log h =
     above n = omega arith
 
 -- a refusal adds nothing
-own_refused : (by : ℕ) (what : Command) (deals : List Deal) (log : Journal) (t : ℕ) (r : Refusal) → reads_of t what (Err r) ≡ [] → gives_of t what (Err r) ≡ 0 → AllAgree by deals log → OwnAgrees by what deals log t [] (Err r)
+own_refused : (by : ℕ) (what : Command) (deals : List Deal) (log : Journal) (t : ℕ) (r : Refusal) → reads_of t what (Err r) ≡ [] → gives_of t what (Err r) ≡ 0
+    → AllAgree by deals log → OwnAgrees by what deals log t [] (Err r)
 own_refused by what deals log t r no_read no_give h = agree_still by t (record { what = what; answer = Err r }) deals (tenure log t) refl no_read no_give (h t)
-
--- ---- the words of a decision, for any refusal
-
-pub past_test : (P : List Line → Result Reply Refusal → Type 0) → ((r : Refusal) → P [] (Err r)) → (r : Refusal) (b : Bool) (d : Decision) → (b ≡ false → Leads P d) → Leads P (refuse r if b else d)
-past_test P all r b d g = if_refused P r b d (all r) g
-
-pub past_none : {A : Type 0} (P : List Line → Result Reply Refusal → Type 0) → ((r : Refusal) → P [] (Err r)) → (r : Refusal) (o : Option A) (d : A → Decision) → ((x : A) → o ≡ Some x → Leads P (d x)) → Leads P (with o or r then d)
-past_none P all r o d g = if_none P r o d (all r) g
-
-past_a_parent : (P : List Line → Result Reply Refusal → Type 0) → ((r : Refusal) → P [] (Err r)) → (log : Journal) (c s : ℕ) (o : Option ℕ) (d : Decision) → Leads P d → Leads P (past_parent log c s o d)
-past_a_parent P all log c s None d h = h
-past_a_parent P all log c s (Some parent) d h = past_test P all _ _ _ (λ e. h)
-
-past_the_parents : (P : List Line → Result Reply Refusal → Type 0) → ((r : Refusal) → P [] (Err r)) → (log : Journal) (c s : ℕ) (o : Option ShardState) (d : Decision) → Leads P d → Leads P (past_parents log c s o d)
-past_the_parents P all log c s None d h = h
-past_the_parents P all log c s (Some x) d h = past_a_parent P all log c s x.parent (past_parent log c s x.adjacent d) (past_a_parent P all log c s x.adjacent d h)
 
 -- ---- Take
 
 -- a tenure that has nothing yet agrees with a new one
-agree_new : (by t actor : ℕ) (key : ShardRef) (start : Checkpoint) (deals : List Deal) → reads_in t deals ≡ [] → gives_in t deals ≡ 0 → AgreeWith by t deals (Some (new_tenure actor key start))
+agree_new : (by t actor : ℕ) (key : ShardRef) (start : Checkpoint) (deals : List Deal) → reads_in t deals ≡ [] → gives_in t deals ≡ 0
+    → AgreeWith by t deals (Some (new_tenure actor key start))
 agree_new by t actor key start deals r g = (λ e. (ap (λ rs. map read_done rs) r, g), λ e. (r, g))
 
-begun : (by actor : ℕ) (key : ShardRef) (start : Checkpoint) (t n : ℕ) (deals : List Deal) (before : Option TenureState) (b : Bool) → (t == n) ≡ b → (was_taken n deals ≡ false) × (reads_in n deals ≡ []) × (gives_in n deals ≡ 0) → (b ≡ false → AgreeWith by t deals before) → (b ≡ true → (reads_in t deals ≡ []) × (gives_in t deals ≡ 0) → AgreeWith by t deals (Some (new_tenure actor key start))) → AgreeWith by t deals (cond b (Some (new_tenure actor key start)) before)
+begun : (by actor : ℕ) (key : ShardRef) (start : Checkpoint) (t n : ℕ) (deals : List Deal) (before : Option TenureState) (b : Bool) → (t == n) ≡ b
+    → (was_taken n deals ≡ false) × (reads_in n deals ≡ []) × (gives_in n deals ≡ 0) → (b ≡ false → AgreeWith by t deals before)
+    → (b ≡ true → (reads_in t deals ≡ []) × (gives_in t deals ≡ 0) → AgreeWith by t deals (Some (new_tenure actor key start)))
+    → AgreeWith by t deals (cond b (Some (new_tenure actor key start)) before)
 begun by actor key start t n deals before true e nothing same new =
     let u : t ≡ n = equal_so t n e in
     new refl (subst (λ m. reads_in m deals ≡ []) (sym u) nothing.1, subst (λ m. gives_in m deals ≡ 0) (sym u) nothing.2)
 begun by actor key start t n deals before false e nothing same new = same refl
 
 -- a turn of its own that begins a tenure
-begun_own : (by actor : ℕ) (key : ShardRef) (what : Command) (from start : Checkpoint) (t n counter : ℕ) (deals : List Deal) (before : Option TenureState) (b : Bool) → (t == n) ≡ b → IsQuiet what → (was_taken n deals ≡ false) × (reads_in n deals ≡ []) × (gives_in n deals ≡ 0) → AgreeWith by t deals before → AgreeWith by t (with_answer what (Ok (reply.Taken n counter from)) deals) (cond b (Some (new_tenure actor key start)) before)
+begun_own : (by actor : ℕ) (key : ShardRef) (what : Command) (from start : Checkpoint) (t n counter : ℕ) (deals : List Deal) (before : Option TenureState)
+    (b : Bool) → (t == n) ≡ b → IsQuiet what → (was_taken n deals ≡ false) × (reads_in n deals ≡ []) × (gives_in n deals ≡ 0) → AgreeWith by t deals before
+    → AgreeWith by t (with_answer what (Ok (reply.Taken n counter from)) deals) (cond b (Some (new_tenure actor key start)) before)
 begun_own by actor key what from start t n counter deals before true e quiet nothing h =
     let u : t ≡ n = equal_so t n e in
     let q = quiet t (Ok (reply.Taken n counter from)) in
@@ -306,49 +220,61 @@ begun_own by actor key what from start t n counter deals before false e quiet no
     let q = quiet t (Ok (reply.Taken n counter from)) in
     agree_still by t (record { what = what; answer = Ok (reply.Taken n counter from) }) deals before (flipped n t e) q.0 q.1 h
 
-take_own : (by actor c : ℕ) (key : ShardRef) (counter owner : ℕ) (deals : List Deal) (log : Journal) (t : ℕ) → AllAgree by deals log → Leads (OwnAgrees by (command.Take key counter owner) deals log t) (take_lease log c actor key counter owner)
+take_own : (by actor c : ℕ) (key : ShardRef) (counter owner : ℕ) (deals : List Deal) (log : Journal) (t : ℕ) → AllAgree by deals log
+    → Leads (OwnAgrees by (command.Take key counter owner) deals log t) (take_lease log c actor key counter owner)
 take_own by actor c key counter owner deals log t h =
     let P : List Line → Result Reply Refusal → Type 0 = OwnAgrees by (command.Take key counter owner) deals log t in
     let refused : (r : Refusal) → P [] (Err r) = λ r. own_refused by (command.Take key counter owner) deals log t r refl refl h in
     past_none P refused _ _ _ (λ r e. past_test P refused _ _ _ (λ a. past_test P refused _ _ _ (λ b. past_test P refused _ _ _ (λ d.
-    begun_own by actor key (command.Take key counter owner) r.checkpoint (checkpoint_in (row log key)) t (taken_count log + 1) (r.counter + 1) deals (tenure log t) (t == taken_count log + 1) refl (λ u x. (refl, refl)) (nothing_yet by deals log h) (h t)))))
+    begun_own by actor key (command.Take key counter owner) r.checkpoint (checkpoint_in (row log key)) t (taken_count log + 1) (r.counter + 1) deals
+    (tenure log t) (t == taken_count log + 1) refl (λ u x. (refl, refl)) (nothing_yet by deals log h) (h t)))))
 
 -- another's turn that begins a tenure
-begun_other : (by actor : ℕ) (key : ShardRef) (start : Checkpoint) (t n : ℕ) (deals : List Deal) (before : Option TenureState) (b : Bool) → (t == n) ≡ b → (was_taken n deals ≡ false) × (reads_in n deals ≡ []) × (gives_in n deals ≡ 0) → AgreeWith by t deals before → AgreeWith by t deals (cond b (Some (new_tenure actor key start)) before)
+begun_other : (by actor : ℕ) (key : ShardRef) (start : Checkpoint) (t n : ℕ) (deals : List Deal) (before : Option TenureState) (b : Bool) → (t == n) ≡ b
+    → (was_taken n deals ≡ false) × (reads_in n deals ≡ []) × (gives_in n deals ≡ 0) → AgreeWith by t deals before
+    → AgreeWith by t deals (cond b (Some (new_tenure actor key start)) before)
 begun_other by actor key start t n deals before true e nothing h =
     let u : t ≡ n = equal_so t n e in
     agree_new by t actor key start deals (subst (λ m. reads_in m deals ≡ []) (sym u) nothing.1) (subst (λ m. gives_in m deals ≡ 0) (sym u) nothing.2)
 begun_other by actor key start t n deals before false e nothing h = h
 
-take_other : (by actor c : ℕ) (key : ShardRef) (counter owner : ℕ) (deals : List Deal) (log : Journal) (t : ℕ) → AllAgree by deals log → Leads (OtherAgrees by deals log t) (take_lease log c actor key counter owner)
+take_other : (by actor c : ℕ) (key : ShardRef) (counter owner : ℕ) (deals : List Deal) (log : Journal) (t : ℕ) → AllAgree by deals log
+    → Leads (OtherAgrees by deals log t) (take_lease log c actor key counter owner)
 take_other by actor c key counter owner deals log t h =
     let P : List Line → Result Reply Refusal → Type 0 = OtherAgrees by deals log t in
     let refused : (r : Refusal) → P [] (Err r) = λ r. h t in
     past_none P refused _ _ _ (λ r e. past_test P refused _ _ _ (λ a. past_test P refused _ _ _ (λ b. past_test P refused _ _ _ (λ d.
-    begun_other by actor key (checkpoint_in (row log key)) t (taken_count log + 1) deals (tenure log t) (t == taken_count log + 1) refl (nothing_yet by deals log h) (h t)))))
+    begun_other by actor key (checkpoint_in (row log key)) t (taken_count log + 1) deals (tenure log t) (t == taken_count log + 1) refl
+    (nothing_yet by deals log h) (h t)))))
 
 -- ---- OpenShard
 
-agree_opened : (by t : ℕ) (deals : List Deal) (b : Bool) (o : Option TenureState) → AgreeWith by t deals o → AgreeWith by t deals (cond b (option_map with_opened o) o)
+agree_opened : (by t : ℕ) (deals : List Deal) (b : Bool) (o : Option TenureState) → AgreeWith by t deals o
+    → AgreeWith by t deals (cond b (option_map with_opened o) o)
 agree_opened by t deals true None h = h
 agree_opened by t deals true (Some T) h = h
 agree_opened by t deals false o h = h
 
-open_own : (by actor c which : ℕ) (deals : List Deal) (log : Journal) (t : ℕ) → AllAgree by deals log → Leads (OwnAgrees by (command.OpenShard which) deals log t) (open_shard log c actor which)
+open_own : (by actor c which : ℕ) (deals : List Deal) (log : Journal) (t : ℕ) → AllAgree by deals log
+    → Leads (OwnAgrees by (command.OpenShard which) deals log t) (open_shard log c actor which)
 open_own by actor c which deals log t h =
     let P : List Line → Result Reply Refusal → Type 0 = OwnAgrees by (command.OpenShard which) deals log t in
     let refused : (r : Refusal) → P [] (Err r) = λ r. own_refused by (command.OpenShard which) deals log t r refl refl h in
-    past_none P refused _ _ _ (λ T e. past_test P refused _ _ _ (λ a. past_test P refused _ _ _ (λ b. past_test P refused _ _ _ (λ d. past_test P refused _ _ _ (λ f.
-    past_the_parents P refused log c T.key.stream (shard_at log T.key.stream T.key.shard) _
-    (agree_still by t (record { what = command.OpenShard which; answer = Ok reply.Done }) deals (cond (which == t) (option_map with_opened (tenure log t)) (tenure log t)) refl refl refl
+    past_none P refused _ _ _
+    (λ T e. past_test P refused _ _ _ (λ a. past_test P refused _ _ _ (λ b. past_test P refused _ _ _ (λ d. past_test P refused _ _ _ (λ f.
+    past_the_parents P (λ r own. refused r) log c T.key.stream (shard_at log T.key.stream T.key.shard) _
+    (agree_still by t (record { what = command.OpenShard which; answer = Ok reply.Done }) deals
+    (cond (which == t) (option_map with_opened (tenure log t)) (tenure log t)) refl refl refl
     (agree_opened by t deals (which == t) (tenure log t) (h t))))))))
 
-open_other : (by actor c which : ℕ) (deals : List Deal) (log : Journal) (t : ℕ) → AllAgree by deals log → Leads (OtherAgrees by deals log t) (open_shard log c actor which)
+open_other : (by actor c which : ℕ) (deals : List Deal) (log : Journal) (t : ℕ) → AllAgree by deals log
+    → Leads (OtherAgrees by deals log t) (open_shard log c actor which)
 open_other by actor c which deals log t h =
     let P : List Line → Result Reply Refusal → Type 0 = OtherAgrees by deals log t in
     let refused : (r : Refusal) → P [] (Err r) = λ r. h t in
-    past_none P refused _ _ _ (λ T e. past_test P refused _ _ _ (λ a. past_test P refused _ _ _ (λ b. past_test P refused _ _ _ (λ d. past_test P refused _ _ _ (λ f.
-    past_the_parents P refused log c T.key.stream (shard_at log T.key.stream T.key.shard) _
+    past_none P refused _ _ _
+    (λ T e. past_test P refused _ _ _ (λ a. past_test P refused _ _ _ (λ b. past_test P refused _ _ _ (λ d. past_test P refused _ _ _ (λ f.
+    past_the_parents P (λ r own. refused r) log c T.key.stream (shard_at log T.key.stream T.key.shard) _
     (agree_opened by t deals (which == t) (tenure log t) (h t)))))))
 
 -- ---- Read
@@ -358,7 +284,10 @@ map-append [] ys = refl
 map-append (x ∷ xs) ys = ap (λ l. read_done x ∷ l) (map-append xs ys)
 
 -- a read of the tenure, which is the actor's
-agree_read : (by t : ℕ) (deals : List Deal) (T : TenureState) (rs : List Logged) (ended : Bool) (what : Command) (place : ℕ) → (T.by == by) ≡ true → reads_of t what (Ok (reply.Read (map stored rs) place ended)) ≡ record { batch = map stored rs; ended = ended } ∷ [] → gives_of t what (Ok (reply.Read (map stored rs) place ended)) ≡ 0 → AgreeWith by t deals (Some T) → AgreeWith by t (with_answer what (Ok (reply.Read (map stored rs) place ended)) deals) (Some (with_read (numbers_of rs) ended T))
+agree_read : (by t : ℕ) (deals : List Deal) (T : TenureState) (rs : List Logged) (ended : Bool) (what : Command) (place : ℕ) → (T.by == by) ≡ true
+    → reads_of t what (Ok (reply.Read (map stored rs) place ended)) ≡ record { batch = map stored rs; ended = ended } ∷ []
+    → gives_of t what (Ok (reply.Read (map stored rs) place ended)) ≡ 0 → AgreeWith by t deals (Some T)
+    → AgreeWith by t (with_answer what (Ok (reply.Read (map stored rs) place ended)) deals) (Some (with_read (numbers_of rs) ended T))
 agree_read by t deals T rs ended what place own one none h = (
   λ e. (
     ap (λ xs. map read_done (reads_in t deals ++ xs)) one
@@ -373,9 +302,13 @@ agree_read by t deals T rs ended what place own one none h = (
 read_in_tenure : (which t : ℕ) (x : List Fetched) (b : Bool) → (which == t) ≡ b → b ≡ true → (if which == t then x else []) ≡ x
 read_in_tenure which t x b e h = ap (λ c. cond c x []) (e ∙ h)
 
-read_at : (by actor which t position limit place : ℕ) (deals : List Deal) (before found : Option TenureState) (T : TenureState) (rs : List Logged) (ended : Bool) (b : Bool) → (which == t) ≡ b → (b ≡ true → before ≡ Some T) → (T.by == actor) ≡ true → (actor == by) ≡ true → AgreeWith by t deals before → AgreeWith by t (with_answer (command.Read which position limit) (Ok (reply.Read (map stored rs) place ended)) deals) (cond b (option_map (with_read (numbers_of rs) ended) before) before)
+read_at : (by actor which t position limit place : ℕ) (deals : List Deal) (before found : Option TenureState) (T : TenureState) (rs : List Logged)
+    (ended : Bool) (b : Bool) → (which == t) ≡ b → (b ≡ true → before ≡ Some T) → (T.by == actor) ≡ true → (actor == by) ≡ true → AgreeWith by t deals before
+    → AgreeWith by t (with_answer (command.Read which position limit) (Ok (reply.Read (map stored rs) place ended)) deals)
+    (cond b (option_map (with_read (numbers_of rs) ended) before) before)
 read_at by actor which t position limit place deals before found T rs ended true e is a o h =
-    let P : Option TenureState → Type 0 = λ x. AgreeWith by t (with_answer (command.Read which position limit) (Ok (reply.Read (map stored rs) place ended)) deals) (option_map (with_read (numbers_of rs) ended) x) in
+    let P : Option TenureState → Type 0 = λ x. AgreeWith by t
+    (with_answer (command.Read which position limit) (Ok (reply.Read (map stored rs) place ended)) deals) (option_map (with_read (numbers_of rs) ended) x) in
     subst P (sym (is refl)) (agree_read by t deals T rs ended (command.Read which position limit) place (own_actor T.by actor by a o)
     (ap (λ c. cond c (record { batch = map stored rs; ended = ended } ∷ []) []) e) refl (subst (λ x. AgreeWith by t deals x) (is refl) h))
 read_at by actor which t position limit place deals before found T rs ended false e is a o h =
@@ -399,38 +332,51 @@ gives_refused which t r = choice (which == t)
 same_tenure : (log : Journal) (which t : ℕ) (T : TenureState) → tenure log which ≡ Some T → (which == t) ≡ true → tenure log t ≡ Some T
 same_tenure log which t T e h = subst (λ n. tenure log n ≡ Some T) (equal_so which t h) e
 
-read_own : (by actor c which position limit : ℕ) (deals : List Deal) (log : Journal) (t : ℕ) → (actor == by) ≡ true → AllAgree by deals log → Leads (OwnAgrees by (command.Read which position limit) deals log t) (read log c actor which position limit)
+read_own : (by actor c which position limit : ℕ) (deals : List Deal) (log : Journal) (t : ℕ) → (actor == by) ≡ true → AllAgree by deals log
+    → Leads (OwnAgrees by (command.Read which position limit) deals log t) (read log c actor which position limit)
 read_own by actor c which position limit deals log t own h =
     let P : List Line → Result Reply Refusal → Type 0 = OwnAgrees by (command.Read which position limit) deals log t in
-    let refused : (r : Refusal) → P [] (Err r) = λ r. own_refused by (command.Read which position limit) deals log t r (reads_refused which t position limit r) refl h in
-    past_none P refused _ _ _ (λ T e. past_test P refused _ _ _ (λ a. past_test P refused _ _ _ (λ b. past_test P refused _ _ _ (λ d. past_test P refused _ _ _ (λ f. past_test P refused _ _ _ (λ g.
+    let refused : (r : Refusal) → P [] (Err r) = λ r. own_refused by (command.Read which position limit) deals log t r
+    (reads_refused which t position limit r) refl h in
+    past_none P refused _ _ _
+    (λ T e. past_test P refused _ _ _
+    (λ a. past_test P refused _ _ _ (λ b. past_test P refused _ _ _ (λ d. past_test P refused _ _ _ (λ f. past_test P refused _ _ _ (λ g.
     let rs = batch log c T.key.stream T.key.shard (reach T) limit in
-    read_at by actor which t position limit (place_after (reach T) (numbers_of rs)) deals (tenure log t) None T rs (ends_at log c T.key.stream T.key.shard (place_after (reach T) (numbers_of rs))) (which == t) refl
+    read_at by actor which t position limit (place_after (reach T) (numbers_of rs)) deals (tenure log t) None T rs
+    (ends_at log c T.key.stream T.key.shard (place_after (reach T) (numbers_of rs))) (which == t) refl
     (λ x. same_tenure log which t T e x) (not-false (T.by == actor) a) own (h t)))))))
 
 -- a line of a tenure that is another's
-agree_other : (by t : ℕ) (deals : List Deal) (T U : TenureState) → U.by ≡ T.by → (T.by == by) ≡ false → AgreeWith by t deals (Some T) → AgreeWith by t deals (Some U)
+agree_other : (by t : ℕ) (deals : List Deal) (T U : TenureState) → U.by ≡ T.by → (T.by == by) ≡ false → AgreeWith by t deals (Some T)
+    → AgreeWith by t deals (Some U)
 agree_other by t deals T U same other h =
     (λ e. absurd (apart_tests (T.by == by) (ap (λ n. n == by) (sym same) ∙ e) other), λ e. h.1 other)
 
-other_at : (f : TenureState → TenureState) → ((T : TenureState) → (f T).by ≡ T.by) → (by actor t : ℕ) (deals : List Deal) (before : Option TenureState) (T : TenureState) (b : Bool) → (b ≡ true → before ≡ Some T) → (T.by == actor) ≡ true → (actor == by) ≡ false → AgreeWith by t deals before → AgreeWith by t deals (cond b (option_map f before) before)
+other_at : (f : TenureState → TenureState) → ((T : TenureState) → (f T).by ≡ T.by)
+    → (by actor t : ℕ) (deals : List Deal) (before : Option TenureState) (T : TenureState) (b : Bool) → (b ≡ true → before ≡ Some T) → (T.by == actor) ≡ true
+    → (actor == by) ≡ false → AgreeWith by t deals before → AgreeWith by t deals (cond b (option_map f before) before)
 other_at f keeps by actor t deals before T true is a o h =
     let P : Option TenureState → Type 0 = λ x. AgreeWith by t deals (option_map f x) in
     subst P (sym (is refl)) (agree_other by t deals T (f T) (keeps T) (other_actor T.by actor by a o) (subst (λ x. AgreeWith by t deals x) (is refl) h))
 other_at f keeps by actor t deals before T false is a o h = h
 
-read_other : (by actor c which position limit : ℕ) (deals : List Deal) (log : Journal) (t : ℕ) → (actor == by) ≡ false → AllAgree by deals log → Leads (OtherAgrees by deals log t) (read log c actor which position limit)
+read_other : (by actor c which position limit : ℕ) (deals : List Deal) (log : Journal) (t : ℕ) → (actor == by) ≡ false → AllAgree by deals log
+    → Leads (OtherAgrees by deals log t) (read log c actor which position limit)
 read_other by actor c which position limit deals log t other h =
     let P : List Line → Result Reply Refusal → Type 0 = OtherAgrees by deals log t in
     let refused : (r : Refusal) → P [] (Err r) = λ r. h t in
-    past_none P refused _ _ _ (λ T e. past_test P refused _ _ _ (λ a. past_test P refused _ _ _ (λ b. past_test P refused _ _ _ (λ d. past_test P refused _ _ _ (λ f. past_test P refused _ _ _ (λ g.
+    past_none P refused _ _ _
+    (λ T e. past_test P refused _ _ _
+    (λ a. past_test P refused _ _ _ (λ b. past_test P refused _ _ _ (λ d. past_test P refused _ _ _ (λ f. past_test P refused _ _ _ (λ g.
     let rs = batch log c T.key.stream T.key.shard (reach T) limit in
-    other_at (with_read (numbers_of rs) (ends_at log c T.key.stream T.key.shard (place_after (reach T) (numbers_of rs)))) (λ T. refl) by actor t deals (tenure log t) T (which == t)
+    other_at (with_read (numbers_of rs) (ends_at log c T.key.stream T.key.shard (place_after (reach T) (numbers_of rs)))) (λ T. refl) by actor t deals
+    (tenure log t) T (which == t)
     (λ x. same_tenure log which t T e x) (not-false (T.by == actor) a) other (h t)))))))
 
 -- ---- Give
 
-agree_given : (by t : ℕ) (deals : List Deal) (T : TenureState) (which n : ℕ) → (T.by == by) ≡ true → gives_of t (command.Give which) (Ok (reply.Given n)) ≡ 1 → AgreeWith by t deals (Some T) → AgreeWith by t (with_answer (command.Give which) (Ok (reply.Given n)) deals) (Some (with_given T))
+agree_given : (by t : ℕ) (deals : List Deal) (T : TenureState) (which n : ℕ) → (T.by == by) ≡ true → gives_of t (command.Give which) (Ok (reply.Given n)) ≡ 1
+    → AgreeWith by t deals (Some T) → AgreeWith by t (with_answer (command.Give which) (Ok (reply.Given n)) deals) (Some (with_given T))
 agree_given by t deals T which n own one h = (
   λ e. (
     ap (λ rs. map read_done rs) (append-nil (reads_in t deals)) ∙ (h.0 e).0,
@@ -439,7 +385,9 @@ agree_given by t deals T which n own one h = (
   λ e. absurd (apart_tests (T.by == by) own e),
 )
 
-give_at : (by actor which t n : ℕ) (deals : List Deal) (before : Option TenureState) (T : TenureState) (b : Bool) → (which == t) ≡ b → (b ≡ true → before ≡ Some T) → (T.by == actor) ≡ true → (actor == by) ≡ true → AgreeWith by t deals before → AgreeWith by t (with_answer (command.Give which) (Ok (reply.Given n)) deals) (cond b (option_map with_given before) before)
+give_at : (by actor which t n : ℕ) (deals : List Deal) (before : Option TenureState) (T : TenureState) (b : Bool) → (which == t) ≡ b
+    → (b ≡ true → before ≡ Some T) → (T.by == actor) ≡ true → (actor == by) ≡ true → AgreeWith by t deals before
+    → AgreeWith by t (with_answer (command.Give which) (Ok (reply.Given n)) deals) (cond b (option_map with_given before) before)
 give_at by actor which t n deals before T true e is a o h =
     let P : Option TenureState → Type 0 = λ x. AgreeWith by t (with_answer (command.Give which) (Ok (reply.Given n)) deals) (option_map with_given x) in
     subst P (sym (is refl)) (agree_given by t deals T which n (own_actor T.by actor by a o)
@@ -448,7 +396,8 @@ give_at by actor which t n deals before T false e is a o h =
     agree_still by t (record { what = command.Give which; answer = Ok (reply.Given n) }) deals before refl refl
     (ap (λ c. cond c (give_in (Ok (reply.Given n))) 0) e) h
 
-give_own : (by actor c which : ℕ) (deals : List Deal) (log : Journal) (t : ℕ) → (actor == by) ≡ true → AllAgree by deals log → Leads (OwnAgrees by (command.Give which) deals log t) (give log c actor which)
+give_own : (by actor c which : ℕ) (deals : List Deal) (log : Journal) (t : ℕ) → (actor == by) ≡ true → AllAgree by deals log
+    → Leads (OwnAgrees by (command.Give which) deals log t) (give log c actor which)
 give_own by actor c which deals log t own h =
     let P : List Line → Result Reply Refusal → Type 0 = OwnAgrees by (command.Give which) deals log t in
     let refused : (r : Refusal) → P [] (Err r) = λ r. own_refused by (command.Give which) deals log t r refl (gives_refused which t r) h in
@@ -456,7 +405,8 @@ give_own by actor c which deals log t own h =
     give_at by actor which t (delivered (with_given T)) deals (tenure log t) T (which == t) refl
     (λ x. same_tenure log which t T e x) (not-false (T.by == actor) a) own (h t))))
 
-give_other : (by actor c which : ℕ) (deals : List Deal) (log : Journal) (t : ℕ) → (actor == by) ≡ false → AllAgree by deals log → Leads (OtherAgrees by deals log t) (give log c actor which)
+give_other : (by actor c which : ℕ) (deals : List Deal) (log : Journal) (t : ℕ) → (actor == by) ≡ false → AllAgree by deals log
+    → Leads (OtherAgrees by deals log t) (give log c actor which)
 give_other by actor c which deals log t other h =
     let P : List Line → Result Reply Refusal → Type 0 = OtherAgrees by deals log t in
     let refused : (r : Refusal) → P [] (Err r) = λ r. h t in
@@ -473,35 +423,47 @@ quiet_command (command.Read t position limit) h = absurd h
 quiet_command (command.Give t) h = absurd h
 quiet_command _ h = λ u a. (refl, refl)
 
-leaves_own : (by c actor : ℕ) (what : Command) (deals : List Deal) (log : Journal) (t : ℕ) → TouchesNone what → AllAgree by deals log → (d : Decision) → Leads LeavesTenures d → OwnAgrees by what deals log t (lines_of d) (answer_of d)
-leaves_own by c actor what deals log t touches h d leads =
-    let l = leads_so LeavesTenures d leads in
+leaves_own : (by c actor : ℕ) (what : Command) (deals : List Deal) (log : Journal) (t : ℕ) → TouchesNone what → AllAgree by deals log → (d : Decision)
+    → LeavesTenures (lines_of d) (answer_of d) → OwnAgrees by what deals log t (lines_of d) (answer_of d)
+leaves_own by c actor what deals log t touches h d l =
     let q = quiet_command what touches t (answer_of d) in
     subst (λ o. AgreeWith by t (with_answer what (answer_of d) deals) o) (sym (still_tenures (lines_of d) log t l.lines_still))
     (agree_still by t (record { what = what; answer = answer_of d }) deals (tenure log t) (l.begins_none t) q.0 q.1 (h t))
 
-leaves_other : (by c actor : ℕ) (deals : List Deal) (log : Journal) (t : ℕ) → AllAgree by deals log → (d : Decision) → Leads LeavesTenures d → OtherAgrees by deals log t (lines_of d) (answer_of d)
-leaves_other by c actor deals log t h d leads =
-    let l = leads_so LeavesTenures d leads in
-    subst (λ o. AgreeWith by t deals o) (sym (still_tenures (lines_of d) log t l.lines_still)) (h t)
+leaves_other : (by c actor : ℕ) (deals : List Deal) (log : Journal) (t : ℕ) → AllAgree by deals log → (d : Decision)
+    → LeavesTenures (lines_of d) (answer_of d) → OtherAgrees by deals log t (lines_of d) (answer_of d)
+leaves_other by c actor deals log t h d l = subst (λ o. AgreeWith by t deals o) (sym (still_tenures (lines_of d) log t l.lines_still)) (h t)
 
-turn_own : (by actor c : ℕ) (what : Command) (deals : List Deal) (log : Journal) (t : ℕ) → (actor == by) ≡ true → AllAgree by deals log → OwnAgrees by what deals log t (lines_of (decide log c actor what)) (answer_of (decide log c actor what))
-turn_own by actor c (command.Take key counter owner) deals log t own h = leads_so (OwnAgrees by (command.Take key counter owner) deals log t) (take_lease log c actor key counter owner) (take_own by actor c key counter owner deals log t h)
-turn_own by actor c (command.OpenShard which) deals log t own h = leads_so (OwnAgrees by (command.OpenShard which) deals log t) (open_shard log c actor which) (open_own by actor c which deals log t h)
-turn_own by actor c (command.Read which position limit) deals log t own h = leads_so (OwnAgrees by (command.Read which position limit) deals log t) (read log c actor which position limit) (read_own by actor c which position limit deals log t own h)
-turn_own by actor c (command.Give which) deals log t own h = leads_so (OwnAgrees by (command.Give which) deals log t) (give log c actor which) (give_own by actor c which deals log t own h)
+turn_own : (by actor c : ℕ) (what : Command) (deals : List Deal) (log : Journal) (t : ℕ) → (actor == by) ≡ true → AllAgree by deals log
+    → OwnAgrees by what deals log t (lines_of (decide log c actor what)) (answer_of (decide log c actor what))
+turn_own by actor c (command.Take key counter owner) deals log t own h =
+    leads_so (OwnAgrees by (command.Take key counter owner) deals log t) (take_lease log c actor key counter owner)
+    (take_own by actor c key counter owner deals log t h)
+turn_own by actor c (command.OpenShard which) deals log t own h =
+    leads_so (OwnAgrees by (command.OpenShard which) deals log t) (open_shard log c actor which) (open_own by actor c which deals log t h)
+turn_own by actor c (command.Read which position limit) deals log t own h =
+    leads_so (OwnAgrees by (command.Read which position limit) deals log t) (read log c actor which position limit)
+    (read_own by actor c which position limit deals log t own h)
+turn_own by actor c (command.Give which) deals log t own h =
+    leads_so (OwnAgrees by (command.Give which) deals log t) (give log c actor which) (give_own by actor c which deals log t own h)
 turn_own by actor c what deals log t own h = leaves_own by c actor what deals log t tt h (decide log c actor what) (command_leaves log c actor what tt)
 
-turn_other : (by actor c : ℕ) (what : Command) (deals : List Deal) (log : Journal) (t : ℕ) → (actor == by) ≡ false → AllAgree by deals log → OtherAgrees by deals log t (lines_of (decide log c actor what)) (answer_of (decide log c actor what))
-turn_other by actor c (command.Take key counter owner) deals log t other h = leads_so (OtherAgrees by deals log t) (take_lease log c actor key counter owner) (take_other by actor c key counter owner deals log t h)
-turn_other by actor c (command.OpenShard which) deals log t other h = leads_so (OtherAgrees by deals log t) (open_shard log c actor which) (open_other by actor c which deals log t h)
-turn_other by actor c (command.Read which position limit) deals log t other h = leads_so (OtherAgrees by deals log t) (read log c actor which position limit) (read_other by actor c which position limit deals log t other h)
-turn_other by actor c (command.Give which) deals log t other h = leads_so (OtherAgrees by deals log t) (give log c actor which) (give_other by actor c which deals log t other h)
+turn_other : (by actor c : ℕ) (what : Command) (deals : List Deal) (log : Journal) (t : ℕ) → (actor == by) ≡ false → AllAgree by deals log
+    → OtherAgrees by deals log t (lines_of (decide log c actor what)) (answer_of (decide log c actor what))
+turn_other by actor c (command.Take key counter owner) deals log t other h =
+    leads_so (OtherAgrees by deals log t) (take_lease log c actor key counter owner) (take_other by actor c key counter owner deals log t h)
+turn_other by actor c (command.OpenShard which) deals log t other h =
+    leads_so (OtherAgrees by deals log t) (open_shard log c actor which) (open_other by actor c which deals log t h)
+turn_other by actor c (command.Read which position limit) deals log t other h =
+    leads_so (OtherAgrees by deals log t) (read log c actor which position limit) (read_other by actor c which position limit deals log t other h)
+turn_other by actor c (command.Give which) deals log t other h =
+    leads_so (OtherAgrees by deals log t) (give log c actor which) (give_other by actor c which deals log t other h)
 turn_other by actor c what deals log t other h = leaves_other by c actor deals log t h (decide log c actor what) (command_leaves log c actor what tt)
 
 -- ---- histories
 
-agree_turn : (by : ℕ) (turn : Turn) (h : List Turn) (t : ℕ) (b : Bool) → (turn.by == by) ≡ b → AllAgree by (deals_of by h) (journal h) → AgreeWith by t (cond b (record { what = turn.what; answer = answer h turn } ∷ deals_of by h) (deals_of by h)) (tenure (journal (turn ∷ h)) t)
+agree_turn : (by : ℕ) (turn : Turn) (h : List Turn) (t : ℕ) (b : Bool) → (turn.by == by) ≡ b → AllAgree by (deals_of by h) (journal h)
+    → AgreeWith by t (cond b (record { what = turn.what; answer = answer h turn } ∷ deals_of by h) (deals_of by h)) (tenure (journal (turn ∷ h)) t)
 agree_turn by turn h t true e all = turn_own by turn.by (clock (turn ∷ h)) turn.what (deals_of by h) (journal h) t e all
 agree_turn by turn h t false e all = turn_other by turn.by (clock (turn ∷ h)) turn.what (deals_of by h) (journal h) t e all
 
@@ -511,43 +473,18 @@ agree by [] = λ t. (refl, refl, refl)
 agree by (turn ∷ h) = λ t. agree_turn by turn h t (turn.by == by) refl (agree by h)
 
 -- a tenure that an answer begins is new
-abbrev NewAfter : List Deal → List Line → Result Reply Refusal → Type 0
-NewAfter deals lines answer = IsNewTenure answer deals
+begins_new : (by actor c : ℕ) (deals : List Deal) (log : Journal) (what : Command) (lines : List Line) (answer : Result Reply Refusal)
+    → Outcome log c actor what lines answer → AllAgree by deals log → IsNewTenure answer deals
+begins_new by actor c deals log _ _ _ (Answers _ _ (Surveys keys rows)) h = tt
+begins_new by actor c deals log _ _ _ (Adds _ _ _ (Takes key counter owner r there same fits)) h = nothing_yet by deals log h
+begins_new by actor c deals log _ _ _ _ h = tt
 
-new_take : (by actor c : ℕ) (key : ShardRef) (counter owner : ℕ) (deals : List Deal) (log : Journal) → AllAgree by deals log → Leads (NewAfter deals) (take_lease log c actor key counter owner)
-new_take by actor c key counter owner deals log h =
-    past_none (NewAfter deals) (λ r. tt) _ _ _ (λ r e. past_test (NewAfter deals) (λ r. tt) _ _ _ (λ a. past_test (NewAfter deals) (λ r. tt) _ _ _ (λ b. past_test (NewAfter deals) (λ r. tt) _ _ _ (λ d.
-    nothing_yet by deals log h))))
+new_turn : (by actor c : ℕ) (what : Command) (deals : List Deal) (log : Journal) → AllAgree by deals log
+    → IsNewTenure (answer_of (decide log c actor what)) deals
+new_turn by actor c what deals log h = begins_new by actor c deals log what _ _ (walk log c actor what) h
 
-begins_no : (answer : Result Reply Refusal) (deals : List Deal) → ((t : ℕ) → begins t answer ≡ false) → IsNewTenure answer deals
-begins_no (Ok (reply.Taken tenure counter start)) deals h = absurd (own_begins tenure (h tenure))
-  where
-    own_begins : (t : ℕ) → (t == t) ≡ false → ⊥
-    own_begins t e = grind (arith, nat_tests)
-begins_no (Ok _) deals h = tt
-begins_no (Err r) deals h = tt
-
-new_open : (log : Journal) (c actor which : ℕ) (deals : List Deal) → Leads (NewAfter deals) (open_shard log c actor which)
-new_open log c actor which deals =
-    past_none (NewAfter deals) (λ r. tt) _ _ _ (λ T e. past_test (NewAfter deals) (λ r. tt) _ _ _ (λ a. past_test (NewAfter deals) (λ r. tt) _ _ _ (λ b. past_test (NewAfter deals) (λ r. tt) _ _ _ (λ d. past_test (NewAfter deals) (λ r. tt) _ _ _ (λ f.
-    past_the_parents (NewAfter deals) (λ r. tt) log c T.key.stream (shard_at log T.key.stream T.key.shard) _ tt)))))
-
-new_read : (log : Journal) (c actor which position limit : ℕ) (deals : List Deal) → Leads (NewAfter deals) (read log c actor which position limit)
-new_read log c actor which position limit deals =
-    past_none (NewAfter deals) (λ r. tt) _ _ _ (λ T e. past_test (NewAfter deals) (λ r. tt) _ _ _ (λ a. past_test (NewAfter deals) (λ r. tt) _ _ _ (λ b. past_test (NewAfter deals) (λ r. tt) _ _ _ (λ d. past_test (NewAfter deals) (λ r. tt) _ _ _ (λ f. past_test (NewAfter deals) (λ r. tt) _ _ _ (λ g. tt))))))
-
-new_give : (log : Journal) (c actor which : ℕ) (deals : List Deal) → Leads (NewAfter deals) (give log c actor which)
-new_give log c actor which deals =
-    past_none (NewAfter deals) (λ r. tt) _ _ _ (λ T e. past_test (NewAfter deals) (λ r. tt) _ _ _ (λ a. past_test (NewAfter deals) (λ r. tt) _ _ _ (λ b. tt)))
-
-new_turn : (by actor c : ℕ) (what : Command) (deals : List Deal) (log : Journal) → AllAgree by deals log → IsNewTenure (answer_of (decide log c actor what)) deals
-new_turn by actor c (command.Take key counter owner) deals log h = leads_so (NewAfter deals) (take_lease log c actor key counter owner) (new_take by actor c key counter owner deals log h)
-new_turn by actor c (command.OpenShard which) deals log h = leads_so (NewAfter deals) (open_shard log c actor which) (new_open log c actor which deals)
-new_turn by actor c (command.Read which position limit) deals log h = leads_so (NewAfter deals) (read log c actor which position limit) (new_read log c actor which position limit deals)
-new_turn by actor c (command.Give which) deals log h = leads_so (NewAfter deals) (give log c actor which) (new_give log c actor which deals)
-new_turn by actor c what deals log h = begins_no (answer_of (decide log c actor what)) deals (leads_so LeavesTenures (decide log c actor what) (command_leaves log c actor what tt)).begins_none
-
-new_turns : (by : ℕ) (turn : Turn) (h : List Turn) (b : Bool) → AreNewTenures (deals_of by h) → AreNewTenures (cond b (record { what = turn.what; answer = answer h turn } ∷ deals_of by h) (deals_of by h))
+new_turns : (by : ℕ) (turn : Turn) (h : List Turn) (b : Bool) → AreNewTenures (deals_of by h)
+    → AreNewTenures (cond b (record { what = turn.what; answer = answer h turn } ∷ deals_of by h) (deals_of by h))
 new_turns by turn h true new = (new_turn by turn.by (clock (turn ∷ h)) turn.what (deals_of by h) (journal h) (agree by h), new)
 new_turns by turn h false new = new
 
