@@ -38,7 +38,8 @@ target_is false text to c h =
 
 number_not_end : (q : ℕ) → q < 2 ^ 64 → bytes_eq (decimal q) (codes "end") ≡ false
 number_not_end q small = elim (cases_Bool (bytes_eq (decimal q) (codes "end"))) [
-  | inl same ↦ let bad : list_all is_ascii_digit (codes "end") ≡ true = subst (λ (z : List ℕ). list_all is_ascii_digit z ≡ true) ((bytes_eq-Decides (decimal q) (codes "end")).0 same) (digits_decimal own q small) in absurd (cc bad)
+  | inl same ↦ let bad : list_all is_ascii_digit (codes "end") ≡ true = subst (λ (z : List ℕ). list_all is_ascii_digit z ≡ true)
+      ((bytes_eq-Decides (decimal q) (codes "end")).0 same) (digits_decimal own q small) in absurd (cc bad)
   | inr other ↦ other
 ]
 
@@ -59,13 +60,16 @@ row_form = with_origin_form key_lacks key_form
 number_lacks : (n : ℕ) → Is64 n → Lacks 32 (decimal n)
 number_lacks n v = decimal_lacks 32 n refl v
 
-take_form : IsForm (λ (a : ShardRef × (ℕ × ℕ)). IsKey a.0 × (Is64 a.1.0 × IsWorker a.1.1)) (two 32 key_of (two 32 number worker_of)) (λ (a : ShardRef × (ℕ × ℕ)). key_text a.0 ++ 32 ∷ (decimal a.1.0 ++ 32 ∷ worker_text a.1.1))
+take_form : IsForm (λ (a : ShardRef × (ℕ × ℕ)). IsKey a.0 × (Is64 a.1.0 × IsWorker a.1.1)) (two 32 key_of (two 32 number worker_of))
+    (λ (a : ShardRef × (ℕ × ℕ)). key_text a.0 ++ 32 ∷ (decimal a.1.0 ++ 32 ∷ worker_text a.1.1))
 take_form = two_form 32 refl key_lacks key_form (two_form 32 refl number_lacks number_form worker_form)
 
-read_form : IsForm (λ (a : ℕ × (ℕ × ℕ)). Is64 a.0 × (Is64 a.1.0 × IsCount MOST a.1.1)) (two 32 number (two 32 number (count_of MOST))) (λ (a : ℕ × (ℕ × ℕ)). decimal a.0 ++ 32 ∷ (decimal a.1.0 ++ 32 ∷ decimal a.1.1))
+read_form : IsForm (λ (a : ℕ × (ℕ × ℕ)). Is64 a.0 × (Is64 a.1.0 × IsCount MOST a.1.1)) (two 32 number (two 32 number (count_of MOST)))
+    (λ (a : ℕ × (ℕ × ℕ)). decimal a.0 ++ 32 ∷ (decimal a.1.0 ++ 32 ∷ decimal a.1.1))
 read_form = two_form 32 refl number_lacks number_form (two_form 32 refl number_lacks number_form (count_form MOST (omega arith)))
 
-mark_form : IsForm (λ (a : ℕ × (ℕ × Target)). Is64 a.0 × (Is64 a.1.0 × IsTarget a.1.1)) (two 32 number (two 32 number target_of)) (λ (a : ℕ × (ℕ × Target)). decimal a.0 ++ 32 ∷ (decimal a.1.0 ++ 32 ∷ target_text a.1.1))
+mark_form : IsForm (λ (a : ℕ × (ℕ × Target)). Is64 a.0 × (Is64 a.1.0 × IsTarget a.1.1)) (two 32 number (two 32 number target_of))
+    (λ (a : ℕ × (ℕ × Target)). decimal a.0 ++ 32 ∷ (decimal a.1.0 ++ 32 ∷ target_text a.1.1))
 mark_form = two_form 32 refl number_lacks number_form (two_form 32 refl number_lacks number_form target_form)
 
 cut_form : IsForm (λ (a : ShardRef × ℕ). IsKey a.0 × Is64 a.1) (two 32 key_of number) (λ (a : ShardRef × ℕ). key_text a.0 ++ 32 ∷ decimal a.1)
@@ -100,7 +104,8 @@ raw_is what e l n = record { lease = e; lawful = l; numbers = n }
 
 words_spell : (word text : List ℕ) (c : Command) → words_of word text ≡ Some c → Spells word text c
 words_spell word text c h = choose (bytes_eq word (codes "make")) _ _ c h (spelled (codes "make") word row_form _ (λ a v. (raw_is _ refl tt v, refl)) text c)
-    (λ h. choose (bytes_eq word (codes "take")) _ _ c h (spelled (codes "take") word take_form _ (λ a v. (raw_is _ refl v.1.1.0 (v.0, (v.1.0, omega (arith, v.1.1.1))), refl)) text c)
+    (λ h. choose (bytes_eq word (codes "take")) _ _ c h
+    (spelled (codes "take") word take_form _ (λ a v. (raw_is _ refl v.1.1.0 (v.0, (v.1.0, omega (arith, v.1.1.1))), refl)) text c)
     (λ h. choose (bytes_eq word (codes "renew")) _ _ c h (spelled (codes "renew") word numbers_form _ (λ a v. (raw_is _ refl tt v, refl)) text c)
     (λ h. choose (bytes_eq word (codes "free")) _ _ c h (spelled (codes "free") word numbers_form _ (λ a v. (raw_is _ refl tt v, refl)) text c)
     (λ h. choose (bytes_eq word (codes "open")) _ _ c h (spelled (codes "open") word number_form _ (λ n v. (raw_is _ refl tt v, refl)) text c)
@@ -121,7 +126,8 @@ longer_spells text c h =
 abbrev SpellsRaw : List ℕ → Command × Bool → Type 0
 SpellsRaw text r = IsAsked r.0 r.1 × (text ≡ raw_text r.0 r.1)
 
-survey_spells : (word text : List ℕ) (long : Bool) (r : Command × Bool) → word ≡ raw_text command.Survey long → bytes_eq text word ≡ true → Some (command.Survey, long) ≡ Some r → SpellsRaw text r
+survey_spells : (word text : List ℕ) (long : Bool) (r : Command × Bool) → word ≡ raw_text command.Survey long → bytes_eq text word ≡ true
+    → Some (command.Survey, long) ≡ Some r → SpellsRaw text r
 survey_spells word text long r is same h =
     let e : (command.Survey, long) ≡ r = cc in
     subst (λ (z : Command × Bool). SpellsRaw text z) e ((raw_is _ refl tt tt, λ l. refl), (bytes_eq-Decides text word).0 same ∙ is)
@@ -138,34 +144,25 @@ command_spells text r h = choose (bytes_eq text (codes "survey")) _ _ r h (surve
 
 short_again : (what : Command) → IsRaw what → command_of (command_text what) ≡ Some (what, false)
 short_again command.Survey v = refl
-short_again (command.MakeLease key from) v = ap (λ o. option_map (λ c. (c, false)) (option_map (λ a. command.MakeLease a.0 a.1) o)) (row_form.again (key, from) v.numbers)
+short_again (command.MakeLease key from) v =
+    ap (λ o. option_map (λ c. (c, false)) (option_map (λ a. command.MakeLease a.0 a.1) o)) (row_form.again (key, from) v.numbers)
 short_again (command.Take key counter owner) v =
-    ap (λ o. option_map (λ c. (c, false)) (option_map (λ a. command.Take a.0 a.1.0 a.1.1) o)) (take_form.again (key, (counter, owner)) (v.numbers.0, (v.numbers.1.0, (v.lawful, omega (arith, v.numbers.1.1)))))
-short_again (command.Renew tenure counter) v = ap (λ o. option_map (λ c. (c, false)) (option_map (λ a. command.Renew a.0 a.1) o)) (numbers_form.again (tenure, counter) v.numbers)
-short_again (command.Free tenure counter) v = ap (λ o. option_map (λ c. (c, false)) (option_map (λ a. command.Free a.0 a.1) o)) (numbers_form.again (tenure, counter) v.numbers)
+    ap (λ o. option_map (λ c. (c, false)) (option_map (λ a. command.Take a.0 a.1.0 a.1.1) o))
+    (take_form.again (key, (counter, owner)) (v.numbers.0, (v.numbers.1.0, (v.lawful, omega (arith, v.numbers.1.1)))))
+short_again (command.Renew tenure counter) v =
+    ap (λ o. option_map (λ c. (c, false)) (option_map (λ a. command.Renew a.0 a.1) o)) (numbers_form.again (tenure, counter) v.numbers)
+short_again (command.Free tenure counter) v =
+    ap (λ o. option_map (λ c. (c, false)) (option_map (λ a. command.Free a.0 a.1) o)) (numbers_form.again (tenure, counter) v.numbers)
 short_again (command.OpenShard tenure) v = ap (λ o. option_map (λ c. (c, false)) (option_map (λ n. command.OpenShard n) o)) (number_form.again tenure v.numbers)
 short_again (command.Read tenure position limit) v =
-    ap (λ o. option_map (λ c. (c, false)) (option_map (λ a. command.Read a.0 a.1.0 a.1.1) o)) (read_form.again (tenure, (position, limit)) (v.numbers.0, (v.numbers.1, v.lawful)))
+    ap (λ o. option_map (λ c. (c, false)) (option_map (λ a. command.Read a.0 a.1.0 a.1.1) o))
+    (read_form.again (tenure, (position, limit)) (v.numbers.0, (v.numbers.1, v.lawful)))
 short_again (command.Give tenure) v = ap (λ o. option_map (λ c. (c, false)) (option_map (λ n. command.Give n) o)) (number_form.again tenure v.numbers)
 short_again (command.Mark tenure counter to) v =
     ap (λ o. option_map (λ c. (c, false)) (option_map (λ a. command.Mark a.0 a.1.0 a.1.1) o)) (mark_form.again (tenure, (counter, to)) v.numbers)
-short_again (command.CutLease key counter) v = ap (λ o. option_map (λ c. (c, false)) (option_map (λ a. command.CutLease a.0 a.1) o)) (cut_form.again (key, counter) v.numbers)
-short_again (command.Create name shards) v = absurd (cc v.lease)
-short_again (command.Delete name) v = absurd (cc v.lease)
-short_again (command.Streams after limit) v = absurd (cc v.lease)
-short_again (command.Describe name after limit) v = absurd (cc v.lease)
-short_again (command.Summary name) v = absurd (cc v.lease)
-short_again (command.Put name item) v = absurd (cc v.lease)
-short_again (command.PutMany name items) v = absurd (cc v.lease)
-short_again (command.GetIterator name shard from) v = absurd (cc v.lease)
-short_again (command.Records iter limit) v = absurd (cc v.lease)
-short_again (command.Split name shard at) v = absurd (cc v.lease)
-short_again (command.Merge name shard other) v = absurd (cc v.lease)
-short_again (command.Keep name hours raise) v = absurd (cc v.lease)
-short_again (command.Scale name target) v = absurd (cc v.lease)
-short_again (command.Enforce name on) v = absurd (cc v.lease)
-short_again (command.Shards name after limit) v = absurd (cc v.lease)
-short_again (command.More page limit) v = absurd (cc v.lease)
+short_again (command.CutLease key counter) v =
+    ap (λ o. option_map (λ c. (c, false)) (option_map (λ a. command.CutLease a.0 a.1) o)) (cut_form.again (key, counter) v.numbers)
+short_again _ v = absurd (cc v.lease)
 
 pub command_again : (what : Command) (long : Bool) → IsAsked what long → command_of (raw_text what long) ≡ Some (what, long)
 command_again what false a = short_again what a.0
