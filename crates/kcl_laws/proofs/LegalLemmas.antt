@@ -1,11 +1,10 @@
 -- The journal of a history is legal.
-use Rattle.std.proofs.Common.{◌≡◌, ℕ, ◌+◌, ◌-◌, ◌^◌, ◌<◌, ◌≤◌, Bool, true, false, List, [], ◌∷◌, length, Option, Some, None, refl, sym, ap, subst, ◌∙◌, arith}
-use Rattle.std.specs.Prelude.{is_some, not, nat_lt, cond, if◌then◌else◌}
+use Rattle.std.proofs.Common.{◌≡◌, ℕ, ◌+◌, ◌-◌, ◌^◌, ◌<◌, ◌≤◌, Bool, true, false, List, [], ◌∷◌, length, Option, Some, None, refl, sym, ap, ◌∙◌, arith}
+use Rattle.std.specs.Prelude.{Result, Ok, is_some, not, nat_lt, cond, if◌then◌else◌}
 use Rattle.std.specs.List.{AllByRecursion, find, filter}
 use Rattle.std.proofs.lemmas.Bool.Decides.{nat_tests}
 use Rattle.std.proofs.lemmas.Bool.{or_parts}
 use Rattle.kds_defs.specs.declared.command.Command.{Command}
-use Rattle.kds_defs.specs.declared.command.Command.TheVariants as command
 use Rattle.kds_defs.specs.declared.command.NewItem.{NewItem}
 use Rattle.kds_defs.specs.declared.command.Origin.{Origin}
 use Rattle.kds_defs.specs.declared.command.Origin.TheVariants as origin
@@ -13,42 +12,31 @@ use Rattle.kds_defs.specs.declared.command.Turn.{Turn}
 use Rattle.kds_base.specs.declared.lease_key.ShardRef.{ShardRef}
 use Rattle.kds_base.proofs.Facts.{equal_unless}
 use Rattle.kds_defs.specs.declared.entry.Entry.TheVariants as entry
+use Rattle.kds_defs.specs.declared.reply.Refusal.{Refusal}
 use Rattle.kds_defs.specs.declared.reply.Refusal.TheVariants as refusal
 use Rattle.kds_defs.specs.declared.reply.Reply.{Reply}
 use Rattle.kds_defs.specs.declared.reply.Reply.TheVariants as replies
 use Rattle.kds_defs.specs.Decision.{Decision, Refused, Accepted, refuse◌if◌else◌, with◌or◌then◌}
-use Rattle.kds_defs.specs.Histories.{decide, decision, lines_of, journal, clock}
+use Rattle.kds_defs.specs.Histories.{answer_of, decide, lines_of, journal, clock, with_stream}
 use Rattle.kds_defs.specs.Journal.{Line, Journal, plain_line}
 use Rattle.kds_defs.specs.Lawful.{IsLawfulCommand, IsHistory, IsItem}
 use Rattle.kds_defs.specs.Keys.{is_listed_key, ref}
 use Rattle.kds_defs.specs.Leases.{TenureState, row, tenure, reach}
 use Rattle.kds_defs.specs.LeaseCommands.{follows_parent, with_tenure, take_lease, renew, free, mark, read, is_unread, past_parent, past_parents}
-use Rattle.kds_defs.specs.Legal.{told, IsGood, IsLegal, IsInRange, last_clock, reach_in}
+use Rattle.kds_defs.specs.Legal.{in_stream, told, IsGood, IsLegal, IsInRange, last_clock, reach_in}
 use Rattle.kds_defs.specs.Records.{next_number}
 use Rattle.kds_defs.specs.Shards.{ShardState, home}
 use Rattle.kds_defs.specs.PutCommands.{is_held_back, put_lines}
 use Rattle.kds_defs.specs.StreamCommands.{last_number, put_place, put_line}
 use Rattle.kds_defs.specs.Streams.{is_live, stream_named, hours}
-use Rattle.kds_defs.proofs.Decisions.{passes, found, same_lines, passed_if}
+use Rattle.kds_defs.proofs.Decisions.{passes, found, passed_if, with_some}
+use Rattle.kds_defs.proofs.Walk as walks
 use Rattle.kcl_laws.proofs.Added.{Adds, in_live, draws_one, not_spent, not_past}
 use Rattle.kcl_laws.proofs.ScalingLemmas.{adds_scaling}
-use Rattle.kcl_laws.proofs.FenceLemmas.{held, past_the_target}
-
--- no line is added
-adds_none : (log : Journal) (lines : List Line) (reply reply' : Reply) (c : ℕ) → Accepted [] reply' ≡ Accepted lines reply → IsLegal log → last_clock log ≤ c → Adds log lines c
-adds_none log lines reply reply' c h legal order = subst (λ ls. Adds log ls c) (same_lines [] lines reply' reply h) (record { legal = legal; clock = order })
-
--- one good line is added
-adds_one : (log : Journal) (line : Line) (lines : List Line) (reply reply' : Reply) → Accepted (line ∷ []) reply' ≡ Accepted lines reply → told log line line.what ≡ Accepted lines reply → IsInRange line.what → IsLegal log → last_clock log ≤ line.clock → Adds log lines line.clock
-adds_one log line lines reply reply' h allowed range legal order =
-    let e = same_lines (line ∷ []) lines reply' reply h in
-    subst (λ ls. Adds log ls line.clock) e (record {
-      legal = (record { in_order = order; in_range = range; reply = reply; allowed = allowed ∙ ap (λ ls. Accepted ls reply) (sym e) }, legal);
-      clock = omega arith;
-    })
 
 -- a stream that a name finds is live
-pub found_by : (b d : Bool) (x s : ℕ) (rest : List ℕ) (p q : ℕ → Bool) → q x ≡ b → p x ≡ d → find p (cond b (x ∷ filter q rest) (filter q rest)) ≡ Some s → (find p (filter q rest) ≡ Some s → q s ≡ true) → q s ≡ true
+pub found_by : (b d : Bool) (x s : ℕ) (rest : List ℕ) (p q : ℕ → Bool) → q x ≡ b → p x ≡ d → find p (cond b (x ∷ filter q rest) (filter q rest)) ≡ Some s
+    → (find p (filter q rest) ≡ Some s → q s ≡ true) → q s ≡ true
 found_by false d x s rest p q isb isd h later = later h
 found_by true true x s rest p q isb isd h later =
     let e : Some x ≡ Some s = ap (λ b. cond b (Some x) (find p (filter q rest))) (sym isd) ∙ h in
@@ -63,7 +51,8 @@ find_filter p q (x ∷ xs) s h = found_by (q x) (p x) x s xs p q refl refl h (fi
 pub live_named : (log : Journal) (name : List ℕ) (s : ℕ) → stream_named log name ≡ Some s → is_live log s ≡ true
 live_named log name s h = find_filter _ (is_live log) _ s h
 
-not_both : (wanted have : ℕ) (raise : Bool) → (if raise then nat_lt wanted have else nat_lt have wanted) ≡ false → (if not (nat_lt wanted have) then nat_lt wanted have else nat_lt have wanted) ≡ false
+not_both : (wanted have : ℕ) (raise : Bool) → (if raise then nat_lt wanted have else nat_lt have wanted) ≡ false
+    → (if not (nat_lt wanted have) then nat_lt wanted have else nat_lt have wanted) ≡ false
 not_both wanted have true h = grind (arith, nat_tests)
 not_both wanted have false h = grind (arith, nat_tests)
 
@@ -78,10 +67,12 @@ lines_from back log c by s item items =
     else next_line log c by s item ∷ put_lines (next_line log c by s item ∷ log) c by s items
 
 -- one more item is held back, or its line is good
-adds_item : (back : Bool) (item : NewItem) (items : List NewItem) (log : Journal) (c by s : ℕ) → is_held_back log c s item ≡ back → item.hash < 2 ^ 128 → is_live log s ≡ true
+adds_item : (back : Bool) (item : NewItem) (items : List NewItem) (log : Journal) (c by s : ℕ) → is_held_back log c s item ≡ back → item.hash < 2 ^ 128
+    → is_live log s ≡ true
     → next_number log s + length (lines_from back log c by s item items) ≤ last_number → IsLegal log → last_clock log ≤ c
     → (next_number log s + length (put_lines log c by s items) ≤ last_number → Adds log (put_lines log c by s items) c)
-    → ((next : Journal) → next ≡ (next_line log c by s item ∷ log) → next_number next s + length (put_lines next c by s items) ≤ last_number → IsLegal next → last_clock next ≤ c → Adds next (put_lines next c by s items) c)
+    → ((next : Journal) → next ≡ (next_line log c by s item ∷ log) → next_number next s + length
+    (put_lines next c by s items) ≤ last_number → IsLegal next → last_clock next ≤ c → Adds next (put_lines next c by s items) c)
     → Adds log (lines_from back log c by s item items) c
 adds_item true item items log c by s is hash live fits legal order skip take = skip fits
 adds_item false item items log c by s is hash live fits legal order skip take =
@@ -92,13 +83,16 @@ adds_item false item items log c by s is hash live fits legal order skip take =
       in_order = order;
       in_range = hash;
       reply = told_reply;
-      allowed = in_live log s _ live ∙ passed_if (refusal.Throttled (home log s item.hash)) _ _ is ∙ passed_if refusal.Spent _ _ (not_spent (next_number log s) last_number more fits);
+      allowed =
+          in_live log s _ live ∙ passed_if (refusal.Throttled (home log s item.hash)) _ _ is
+          ∙ passed_if refusal.Spent _ _ (not_spent (next_number log s) last_number more fits);
     } in
     let rest = take (line ∷ log) refl (omega (arith, fits, draws_one s (next_number log s) (next_number log s) refl)) (good, legal) (omega arith) in
     record { legal = rest.legal; clock = rest.clock }
 
 -- the puts of several items, each judged after those before
-adds_puts : (items : List NewItem) (log : Journal) (c by s : ℕ) → AllByRecursion IsItem items → is_live log s ≡ true → next_number log s + length (put_lines log c by s items) ≤ last_number → IsLegal log → last_clock log ≤ c → Adds log (put_lines log c by s items) c
+adds_puts : (items : List NewItem) (log : Journal) (c by s : ℕ) → AllByRecursion IsItem items → is_live log s ≡ true
+    → next_number log s + length (put_lines log c by s items) ≤ last_number → IsLegal log → last_clock log ≤ c → Adds log (put_lines log c by s items) c
 adds_puts [] log c by s lawful live fits legal order = record { legal = legal; clock = order }
 adds_puts (item ∷ items) log c by s lawful live fits legal order =
     adds_item (is_held_back log c s item) item items log c by s refl lawful.0.hash live fits legal order
@@ -112,7 +106,8 @@ pub record Owned (log : Journal) (by t : ℕ) (next : TenureState → Decision) 
   pub own : state.by ≡ by
   pub rest : next state ≡ Accepted lines reply
 
-pub owned : (log : Journal) (by t : ℕ) (next : TenureState → Decision) (lines : List Line) (reply : Reply) → with_tenure log by t next ≡ Accepted lines reply → Owned log by t next lines reply
+pub owned : (log : Journal) (by t : ℕ) (next : TenureState → Decision) (lines : List Line) (reply : Reply) → with_tenure log by t next ≡ Accepted lines reply
+    → Owned log by t next lines reply
 owned log by t next lines reply h =
     let a = found (tenure log t) refusal.NoTenure _ lines reply h in
     let b = passes refusal.NotYours _ _ lines reply a.2 in
@@ -123,7 +118,8 @@ abbrev pub IsParentRead : Journal → ℕ → ℕ → Option ℕ → Type 0
 IsParentRead log c s None = Unit {0}
 IsParentRead log c s (Some parent) = is_unread log c (ref s parent) ≡ false
 
-pub past_the_parent : (log : Journal) (c s : ℕ) (o : Option ℕ) (next : Decision) (lines : List Line) (reply : Reply) → past_parent log c s o next ≡ Accepted lines reply → IsParentRead log c s o × (next ≡ Accepted lines reply)
+pub past_the_parent : (log : Journal) (c s : ℕ) (o : Option ℕ) (next : Decision) (lines : List Line) (reply : Reply)
+    → past_parent log c s o next ≡ Accepted lines reply → IsParentRead log c s o × (next ≡ Accepted lines reply)
 past_the_parent log c s None next lines reply h = (tt, h)
 past_the_parent log c s (Some parent) next lines reply h = let a = passes (refusal.ParentsOpen (ref s parent)) _ _ lines reply h in (a.0, a.1)
 
@@ -131,7 +127,8 @@ abbrev pub AreParentsRead : Journal → ℕ → ℕ → Option ShardState → Ty
 AreParentsRead log c s None = Unit {0}
 AreParentsRead log c s (Some x) = IsParentRead log c s x.parent × IsParentRead log c s x.adjacent
 
-pub past_the_parents : (log : Journal) (c s : ℕ) (o : Option ShardState) (next : Decision) (lines : List Line) (reply : Reply) → past_parents log c s o next ≡ Accepted lines reply → AreParentsRead log c s o × (next ≡ Accepted lines reply)
+pub past_the_parents : (log : Journal) (c s : ℕ) (o : Option ShardState) (next : Decision) (lines : List Line) (reply : Reply)
+    → past_parents log c s o next ≡ Accepted lines reply → AreParentsRead log c s o × (next ≡ Accepted lines reply)
 past_the_parents log c s None next lines reply h = (tt, h)
 past_the_parents log c s (Some x) next lines reply h =
     let a = past_the_parent log c s x.parent _ lines reply h in
@@ -146,144 +143,74 @@ lease_with log c by key from =
     Accepted (plain_line c by (entry.LeaseMade key from) ∷ []) (replies.Leased from)
 
 -- the origin that counts counts again
-counts_once : (b : Bool) (from : Origin) → (if b then origin.TrimHorizon else (if b then origin.TrimHorizon else from)) ≡ (if b then origin.TrimHorizon else from)
+counts_once : (b : Bool)
+    (from : Origin) → (if b then origin.TrimHorizon else (if b then origin.TrimHorizon else from)) ≡ (if b then origin.TrimHorizon else from)
 counts_once true from = refl
 counts_once false from = refl
 
-accepted_legal : (log : Journal) (c by : ℕ) (what : Command) (lines : List Line) (reply : Reply) → IsLawfulCommand what → decide log c by what ≡ Accepted lines reply → IsLegal log → last_clock log ≤ c → Adds log lines c
-accepted_legal log c by (command.Create name count) lines reply lawful h legal order =
-    let a = passes _ _ _ _ reply h in
-    let b = passes _ _ _ _ reply a.1 in
-    let d = passes _ _ _ _ reply b.1 in
-    adds_one log _ lines reply _ d.1 h lawful.1 legal order
-accepted_legal log c by (command.Delete name) lines reply lawful h legal order =
-    let f = found _ _ _ _ reply h in
-    adds_one log _ lines reply _ f.2 (in_live log f.0 _ (live_named log name f.0 f.1) ∙ f.2) tt legal order
-accepted_legal log c by (command.Streams after limit) lines reply lawful h legal order = adds_none log lines reply _ c h legal order
-accepted_legal log c by (command.Describe name after limit) lines reply lawful h legal order =
-    let f = found _ _ _ _ reply h in
-    adds_none log lines reply _ c f.2 legal order
-accepted_legal log c by (command.Summary name) lines reply lawful h legal order =
-    let f = found _ _ _ _ reply h in
-    adds_none log lines reply _ c f.2 legal order
-accepted_legal log c by (command.Shards name after limit) lines reply lawful h legal order =
-    let f = found _ _ _ _ reply h in
-    adds_none log lines reply _ c f.2 legal order
-accepted_legal log c by (command.More page limit) lines reply lawful h legal order =
-    let a = passes _ _ _ _ reply h in
-    let b = passes _ _ _ _ reply a.1 in
-    adds_none log lines reply _ c b.1 legal order
-accepted_legal log c by (command.GetIterator name sh from) lines reply lawful h legal order =
-    let f = found _ _ _ _ reply h in
-    let a = passes _ _ _ _ reply f.2 in
-    let g = found _ _ _ _ reply a.1 in
-    let b = passes _ _ _ _ reply g.2 in
-    adds_none log lines reply _ c b.1 legal order
-accepted_legal log c by (command.Records iter limit) lines reply lawful h legal order =
-    let a = passes _ _ _ _ reply h in
-    let b = passes _ _ _ _ reply a.1 in
-    let d = passes _ _ _ _ reply b.1 in
-    adds_none log lines reply _ c d.1 legal order
-accepted_legal log c by (command.Put name item) lines reply lawful h legal order =
-    let f = found _ _ _ _ reply h in
-    let a = passes _ _ _ _ reply f.2 in
-    let b = passes _ _ _ _ reply a.1 in
-    adds_one log _ lines reply _ b.1 (in_live log f.0 _ (live_named log name f.0 f.1) ∙ f.2) lawful.1.hash legal order
-accepted_legal log c by (command.PutMany name items) lines reply lawful h legal order =
-    let f = found _ _ _ _ reply h in
-    let a = passes _ _ _ _ reply f.2 in
-    subst (λ ls. Adds log ls c) (same_lines _ lines _ reply a.1)
-    (adds_puts items log c by f.0 lawful.1.each (live_named log name f.0 f.1) (not_past _ _ a.0) legal order)
-accepted_legal log c by (command.Scale name target) lines reply lawful h legal order =
-    let f = found _ _ _ _ reply h in
-    let a = passes _ _ _ _ reply f.2 in
-    let b = passes _ _ _ _ reply a.1 in
-    let fits = or_parts _ _ b.0 in
-    subst (λ ls. Adds log ls c) (same_lines _ lines _ reply b.1)
-    (adds_scaling log c by f.0 target (live_named log name f.0 f.1) lawful.1.0 lawful.1.1 (not_past _ _ a.0) (not_past _ _ fits.0) (not_past _ _ fits.1) legal order)
-accepted_legal log c by (command.Enforce name on) lines reply lawful h legal order =
-    let f = found _ _ _ _ reply h in
-    adds_one log _ lines reply _ f.2 (in_live log f.0 _ (live_named log name f.0 f.1) ∙ f.2) tt legal order
-accepted_legal log c by (command.Split name sh at) lines reply lawful h legal order =
-    let f = found _ _ _ _ reply h in
-    let a = passes _ _ _ _ reply f.2 in
-    let b = passes _ _ _ _ reply a.1 in
-    let d = passes _ _ _ _ reply b.1 in
-    let e = passes _ _ _ _ reply d.1 in
-    let g = passes _ _ _ _ reply e.1 in
-    adds_one log _ lines reply _ g.1 (in_live log f.0 _ (live_named log name f.0 f.1) ∙ f.2) tt legal order
-accepted_legal log c by (command.Merge name sh other) lines reply lawful h legal order =
-    let f = found _ _ _ _ reply h in
-    let a = passes _ _ _ _ reply f.2 in
-    let b = passes _ _ _ _ reply a.1 in
-    let d = passes _ _ _ _ reply b.1 in
-    let e = passes _ _ _ _ reply d.1 in
-    adds_one log _ lines reply _ e.1 (in_live log f.0 _ (live_named log name f.0 f.1) ∙ f.2) tt legal order
-accepted_legal log c by (command.Keep name wanted raise) lines reply lawful h legal order =
-    let f = found _ _ _ _ reply h in
-    let a = passes _ _ _ _ reply f.2 in
-    adds_one log _ lines reply _ a.1 (in_live log f.0 _ (live_named log name f.0 f.1) ∙ passed_if refusal.BadRetention _ _ (not_both wanted (hours log f.0) raise a.0) ∙ a.1) lawful.1 legal order
-accepted_legal log c by command.Survey lines reply lawful h legal order = adds_none log lines reply _ c h legal order
-accepted_legal log c by (command.MakeLease key from) lines reply lawful h legal order =
-    let a = passes _ _ _ _ reply h in
-    let b = passes _ _ _ _ reply a.1 in
-    adds_one log _ lines reply _ b.1
-    (ap (λ o. lease_with log c by key o) (counts_once (follows_parent log key) from) ∙ h) tt legal order
-accepted_legal log c by (command.Take key counter owner) lines reply lawful h legal order =
-    let f = found _ _ _ _ reply h in
-    let a = passes _ _ _ _ reply f.2 in
-    let b = passes _ _ _ _ reply a.1 in
-    let d = passes _ _ _ _ reply b.1 in
-    let same = equal_unless f.0.counter counter a.0 in
-    let n : counter ≡ f.0.counter + 1 - 1 = omega (arith, same) in
-    adds_one log _ lines reply _ d.1 (subst (λ m. take_lease log c by key m owner ≡ Accepted lines reply) n h) tt legal order
-accepted_legal log c by (command.Renew t counter) lines reply lawful h legal order =
-    let a = held log by t _ _ reply h in
-    let b = passes _ _ _ _ reply a.rest in
-    let d = passes _ _ _ _ reply b.1 in
-    let n : counter ≡ counter + 1 - 1 = omega arith in
-    adds_one log _ lines reply _ d.1 (subst (λ m. renew log c by t m ≡ Accepted lines reply) n h) tt legal order
-accepted_legal log c by (command.Free t counter) lines reply lawful h legal order =
-    let a = held log by t _ _ reply h in
-    let b = passes _ _ _ _ reply a.rest in
-    let d = passes _ _ _ _ reply b.1 in
-    let n : counter ≡ counter + 1 - 1 = omega arith in
-    adds_one log _ lines reply _ d.1 (subst (λ m. free log c by t m ≡ Accepted lines reply) n h) tt legal order
-accepted_legal log c by (command.OpenShard t) lines reply lawful h legal order =
-    let a = held log by t _ _ reply h in
-    let b = passes _ _ _ _ reply a.rest in
-    let d = passes _ _ _ _ reply b.1 in
-    let e = past_the_parents log c _ _ _ _ reply d.1 in
-    adds_one log _ lines reply _ e.1 h tt legal order
-accepted_legal log c by (command.Read t position limit) lines reply lawful h legal order =
-    let f = owned log by t _ _ reply h in
-    let a = passes _ _ _ _ reply f.rest in
-    let b = passes _ _ _ _ reply a.1 in
-    let d = passes _ _ _ _ reply b.1 in
-    let e = passes _ _ _ _ reply d.1 in
-    let place = equal_unless position (reach f.state) e.0 ∙ sym (ap reach_in f.begun) in
-    adds_one log _ lines reply _ e.1 (subst (λ p. read log c by t p limit ≡ Accepted lines reply) place h) tt legal order
-accepted_legal log c by (command.Give t) lines reply lawful h legal order =
-    let f = owned log by t _ _ reply h in
-    let a = passes _ _ _ _ reply f.rest in
-    adds_one log _ lines reply _ a.1 h tt legal order
-accepted_legal log c by (command.Mark t counter to) lines reply lawful h legal order =
-    let a = held log by t _ _ reply h in
-    let b = passes _ _ _ _ reply a.rest in
-    let e = past_the_target log a.holds.state to _ _ reply b.1 in
-    let d = passes _ _ _ _ reply e in
-    let n : counter ≡ counter + 1 - 1 = omega arith in
-    adds_one log _ lines reply _ d.1 (subst (λ m. mark log c by t m to ≡ Accepted lines reply) n h) tt legal order
-accepted_legal log c by (command.CutLease key counter) lines reply lawful h legal order =
-    let f = found _ _ _ _ reply h in
-    let a = passes _ _ _ _ reply f.2 in
-    let b = passes _ _ _ _ reply a.1 in
-    adds_one log _ lines reply _ b.1 h tt legal order
+-- what follows in a live stream of the name
+of_named : (log : Journal) (name : List ℕ) (s : ℕ) (next : ℕ → Decision) (d : Decision) → stream_named log name ≡ Some s → with_stream log name next ≡ d
+    → in_stream log s (next s) ≡ d
+of_named log name s next d named h =
+    in_live log s (next s) (live_named log name s named) ∙ sym (with_some (stream_named log name) refusal.NoStream next s named) ∙ h
+
+one_less : (n : ℕ) → n + 1 - 1 ≡ n
+one_less n = omega arith
+
+-- the line that a command tells tells that command, which is allowed
+told_allowed : (log : Journal) (c by : ℕ) (what : Command) (line : Line) (r : Reply) → walks.Tells log c by what line r
+    → decide log c by what ≡ Accepted (line ∷ []) r → told log line line.what ≡ Accepted (line ∷ []) r
+told_allowed log c by _ _ _ (walks.Deletes name s named) h = of_named log name s _ _ named h
+told_allowed log c by _ _ _ (walks.Puts name item s named fits) h = of_named log name s _ _ named h
+told_allowed log c by _ _ _ (walks.Splits name sh at s named listed fits) h = of_named log name s _ _ named h
+told_allowed log c by _ _ _ (walks.Merges name sh other s named listed fits) h = of_named log name s _ _ named h
+told_allowed log c by _ _ _ (walks.Enforces name on s named) h = of_named log name s _ _ named h
+told_allowed log c by _ _ _ (walks.Keeps name wanted raise s named fits) h =
+    in_live log s _ (live_named log name s named) ∙ passed_if refusal.BadRetention _ _ (not_both wanted (hours log s) raise fits)
+told_allowed log c by _ _ _ (walks.Makes key from) h = ap (λ o. lease_with log c by key o) (counts_once (follows_parent log key) from) ∙ h
+told_allowed log c by _ _ _ (walks.Takes key counter owner r there same fits) h =
+    ap (λ m. take_lease log c by key m owner) (one_less r.counter ∙ equal_unless r.counter counter same) ∙ h
+told_allowed log c by _ _ _ (walks.Renews t counter T begun same fits) h = ap (λ m. renew log c by t m) (one_less counter) ∙ h
+told_allowed log c by _ _ _ (walks.Frees t counter T begun same fits) h = ap (λ m. free log c by t m) (one_less counter) ∙ h
+told_allowed log c by _ _ _ (walks.Marks t counter to T begun same fits) h = ap (λ m. mark log c by t m to) (one_less counter) ∙ h
+told_allowed log c by _ _ _ (walks.Reads t position limit T place ended begun same) h =
+    ap (λ p. read log c by t p limit) (ap reach_in begun ∙ sym (equal_unless position (reach T) same)) ∙ h
+told_allowed log c by _ _ _ _ h = h
+
+told_range : (log : Journal) (c by : ℕ) (what : Command) (line : Line) (r : Reply) → walks.Tells log c by what line r → IsLawfulCommand what
+    → IsInRange line.what × (line.clock ≡ c)
+told_range log c by _ _ _ (walks.Creates name count fits) lawful = (lawful.1, refl)
+told_range log c by _ _ _ (walks.Puts name item s named fits) lawful = (lawful.1.hash, refl)
+told_range log c by _ _ _ (walks.Keeps name wanted raise s named fits) lawful = (lawful.1, refl)
+told_range log c by _ _ _ _ lawful = (tt, refl)
+
+-- the lines of an outcome
+outcome_legal : (log : Journal) (c by : ℕ) (what : Command) (lines : List Line) (answer : Result Reply Refusal) → walks.Outcome log c by what lines answer
+    → ((r : Reply) → answer ≡ Ok r → decide log c by what ≡ Accepted lines r) → IsLawfulCommand what → IsLegal log → last_clock log ≤ c → Adds log lines c
+outcome_legal log c by _ _ _ (walks.Refuses what r may) so lawful legal order = record { legal = legal; clock = order }
+outcome_legal log c by _ _ _ (walks.Answers what r shows) so lawful legal order = record { legal = legal; clock = order }
+outcome_legal log c by _ _ _ (walks.Adds what line r tells) so lawful legal order =
+    let range = told_range log c by what line r tells lawful in
+    let allowed = told_allowed log c by what line r tells (so r refl) in
+    record {
+      legal = (record { in_order = omega (arith, order, range.1); in_range = range.0; reply = r; allowed = allowed }, legal);
+      clock = omega (arith, range.1);
+    }
+outcome_legal log c by _ _ _ (walks.Stores name items s named fits) so lawful legal order =
+    adds_puts items log c by s lawful.1.each (live_named log name s named) (not_past _ _ fits) legal order
+outcome_legal log c by _ _ _ (walks.Scales name goal s named few fits) so lawful legal order =
+    let each = or_parts _ _ fits in
+    adds_scaling log c by s goal (live_named log name s named) lawful.1.0 lawful.1.1 (not_past _ _ few) (not_past _ _ each.0) (not_past _ _ each.1) legal order
 
 -- the lines of a decision
-decided_legal : (d : Decision) (log : Journal) (c by : ℕ) (what : Command) → decide log c by what ≡ d → IsLawfulCommand what → IsLegal log → last_clock log ≤ c → Adds log (lines_of d) c
-decided_legal (Refused r) log c by what is lawful legal order = record { legal = legal; clock = order }
-decided_legal (Accepted lines reply) log c by what is lawful legal order = accepted_legal log c by what lines reply lawful is legal order
+is_accepted : (d : Decision) (r : Reply) → answer_of d ≡ Ok r → d ≡ Accepted (lines_of d) r
+is_accepted (Refused q) r h = absurd cc
+is_accepted (Accepted lines q) r h = let e : q ≡ r = cc in ap (λ x. Accepted lines x) e
+
+decided_legal : (log : Journal) (c by : ℕ) (what : Command) → IsLawfulCommand what → IsLegal log → last_clock log ≤ c
+    → Adds log (lines_of (decide log c by what)) c
+decided_legal log c by what lawful legal order =
+    outcome_legal log c by what _ _ (walks.walk log c by what) (is_accepted (decide log c by what)) lawful legal order
 
 -- the journal of a history is legal, and no line is later than the history's clock
 pub record HasJournal (h : List Turn) : Type 0 where
@@ -294,5 +221,5 @@ pub journals : (h : List Turn) → IsHistory h → HasJournal h
 journals [] lawful = record { legal = tt; order = omega arith }
 journals (turn ∷ h) lawful =
     let before = journals h lawful.1 in
-    let a = decided_legal (decision (journal h) (clock (turn ∷ h)) turn) (journal h) (clock (turn ∷ h)) turn.by turn.what refl lawful.0.1 before.legal (omega (arith, before.order)) in
+    let a = decided_legal (journal h) (clock (turn ∷ h)) turn.by turn.what lawful.0.1 before.legal (omega (arith, before.order)) in
     record { legal = a.legal; order = a.clock }
