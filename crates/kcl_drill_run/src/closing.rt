@@ -3,7 +3,6 @@ ghost use Rattle.std.specs.Prelude.{◌≡◌, ℕ, All};
 ghost use Rattle.kcl_drill_run.specs.Running.{AreShort, HasDrilled, HasTaken, HaveRun, HaveStopped};
 
 use crate::participants::Participants;
-use kcl_drill_laws::{closed, stopped};
 use kcl_live::Member;
 use kcl_world::World;
 use kds_turn::{Hall, Pass};
@@ -35,8 +34,8 @@ pub fn close(hall: Hall<World>, participants: Participants) -> World
     ensures drilled { (number records : ℕ) → HaveRun hall number records participants → HasDrilled number records result }
     ensures short { AreShort participants }
 {
-    closed();
-    stopped();
+    kcl_drill_laws::closed();
+    kcl_drill_laws::stopped();
     let root = join_all(&hall, participants);
     let (world, _past) = hall.close(root);
     world

@@ -53,17 +53,7 @@ fn journals(rt: HostRuntime) -> Result<(), Fail> {
             ] as &[&str],
             "entry 10 Lost\n",
         ),
-    ];
-    for (lines, text) in cases {
-        let out = audit(rt.alloc(), lines)?;
-        assert!(rt; out.as_slice() == text.as_bytes());
-    }
-    Ok(())
-}
-
-#[test]
-fn ends_of_journals(rt: HostRuntime) -> Result<(), Fail> {
-    let cases = [
+        // ends of journals
         (&[] as &[&str], "entry 1 Form\n"),
         (&["journal 2"] as &[&str], "entry 1 Form\n"),
         (
