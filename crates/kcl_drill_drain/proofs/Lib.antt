@@ -8,5 +8,3 @@ pub mod Beginning
 pub mod ReadLemmas
 pub mod Makings
 pub mod Ends
-pub mod HorizonLemmas
-pub mod OwnLemmas

@@ -5,8 +5,6 @@ use Rattle.std.specs.Option.{option_map}
 use Rattle.kds_base.specs.declared.lease_key.Checkpoint.{Checkpoint}
 use Rattle.kds_base.specs.declared.lease_key.Checkpoint.TheVariants.{TrimHorizon, At, ShardEnd}
 use Rattle.kds_base.specs.declared.lease_key.ShardRef.{ShardRef}
-use Rattle.kds_defs.specs.declared.command.Command.{Command}
-use Rattle.kds_defs.specs.declared.command.Command.TheVariants as command
 use Rattle.kds_defs.specs.declared.command.Origin.TheVariants as origin
 use Rattle.kds_defs.specs.declared.command.Turn.{Turn}
 use Rattle.kds_defs.specs.declared.reply.Row.{Row}
@@ -34,14 +32,6 @@ pub record CanDrain (h : List Turn) (at : ℕ) : Type 0 where
   pub few : length h < 2 ^ 32
   pub whole : (s : ℕ) → is_live (journal h) s ≡ true → IsWhole (journal h) (max (clock h) at) s
   pub horizon : (key : ShardRef) (r : Row) → row (journal h) key ≡ Some r → origin_of (journal h) key ≡ Some origin.TrimHorizon
-
--- a row that it makes begins at the trim horizon; and so it is of each command of a history
-abbrev pub BeginsAtHorizon : Command → Type 0
-BeginsAtHorizon (command.MakeLease key from) = from ≡ origin.TrimHorizon
-BeginsAtHorizon _ = Unit {0}
-
-abbrev pub AreFromHorizon : List Turn → Type 0
-AreFromHorizon h = AllByRecursion (λ turn. BeginsAtHorizon turn.what) h
 
 -- ---- the shard of a key
 

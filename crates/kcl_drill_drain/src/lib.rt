@@ -11,4 +11,3 @@ mod rows;
 mod turns;
 
 pub use drain::lone_drain;
-pub use laws::{horizon_rows, own_turns};
