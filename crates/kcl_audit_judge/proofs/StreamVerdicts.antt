@@ -7,7 +7,7 @@ use Rattle.kds_defs.specs.Decision.{Decision}
 use Rattle.kcl_laws.specs.ShownLines.{entry_line}
 use Rattle.kds_defs.specs.Journal.{Journal}
 use Rattle.kds_defs.specs.Legal.{in_stream, told}
-use Rattle.kcl_leases.specs.Standing.{stream_of}
+use Rattle.kds_defs.specs.Subjects.{stream_of}
 use Rattle.kcl_audit_streams.specs.Judging.{in_live, lacks_room, stream_verdict}
 use Rattle.kcl_audit_streams.specs.Standing.{IsStream, Shows, StreamValue, StreamsValue, if_live, live_at, stream_at}
 use Rattle.kcl_audit_streams.specs.Verdict.{Verdict, judged}
@@ -33,10 +33,13 @@ pub stream_told : (w : StreamsValue) (log : Journal) (by : ℕ) (what : Entry) �
     → judged (told log (entry_line w.clock by what) what) what ≡ stream_verdict w.streams w.clock what
 stream_told w log by (entry.Made s name count) sh of = made_told log w.streams sh.all w.clock by s count name
 stream_told w log by (entry.Gone s) sh of = in_one w log s _ _ _ sh (λ v st live. gone_told log w.clock by s v st live)
-stream_told w log by (entry.Put s shard n hash bytes key_bytes) sh of = in_one w log s _ _ _ sh (λ v st live. put_told log w.clock by s shard n hash bytes key_bytes v st live)
+stream_told w log by (entry.Put s shard n hash bytes key_bytes) sh of =
+    in_one w log s _ _ _ sh (λ v st live. put_told log w.clock by s shard n hash bytes key_bytes v st live)
 stream_told w log by (entry.Split s shard at n low high) sh of =
-    in_one w log s _ _ _ sh (λ v st live. split_told log w.clock by s shard at n low high v (lacks_room w.streams 1) st live sh.order (full_is log w.streams sh.all))
-stream_told w log by (entry.Merged s shard other n child) sh of = in_one w log s _ _ _ sh (λ v st live. merge_told log w.clock by s shard other n child v st live sh.order)
+    in_one w log s _ _ _ sh
+    (λ v st live. split_told log w.clock by s shard at n low high v (lacks_room w.streams 1) st live sh.order (full_is log w.streams sh.all))
+stream_told w log by (entry.Merged s shard other n child) sh of =
+    in_one w log s _ _ _ sh (λ v st live. merge_told log w.clock by s shard other n child v st live sh.order)
 stream_told w log by (entry.Kept s wanted) sh of = in_one w log s _ _ _ sh (λ v st live. kept_told log w.clock by s wanted v st live)
 stream_told w log by (entry.Enforced s on) sh of = in_one w log s _ _ _ sh (λ v st live. limits_told log w.clock by s on v st live)
 stream_told w log by _ sh of = absurd (of refl)

@@ -1,9 +1,8 @@
 //! The judgement of entries, one after another.
-ghost use Rattle.std.specs.Prelude.{◌≡◌, ◌∷◌, [], is_some, IfOk, OnErr, OnOk};
+ghost use Rattle.std.specs.Prelude.{◌≡◌, ◌∷◌, [], IfOk, OnErr, OnOk};
 ghost use Rattle.kcl_laws.specs.ShownLines.{entry_line};
 ghost use Rattle.kds_defs.specs.Journal.{Journal};
 ghost use Rattle.kds_defs.specs.Legal.{told};
-ghost use Rattle.kcl_leases.specs.Standing.{stream_of};
 ghost use Rattle.kcl_audit_judge.specs.Standing.{Holds, Stands};
 ghost use Rattle.kcl_audit_streams.specs.Verdict.{IsFit, end_verdict, judged, verdict};
 ghost use Rattle.kcl_audit_streams.specs.Judging.{stream_verdict, streams_after};
@@ -24,22 +23,6 @@ pub struct Judge {
     streams: Streams,
     table: Table,
     book: Book,
-}
-
-/// Whether an entry is one of a stream.
-fn is_of_stream(what: &Entry) -> bool
-    ensures { result ≡ is_some (stream_of what.now) }
-{
-    matches!(
-        what,
-        Entry::Made { .. }
-            | Entry::Gone { .. }
-            | Entry::Put { .. }
-            | Entry::Split { .. }
-            | Entry::Merged { .. }
-            | Entry::Kept { .. }
-            | Entry::Enforced { .. }
-    )
 }
 
 /// Judges an entry of a stream at the streams' clock, and adds it where it is good. Else, and after `Memory`, the
@@ -96,7 +79,7 @@ impl Judge {
         ensures bad { (log : Journal) → Holds self.old log → IfOk result (λ r. OnErr r (Holds self.new log)) }
         ensures kept { (log : Journal) → Holds self.old log → OnErr result (Holds self.new log) }
     {
-        if is_of_stream(&what) {
+        if what.stream().is_some() {
             stream_entry(alloc, &mut self.streams, what)
         } else {
             lease_entries::entry(

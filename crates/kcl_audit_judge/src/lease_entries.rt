@@ -5,7 +5,7 @@ ghost use Rattle.kds_defs.specs.Journal.{Journal};
 ghost use Rattle.kds_defs.specs.LeaseCommands.{reaches_closing};
 ghost use Rattle.kds_defs.specs.Shards.{ShardState, shown};
 ghost use Rattle.kcl_leases.specs.Conditions.{counting_from, parent_reaches};
-ghost use Rattle.kcl_leases.specs.Standing.{stream_of};
+ghost use Rattle.kds_defs.specs.Subjects.{stream_of};
 ghost use Rattle.kcl_book.specs.Tenures.{tenure_at};
 ghost use Rattle.kcl_audit_judge.specs.Judging.{answer_verdict, reach_of};
 ghost use Rattle.kcl_audit_streams.specs.Standing.{Shows};

@@ -1,5 +1,6 @@
 -- The streams and shards of keys in a journal that is shown.
-use Rattle.std.proofs.Common.{◌≡◌, ℕ, zero, suc, ◌+◌, ◌≤◌, Bool, true, false, List, [], ◌∷◌, length, slice_get, Option, Some, None, refl, sym, ap, subst, ◌∙◌, arith}
+use Rattle.std.proofs.Common.{◌≡◌, ℕ, zero, suc, ◌+◌, ◌≤◌, Bool, true, false, List, [], ◌∷◌, length, slice_get, Option, Some, None, refl, sym, ap}
+use Rattle.std.proofs.Common.{subst, ◌∙◌, arith}
 use Rattle.std.specs.Prelude.{if◌then◌else◌}
 use Rattle.std.specs.Option.{option_map}
 use Rattle.kds_base.specs.declared.lease_key.ShardRef.{ShardRef}
@@ -7,7 +8,8 @@ use Rattle.kds_defs.specs.Journal.{Journal}
 use Rattle.kds_defs.specs.Keys.{is_listed_key}
 use Rattle.kds_defs.specs.Shards.{ShardState, is_listed, is_listed_state, shown}
 use Rattle.kcl_leases.specs.Standing.{live_shard}
-use Rattle.kcl_audit_streams.specs.Standing.{AreStreams, IsStream, IsUnmade, Shows, StreamValue, StreamsValue, if_live, is_listed_in, live_at, lists, stream_at}
+use Rattle.kds_defs.specs.Subjects.{IsFresh}
+use Rattle.kcl_audit_streams.specs.Standing.{AreStreams, IsStream, Shows, StreamValue, StreamsValue, if_live, is_listed_in, live_at, lists, stream_at}
 use Rattle.kcl_audit_streams.proofs.StreamTold.{listed_is}
 
 -- the stream at a place
@@ -32,21 +34,24 @@ stream_found w log (suc i) v sh is =
     let at : 1 + i ≡ suc i = omega arith in
     subst (λ m. IsStream log m v) at (stream_get log 1 i w.streams v sh.all.streams is)
 
-pub stream_none : (w : StreamsValue) (log : Journal) (s : ℕ) → Shows w log → stream_at w.streams s ≡ None → IsUnmade log s
+pub stream_none : (w : StreamsValue) (log : Journal) (s : ℕ) → Shows w log → stream_at w.streams s ≡ None → IsFresh log s
 stream_none w log zero sh is = sh.all.none
 stream_none w log (suc i) sh is = let r = get_none i w.streams is in sh.all.others (suc i) (omega (arith, r))
 
-unmade_unlisted : (log : Journal) (c s sh : ℕ) → IsUnmade log s → is_listed log c s sh ≡ false
+unmade_unlisted : (log : Journal) (c s sh : ℕ) → IsFresh log s → is_listed log c s sh ≡ false
 unmade_unlisted log c s sh un = ap (λ (xs : List ShardState). is_listed_state log c s (slice_get xs sh)) un.no_shards
 
 -- a stream that is gone lists nothing
-gone_unlisted : (w : StreamsValue) (key : ShardRef) (v : StreamValue) (b : Bool) → v.live ≡ b → is_listed_in (if b then Some v else None) w.clock key.shard ≡ is_listed_in (Some v) w.clock key.shard
+gone_unlisted : (w : StreamsValue) (key : ShardRef) (v : StreamValue) (b : Bool) → v.live ≡ b
+    → is_listed_in (if b then Some v else None) w.clock key.shard ≡ is_listed_in (Some v) w.clock key.shard
 gone_unlisted w key v true live = refl
 gone_unlisted w key v false live = rw live refl
 
-listed_by : (w : StreamsValue) (log : Journal) (key : ShardRef) (o : Option StreamValue) → Shows w log → stream_at w.streams key.stream ≡ o → is_listed_in (if_live o) w.clock key.shard ≡ is_listed_key log w.clock key
+listed_by : (w : StreamsValue) (log : Journal) (key : ShardRef) (o : Option StreamValue) → Shows w log → stream_at w.streams key.stream ≡ o
+    → is_listed_in (if_live o) w.clock key.shard ≡ is_listed_key log w.clock key
 listed_by w log key None sh is = sym (unmade_unlisted log w.clock key.stream key.shard (stream_none w log key.stream sh is))
-listed_by w log key (Some v) sh is = gone_unlisted w key v v.live refl ∙ sym (listed_is log w.clock key.stream key.shard v (stream_found w log key.stream v sh is) sh.order)
+listed_by w log key (Some v) sh is =
+    gone_unlisted w key v v.live refl ∙ sym (listed_is log w.clock key.stream key.shard v (stream_found w log key.stream v sh is) sh.order)
 
 pub listed_key : (w : StreamsValue) (log : Journal) (key : ShardRef) → Shows w log → lists w key ≡ is_listed_key log w.clock key
 listed_key w log key sh = listed_by w log key (stream_at w.streams key.stream) sh refl
@@ -57,11 +62,13 @@ abbrev pub shard_of : Option StreamValue → ℕ → Option ShardState
 shard_of None sh = None
 shard_of (Some v) sh = slice_get v.tree sh
 
-state_by : (log : Journal) (key : ShardRef) (v : StreamValue) (b : Bool) → IsStream log key.stream v → v.live ≡ b → shard_of (if b then Some v else None) key.shard ≡ live_shard log key
+state_by : (log : Journal) (key : ShardRef) (v : StreamValue) (b : Bool) → IsStream log key.stream v → v.live ≡ b
+    → shard_of (if b then Some v else None) key.shard ≡ live_shard log key
 state_by log key v true st live = rw (st.lives ∙ live) (ap (λ (xs : List ShardState). slice_get xs key.shard) (sym st.shards_are))
 state_by log key v false st live = rw (st.lives ∙ live) refl
 
-shard_by : (w : StreamsValue) (log : Journal) (key : ShardRef) (o : Option StreamValue) → Shows w log → stream_at w.streams key.stream ≡ o → shard_of (if_live o) key.shard ≡ live_shard log key
+shard_by : (w : StreamsValue) (log : Journal) (key : ShardRef) (o : Option StreamValue) → Shows w log → stream_at w.streams key.stream ≡ o
+    → shard_of (if_live o) key.shard ≡ live_shard log key
 shard_by w log key None sh is = rw (stream_none w log key.stream sh is).gone refl
 shard_by w log key (Some v) sh is = state_by log key v v.live (stream_found w log key.stream v sh is) refl
 
@@ -77,5 +84,6 @@ pub live_is : (o : Option StreamValue) (v : StreamValue) → if_live o ≡ Some 
 live_is None v h = absurd cc
 live_is (Some u) v h = live_state (Some u) v u.live u refl h
 
-pub shown_live : (v : StreamValue) (sh : ℕ) → v.live ≡ true → (if v.live then option_map shown (slice_get v.tree sh) else None) ≡ option_map shown (shard_of (Some v) sh)
+pub shown_live : (v : StreamValue) (sh : ℕ) → v.live ≡ true
+    → (if v.live then option_map shown (slice_get v.tree sh) else None) ≡ option_map shown (shard_of (Some v) sh)
 shown_live v sh live = rw live refl

@@ -1,5 +1,6 @@
 -- Which journals the streams that a judge knows stand for.
-use Rattle.std.specs.Prelude.{ℕ, ◌≡◌, ◌+◌, ◌*◌, ◌<◌, ◌≤◌, ◌==◌, ◌&&◌, max, zero, suc, Bool, true, false, not, if◌then◌else◌, List, [], ◌∷◌, length, map, slice_get, Option, Some, None}
+use Rattle.std.specs.Prelude.{ℕ, ◌≡◌, ◌+◌, ◌*◌, ◌<◌, ◌≤◌, ◌==◌, ◌&&◌, max, zero, suc, Bool, true, false, not, if◌then◌else◌, List, [], ◌∷◌, length}
+use Rattle.std.specs.Prelude.{map, slice_get, Option, Some, None}
 use Rattle.std.specs.List.{filter}
 use Rattle.kds_base.specs.declared.lease_key.ShardRef.{ShardRef}
 use Rattle.kds_defs.specs.declared.limits.TheConstants.{HOUR}
@@ -9,7 +10,8 @@ use Rattle.kds_defs.specs.PutCommands.{is_enforced}
 use Rattle.kds_defs.specs.Rates.{SizedPut, puts}
 use Rattle.kds_defs.specs.Records.{Logged, next_number, records}
 use Rattle.kds_defs.specs.Shards.{ShardState, is_closed_below, shards}
-use Rattle.kds_defs.specs.Streams.{floor_at, floor_of_lines, hours, is_live, made_count, name_of, trim_floor, was_made}
+use Rattle.kds_defs.specs.Streams.{floor_at, hours, is_live, made_count, name_of, trim_floor, was_made}
+use Rattle.kds_defs.specs.Subjects.{IsFresh}
 use Rattle.kcl_audit_streams.specs.declared.records.Sized.{Sized}
 
 -- ---- one stream
@@ -74,22 +76,11 @@ abbrev pub AreStreams : Journal → ℕ → List StreamValue → Type 0
 AreStreams log n [] = Unit {0}
 AreStreams log n (v ∷ vs) = IsStream log n v × AreStreams log (n + 1) vs
 
--- no line of the journal speaks of this stream
-pub record IsUnmade (log : Journal) (s : ℕ) : Type 0 where
-  pub unmade : was_made log s ≡ false
-  pub gone : is_live log s ≡ false
-  pub undrawn : next_number log s ≡ 1
-  pub no_floor : floor_of_lines log s ≡ 0
-  pub no_shards : shards log s ≡ []
-  pub no_records : (sh : ℕ) → records log s sh ≡ []
-  pub unlimited : is_enforced log s ≡ false
-  pub no_puts : (sh : ℕ) → puts log s sh ≡ []
-
 pub record ShowsAll (vs : List StreamValue) (log : Journal) : Type 0 where
   pub made : made_count log ≡ length vs
   pub streams : AreStreams log 1 vs
-  pub others : (s : ℕ) → length vs < s → IsUnmade log s
-  pub none : IsUnmade log 0
+  pub others : (s : ℕ) → length vs < s → IsFresh log s
+  pub none : IsFresh log 0
 
 -- the streams at a clock that isn't below the journal's
 pub record StreamsValue : Type 0 where

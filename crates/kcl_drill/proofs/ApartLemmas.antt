@@ -34,7 +34,7 @@ use Rattle.kds_defs.specs.Rates.{is_throttled, puts}
 use Rattle.kds_defs.specs.StreamCommands.{create, put_line, split, merge, keep, is_open_at, last_number}
 use Rattle.kds_defs.specs.Streams.{made_count, live_streams, stream_named}
 use Rattle.kcl_drill.specs.Apart.{AreBasic, LEAST_RETENTION, is_basic, is_stream_entry, stream_lines, service_turns}
-use Rattle.kcl_drill.proofs.Readings.{forget, kept, made_count_same, hours_same, next_number_same, home_same, length_same, range_same, open_same, live_same, named_same, open_count_same, IsYoung, young_if_legal, listed_same}
+use Rattle.kcl_drill.proofs.Readings.{enforced_same, forget, kept, made_count_same, hours_same, next_number_same, home_same, length_same, range_same, open_same, live_same, named_same, open_count_same, IsYoung, young_if_legal, listed_same}
 
 -- the line turns limits on throughput on or off
 abbrev is_limit : Entry → Bool
@@ -112,18 +112,8 @@ unlimited : (e : Entry) (s : ℕ) (b : Bool) → is_limit e ≡ false → enforc
 unlimited (entry.Enforced stream on) s b is = absurd cc
 unlimited _ s b is = refl
 
--- no line of a stream turns limits on
-calm_kept : (f : ℕ → ℕ) (log : Journal) → IsCalm (kept f log)
-calm_kept f [] s = refl
-calm_kept f (line ∷ log) s = either (is_stream_entry line.what) refl (calm_kept f log s)
-  where
-    stays : (e : Entry) (b : Bool) → is_stream_entry e ≡ true → enforced_after e s b ≡ b
-    stays (entry.Enforced stream on) b is = absurd cc
-    stays _ b is = refl
-
-    either : (b : Bool) → is_stream_entry line.what ≡ b → is_enforced (kept f log) s ≡ false → is_enforced (map (forget f) (cond b (line ∷ filter (λ l. is_stream_entry l.what) log) (filter (λ l. is_stream_entry l.what) log))) s ≡ false
-    either true is calm = stays line.what (is_enforced (kept f log) s) is ∙ calm
-    either false is calm = calm
+calm_kept : (f : ℕ → ℕ) (log : Journal) → IsCalm log → IsCalm (kept f log)
+calm_kept f log calm = λ s. sym (enforced_same f log s) ∙ calm s
 
 -- ---- puts
 
@@ -157,7 +147,7 @@ module _ (f : ℕ → ℕ) (c by by' : ℕ) (alike : f by ≡ by') (again : f by
       ∙ ap (λ ls. forget f line ∷ ls) (put_lines_same items (line ∷ log) s calm)
       ∙ ap (λ l. forget f line ∷ map (forget f) (put_lines (l ∷ kept f log) 0 by' s items)) (line_same log s item)
       ∙ ap (λ l. l ∷ map (forget f) (put_lines (line' ∷ kept f log) 0 by' s items)) (line_same_twice log s item)
-      ∙ ap (map (forget f)) (sym (taken (kept f log) 0 by' s item items (calm_kept f log)))
+      ∙ ap (map (forget f)) (sym (taken (kept f log) 0 by' s item items (calm_kept f log calm)))
 
 same_length : (f : ℕ → ℕ) (ls ls' : List Line) → map (forget f) ls ≡ map (forget f) ls' → length ls ≡ length ls'
 same_length f ls ls' is = sym (length-map ls (forget f)) ∙ ap length is ∙ length-map ls' (forget f)
@@ -177,7 +167,7 @@ module _ (f : ℕ → ℕ) (log : Journal) (c by by' : ℕ) (young : IsYoung log
 
   put_same : (s : ℕ) (item : NewItem) → AddsSame f (put log c by s item) (put (kept f log) 0 by' s item)
   put_same s item =
-      if_same _ _ _ _ _ _ _ (not_held log c s item calm ∙ sym (not_held (kept f log) 0 s item (calm_kept f log)))
+      if_same _ _ _ _ _ _ _ (not_held log c s item calm ∙ sym (not_held (kept f log) 0 s item (calm_kept f log calm)))
       (if_same _ _ _ _ _ _ _ (ap (λ n. n == last_number) (next_number_same f log s))
       (lines_same _ _ _ _ _ (ap (λ l. l ∷ []) (line_same_twice f c by by' kept_by alike log s item))))
 

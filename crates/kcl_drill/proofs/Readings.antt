@@ -4,16 +4,23 @@ use Rattle.std.specs.Prelude.{◌==◌, ◌*◌, ◌||◌, not, map, cond, slice
 use Rattle.std.specs.List.{filter, find}
 use Rattle.std.proofs.lemmas.Bool.Decides.{nat_tests}
 use Rattle.kds_base.specs.Span.{uniform}
+use Rattle.kds_defs.proofs.Elsewhere.{of_no_stream, of_none}
+use Rattle.kds_defs.proofs.Elsewhere as elsewhere
 use Rattle.kds_defs.specs.declared.entry.Entry.{Entry}
 use Rattle.kds_defs.specs.declared.entry.Entry.TheVariants as entry
 use Rattle.kds_defs.specs.declared.limits.TheConstants.{FIRST_HOURS}
 use Rattle.kds_defs.specs.Journal.{Line, Journal}
 use Rattle.kds_defs.specs.Legal.{IsInRange, IsLegal, last_clock}
+use Rattle.kds_defs.specs.PutCommands.{enforced_after, is_enforced}
 use Rattle.kds_defs.specs.Records.{draws, next_number}
-use Rattle.kds_defs.specs.Shards.{ShardState, Closing, shards, shards_after, shard_at, is_open, open_shards, open_in, open_count, home_among, home, range_of, is_listed, is_listed_state, is_closed_below, was_closed_below, made_shards}
+use Rattle.kds_defs.specs.Shards.{ShardState, Closing, shards, shards_after, shard_at, is_open, open_shards, open_in, open_count, home_among, home}
+use Rattle.kds_defs.specs.Shards.{range_of, is_listed, is_listed_state, is_closed_below, was_closed_below, made_shards}
 use Rattle.kds_defs.specs.StreamCommands.{is_open_at}
-use Rattle.kds_defs.specs.Streams.{made_count, made_count_after, is_live, is_live_after, name_of, name_of_after, hours, hours_after, numbers_from, live_streams, stream_named, same_name, floor_at, floor_after, floor_of_lines, trim_floor, was_made}
-use Rattle.kcl_drill.proofs.Undated.{undated_all, length_undated, at_undated, range_undated, firsts_undated, split_undated, merged_undated, chosen, open_undated, opens_undated, home_undated, listed_at, listed_undated, filter_same, find_same}
+use Rattle.kds_defs.specs.Streams.{made_count, made_count_after, is_live, is_live_after, name_of, name_of_after, hours, hours_after, numbers_from}
+use Rattle.kds_defs.specs.Streams.{live_streams, stream_named, same_name, floor_at, floor_after, floor_of_lines, trim_floor, was_made}
+use Rattle.kds_defs.specs.Subjects.{stream_of}
+use Rattle.kcl_drill.proofs.Undated.{undated_all, length_undated, at_undated, range_undated, firsts_undated, split_undated, merged_undated, chosen}
+use Rattle.kcl_drill.proofs.Undated.{open_undated, opens_undated, home_undated, listed_at, listed_undated}
 use Rattle.kcl_drill.specs.Apart.{LEAST_RETENTION, is_stream_entry}
 
 -- a line without its clock, and with f of its actor
@@ -31,7 +38,8 @@ module _ {A : Type 0} (f : ℕ → ℕ) (R : Journal → A) (step : Line → A �
     (first : φ (R []) ≡ R [])
     (others : (line : Line) (a : A) → is_stream_entry line.what ≡ false → step line a ≡ a)
     (undates : (line : Line) (a : A) → φ (step line a) ≡ step (forget f line) (φ a)) where
-  read_step : (line : Line) (log rest : Journal) (b : Bool) → is_stream_entry line.what ≡ b → φ (R log) ≡ R (map (forget f) rest) → φ (R (line ∷ log)) ≡ R (map (forget f) (cond b (line ∷ rest) rest))
+  read_step : (line : Line) (log rest : Journal) (b : Bool) → is_stream_entry line.what ≡ b → φ (R log) ≡ R (map (forget f) rest)
+      → φ (R (line ∷ log)) ≡ R (map (forget f) (cond b (line ∷ rest) rest))
   read_step line log rest true is so =
       ap φ (along line log) ∙ undates line (R log) ∙ ap (step (forget f line)) so ∙ sym (along (forget f line) (map (forget f) rest))
   read_step line log rest false is so = ap φ (along line log ∙ others line (R log) is) ∙ so
@@ -43,38 +51,8 @@ module _ {A : Type 0} (f : ℕ → ℕ) (R : Journal → A) (step : Line → A �
 abbrev same : {A : Type 0} → A → A
 same a = a
 
-made_count_other : (e : Entry) (n : ℕ) → is_stream_entry e ≡ false → made_count_after e n ≡ n
-made_count_other (entry.Made stream name shards) n is = absurd cc
-made_count_other _ n is = refl
-
-is_live_other : (e : Entry) (s : ℕ) (b : Bool) → is_stream_entry e ≡ false → is_live_after e s b ≡ b
-is_live_other (entry.Made stream name shards) s b is = absurd cc
-is_live_other (entry.Gone stream) s b is = absurd cc
-is_live_other _ s b is = refl
-
-name_other : (e : Entry) (s : ℕ) (name : List ℕ) → is_stream_entry e ≡ false → name_of_after e s name ≡ name
-name_other (entry.Made stream name shards) s before is = absurd cc
-name_other _ s before is = refl
-
-hours_other : (e : Entry) (s n : ℕ) → is_stream_entry e ≡ false → hours_after e s n ≡ n
-hours_other (entry.Made stream name shards) s n is = absurd cc
-hours_other (entry.Kept stream wanted) s n is = absurd cc
-hours_other _ s n is = refl
-
-draws_other : (e : Entry) (s : ℕ) → is_stream_entry e ≡ false → draws e s ≡ 0
-draws_other (entry.Put stream shard seq hash bytes key_bytes) s is = absurd cc
-draws_other (entry.Split stream shard at seq low high) s is = absurd cc
-draws_other (entry.Merged stream shard other seq child) s is = absurd cc
-draws_other _ s is = refl
-
-none_drawn : (n m : ℕ) → n ≡ 0 → n + m ≡ m
-none_drawn n m is = omega (arith, is)
-
-shards_other : (line : Line) (e : Entry) (s start : ℕ) (xs : List ShardState) → is_stream_entry e ≡ false → shards_after line e s start xs ≡ xs
-shards_other line (entry.Made stream name count) s start xs is = absurd cc
-shards_other line (entry.Split stream sh at number low high) s start xs is = absurd cc
-shards_other line (entry.Merged stream sh other number child) s start xs is = absurd cc
-shards_other line _ s start xs is = refl
+pub no_stream : (e : Entry) (s : ℕ) → is_stream_entry e ≡ false → stream_of e ≢ Some s
+no_stream e s is = of_no_stream e s (of_none (stream_of e) is)
 
 -- the next number and the shards of a stream go along the journal together
 record Grown : Type 0 where
@@ -93,8 +71,10 @@ undated_grown g = record g { all = undated_all g.all }
 grow_other : (s : ℕ) (line : Line) (g : Grown) → is_stream_entry line.what ≡ false → grow s line g ≡ g
 unfolding grow
 grow_other s line g is =
-    let n = none_drawn _ g.next (draws_other line.what s is) in
-    ap (λ n. record { next = n; all = shards_after line line.what s n g.all }) n ∙ ap (λ xs. record { next = g.next; all = xs }) (shards_other line line.what s g.next g.all is)
+    let none = no_stream line.what s is in
+    let n = elsewhere.next_same line.what s g.next none in
+    ap (λ n. record { next = n; all = shards_after line line.what s n g.all }) n
+    ∙ ap (λ xs. record { next = g.next; all = xs }) (elsewhere.shards_same line line.what s g.next g.all none)
 
 -- each line is below it, with numbers in their ranges
 abbrev pub IsYoung : Journal → Type 0
@@ -126,7 +106,9 @@ no_floor : (clock hours : ℕ) → clock < 86400000 → 24 ≤ hours → floor_a
 no_floor clock hours below least = omega (arith, below, least)
 
 floor_line : (log : Journal) (line : Line) (s : ℕ) → IsYoung (line ∷ log) → floor_after log line s ≡ 0
-floor_line log line s young = none (was_made (line ∷ log) s) (was_made log s) _ _ (no_floor line.clock (hours (line ∷ log) s) young.0 (least_hours (line ∷ log) s young)) (no_floor line.clock (hours log s) young.0 (least_hours log s young.2))
+floor_line log line s young =
+    none (was_made (line ∷ log) s) (was_made log s) _ _ (no_floor line.clock (hours (line ∷ log) s) young.0 (least_hours (line ∷ log) s young))
+    (no_floor line.clock (hours log s) young.0 (least_hours log s young.2))
   where
     none : (b d : Bool) (n m : ℕ) → n ≡ 0 → m ≡ 0 → (if b then max n (if d then m else 0) else 0) ≡ 0
     none true true n m h g = omega (arith, h, g)
@@ -159,21 +141,31 @@ listed_by log c s (Some x) none = ap (λ f. not (not (is_live log s) || is_close
 
 module _ (f : ℕ → ℕ) where
   pub made_count_same : (log : Journal) → made_count log ≡ made_count (kept f log)
-  made_count_same log = reads_same f made_count (λ line n. made_count_after line.what n) same (λ line log. refl) refl (λ line n. made_count_other line.what n) (λ line n. refl) log
+  made_count_same log = reads_same f made_count (λ line n. made_count_after line.what n) same (λ line log. refl) refl
+      (λ line n is. elsewhere.count_same line.what n (of_none (stream_of line.what) is)) (λ line n. refl) log
 
   pub is_live_same : (log : Journal) (s : ℕ) → is_live log s ≡ is_live (kept f log) s
-  is_live_same log s = reads_same f (λ l. is_live l s) (λ line b. is_live_after line.what s b) same (λ line log. refl) refl (λ line b. is_live_other line.what s b) (λ line b. refl) log
+  is_live_same log s = reads_same f (λ l. is_live l s) (λ line b. is_live_after line.what s b) same (λ line log. refl) refl
+      (λ line b is. elsewhere.live_same line.what s b (no_stream line.what s is)) (λ line b. refl) log
 
   pub name_same : (log : Journal) (s : ℕ) → name_of log s ≡ name_of (kept f log) s
-  name_same log s = reads_same f (λ l. name_of l s) (λ line n. name_of_after line.what s n) same (λ line log. refl) refl (λ line n. name_other line.what s n) (λ line n. refl) log
+  name_same log s = reads_same f (λ l. name_of l s) (λ line n. name_of_after line.what s n) same (λ line log. refl) refl
+      (λ line n is. elsewhere.name_same line.what s n (no_stream line.what s is)) (λ line n. refl) log
 
   pub hours_same : (log : Journal) (s : ℕ) → hours log s ≡ hours (kept f log) s
-  hours_same log s = reads_same f (λ l. hours l s) (λ line n. hours_after line.what s n) same (λ line log. refl) refl (λ line n. hours_other line.what s n) (λ line n. refl) log
+  hours_same log s = reads_same f (λ l. hours l s) (λ line n. hours_after line.what s n) same (λ line log. refl) refl
+      (λ line n is. elsewhere.hours_same line.what s n (no_stream line.what s is)) (λ line n. refl) log
+
+  pub enforced_same : (log : Journal) (s : ℕ) → is_enforced log s ≡ is_enforced (kept f log) s
+  enforced_same log s = reads_same f (λ l. is_enforced l s) (λ line b. enforced_after line.what s b) same (λ line log. refl) refl
+      (λ line b is. elsewhere.enforced_same line.what s b (no_stream line.what s is)) (λ line b. refl) log
 
   pub next_number_same : (log : Journal) (s : ℕ) → next_number log s ≡ next_number (kept f log) s
-  next_number_same log s = reads_same f (λ l. next_number l s) (λ line n. draws line.what s + n) same (λ line log. refl) refl (λ line n is. none_drawn _ n (draws_other line.what s is)) (λ line n. refl) log
+  next_number_same log s = reads_same f (λ l. next_number l s) (λ line n. draws line.what s + n) same (λ line log. refl) refl
+      (λ line n is. elsewhere.next_same line.what s n (no_stream line.what s is)) (λ line n. refl) log
 
-  shards_after_undated : (line : Line) (e : Entry) (s start : ℕ) (xs : List ShardState) → undated_all (shards_after line e s start xs) ≡ shards_after (forget f line) e s start (undated_all xs)
+  shards_after_undated : (line : Line) (e : Entry) (s start : ℕ) (xs : List ShardState)
+      → undated_all (shards_after line e s start xs) ≡ shards_after (forget f line) e s start (undated_all xs)
   shards_after_undated line (entry.Made stream name count) s start xs =
       chosen (stream == s) (made_shards count start) xs (made_shards count start) (undated_all xs) (firsts_undated 0 start (uniform count)) refl
   shards_after_undated line (entry.Split stream sh at number low high) s start xs =
@@ -184,7 +176,8 @@ module _ (f : ℕ → ℕ) where
 
   grow_undated : (s : ℕ) (line : Line) (g : Grown) → undated_grown (grow s line g) ≡ grow s (forget f line) (undated_grown g)
   unfolding grow undated_grown
-  grow_undated s line g = ap (λ xs. record { next = draws line.what s + g.next; all = xs }) (shards_after_undated line line.what s (draws line.what s + g.next) g.all)
+  grow_undated s line g =
+      ap (λ xs. record { next = draws line.what s + g.next; all = xs }) (shards_after_undated line line.what s (draws line.what s + g.next) g.all)
 
   pub shards_same : (log : Journal) (s : ℕ) → undated_all (shards log s) ≡ shards (kept f log) s
   unfolding grown grow undated_grown
@@ -207,25 +200,23 @@ module _ (f : ℕ → ℕ) where
       sym (open_undated (shard_at log s sh)) ∙ ap is_open_at (sym (at_undated (shards log s) sh)) ∙ ap (λ xs. is_open_at (slice_get xs sh)) (shards_same log s)
 
   pub live_same : (log : Journal) → live_streams log ≡ live_streams (kept f log)
-  live_same log =
-      filter_same (is_live log) (is_live (kept f log)) (is_live_same log) (numbers_from 1 (made_count log))
-      ∙ ap (λ n. filter (is_live (kept f log)) (numbers_from 1 n)) (made_count_same log)
+  live_same log = λ i. filter (λ s. is_live_same log s i) (numbers_from 1 (made_count_same log i))
 
   pub named_same : (log : Journal) (name : List ℕ) → stream_named log name ≡ stream_named (kept f log) name
-  named_same log name =
-      find_same (λ s. same_name (name_of log s) name) (λ s. same_name (name_of (kept f log) s) name) (λ s. ap (λ n. same_name n name) (name_same log s)) (live_streams log)
-      ∙ ap (find (λ s. same_name (name_of (kept f log) s) name)) (live_same log)
+  named_same log name = λ i. find (λ s. same_name (name_same log s i) name) (live_same log i)
 
   open_in_same : (log : Journal) (ss : List ℕ) → open_in log ss ≡ open_in (kept f log) ss
   open_in_same log [] = refl
   open_in_same log (s ∷ ss) =
-      let one : length (open_shards log s) ≡ length (open_shards (kept f log) s) = sym (length_undated (open_shards log s)) ∙ ap length (open_shards_same log s) in
+      let one : length (open_shards log s) ≡ length (open_shards (kept f log) s) =
+      sym (length_undated (open_shards log s)) ∙ ap length (open_shards_same log s) in
       ap (λ n. n + open_in log ss) one ∙ ap (λ n. length (open_shards (kept f log) s) + n) (open_in_same log ss)
 
   pub open_count_same : (log : Journal) → open_count log ≡ open_count (kept f log)
   open_count_same log = open_in_same log (live_streams log) ∙ ap (open_in (kept f log)) (live_same log)
 
-  young_step : (line : Line) (rest : Journal) (b : Bool) → IsInRange line.what → IsYoung (map (forget f) rest) → IsYoung (map (forget f) (cond b (line ∷ rest) rest))
+  young_step : (line : Line) (rest : Journal) (b : Bool) → IsInRange line.what → IsYoung (map (forget f) rest)
+      → IsYoung (map (forget f) (cond b (line ∷ rest) rest))
   young_step line rest true range young = (omega arith, range, young)
   young_step line rest false range young = young
 
@@ -233,7 +224,8 @@ module _ (f : ℕ → ℕ) where
   young_undated [] young = tt
   young_undated (line ∷ log) young = young_step line (filter (λ l. is_stream_entry l.what) log) (is_stream_entry line.what) young.1 (young_undated log young.2)
 
-  pub listed_same : (log : Journal) (c d s sh : ℕ) → IsYoung log → c < LEAST_RETENTION → d < LEAST_RETENTION → is_listed log c s sh ≡ is_listed (kept f log) d s sh
+  pub listed_same : (log : Journal) (c d s sh : ℕ) → IsYoung log → c < LEAST_RETENTION → d < LEAST_RETENTION
+      → is_listed log c s sh ≡ is_listed (kept f log) d s sh
   listed_same log c d s sh young below below' =
       listed_by log c s (shard_at log s sh) (untrimmed log c s young below)
       ∙ ap (λ b. listed_at b (shard_at log s sh)) (is_live_same log s)

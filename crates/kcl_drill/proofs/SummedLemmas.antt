@@ -6,6 +6,7 @@ use Rattle.std.specs.Option.{option_map}
 use Rattle.std.proofs.lemmas.Bool.Decides.{nat_tests}
 use Rattle.kds_base.specs.declared.lease_key.Checkpoint.{Checkpoint}
 use Rattle.kds_base.specs.declared.lease_key.Checkpoint.TheVariants as checkpoint
+use Rattle.kds_defs.proofs.Elsewhere as elsewhere
 use Rattle.kds_defs.specs.declared.command.Turn.{Turn}
 use Rattle.kds_defs.specs.declared.entry.Entry.{Entry}
 use Rattle.kds_defs.specs.declared.entry.Entry.TheVariants as entry
@@ -20,12 +21,13 @@ use Rattle.kds_defs.specs.Records.{Logged, records, records_after}
 use Rattle.kds_defs.specs.Shards.{ShardState, Closing, is_open, shards, listed_among, listed_shards, was_closed_below}
 use Rattle.kds_defs.specs.Streams.{is_live, stream_named, trim_floor}
 use Rattle.kcl_laws.proofs.LegalLemmas.{live_named}
-use Rattle.kcl_drill.specs.Apart.{AreBasic, LEAST_RETENTION, is_stream_entry, service_turns}
+use Rattle.kcl_drill.specs.Apart.{AreBasic, LEAST_RETENTION, service_turns}
 use Rattle.kcl_drill.specs.Generated.{drill_name, generated}
-use Rattle.kcl_drill.specs.Summed.{Summed, summed, summed_at, summary_of, summary_text, bytes_of, last_checkpoint, final_checkpoint, final_at, final_of, turns_of, drill_text, text_of, IsDrained, AreDrained}
+use Rattle.kcl_drill.specs.Summed.{Summed, summed, summed_at, summary_of, summary_text, bytes_of, last_checkpoint, final_checkpoint, final_at}
+use Rattle.kcl_drill.specs.Summed.{final_of, turns_of, drill_text, text_of, IsDrained, AreDrained}
 use Rattle.kcl_drill.proofs.ApartLemmas.{Reaches, Asked, asked, same_left, basic_service, lawful_service, services_twice}
 use Rattle.kcl_drill.proofs.Inner.{basic_if_generated}
-use Rattle.kcl_drill.proofs.Readings.{forget, kept, reads_same, named_same, shards_same, untrimmed, young_if_legal}
+use Rattle.kcl_drill.proofs.Readings.{forget, kept, no_stream, reads_same, named_same, shards_same, untrimmed, young_if_legal}
 use Rattle.kcl_drill.proofs.Undated.{undated_shard, undated_all, open_undated}
 
 -- ---- records, of which the moments of their arrivals are left aside
@@ -40,21 +42,22 @@ put_last : (rs : List Logged) (r : Logged) → undated_records (rs ++ r ∷ []) 
 put_last [] r = refl
 put_last (q ∷ rs) r = ap (λ xs. undated_record q ∷ xs) (put_last rs r)
 
-chosen_records : (b : Bool) (xs ys xs' ys' : List Logged) → undated_records xs ≡ xs' → undated_records ys ≡ ys' → undated_records (if b then xs else ys) ≡ (if b then xs' else ys')
+chosen_records : (b : Bool) (xs ys xs' ys' : List Logged) → undated_records xs ≡ xs' → undated_records ys ≡ ys'
+    → undated_records (if b then xs else ys) ≡ (if b then xs' else ys')
 chosen_records true xs ys xs' ys' h g = h
 chosen_records false xs ys xs' ys' h g = g
 
-records_undated : (f : ℕ → ℕ) (line : Line) (e : Entry) (s sh : ℕ) (rs : List Logged) → undated_records (records_after line e s sh rs) ≡ records_after (forget f line) e s sh (undated_records rs)
+records_undated : (f : ℕ → ℕ) (line : Line) (e : Entry) (s sh : ℕ) (rs : List Logged)
+    → undated_records (records_after line e s sh rs) ≡ records_after (forget f line) e s sh (undated_records rs)
 records_undated f line (entry.Put stream shard seq hash bytes key_bytes) s sh rs =
-    chosen_records ((stream == s) && (shard == sh)) _ rs _ (undated_records rs) (put_last rs (record { seq = seq; arrival = line.clock; bytes = bytes + key_bytes; key = line.key; payload = line.payload })) refl
+    chosen_records ((stream == s) && (shard == sh)) _ rs _ (undated_records rs)
+    (put_last rs (record { seq = seq; arrival = line.clock; bytes = bytes + key_bytes; key = line.key; payload = line.payload })) refl
 records_undated f line _ s sh rs = refl
 
-records_other : (line : Line) (e : Entry) (s sh : ℕ) (rs : List Logged) → is_stream_entry e ≡ false → records_after line e s sh rs ≡ rs
-records_other line (entry.Put stream shard seq hash bytes key_bytes) s sh rs is = absurd cc
-records_other line _ s sh rs is = refl
-
 records_same : (f : ℕ → ℕ) (log : Journal) (s sh : ℕ) → undated_records (records log s sh) ≡ records (kept f log) s sh
-records_same f log s sh = reads_same f (λ l. records l s sh) (λ line rs. records_after line line.what s sh rs) undated_records (λ line log. refl) refl (λ line rs. records_other line line.what s sh rs) (λ line rs. records_undated f line line.what s sh rs) log
+records_same f log s sh =
+    reads_same f (λ l. records l s sh) (λ line rs. records_after line line.what s sh rs) undated_records (λ line log. refl) refl
+    (λ line rs is. elsewhere.records_same line line.what s sh rs (no_stream line.what s is)) (λ line rs. records_undated f line line.what s sh rs) log
 
 length_records : (rs : List Logged) → length (undated_records rs) ≡ length rs
 length_records [] = refl
@@ -77,10 +80,13 @@ final x rs = summed x.no rs (final_checkpoint x rs)
 final_undated : (x : ShardState) (rs : List Logged) → final (undated_shard x) (undated_records rs) ≡ final x rs
 unfolding final
 final_undated x rs =
-    ap (λ n. record { no = x.no; count = n; bytes = bytes_of (undated_records rs); checkpoint = final_checkpoint (undated_shard x) (undated_records rs) }) (length_records rs)
+    ap (λ n. record { no = x.no; count = n; bytes = bytes_of (undated_records rs); checkpoint = final_checkpoint (undated_shard x) (undated_records rs) })
+    (length_records rs)
     ∙ ap (λ n. record { no = x.no; count = length rs; bytes = n; checkpoint = final_checkpoint (undated_shard x) (undated_records rs) }) (bytes_records rs)
-    ∙ ap (λ at. record { no = x.no; count = length rs; bytes = bytes_of rs; checkpoint = if is_open (undated_shard x) then at else checkpoint.ShardEnd }) (last_records rs)
-    ∙ ap (λ b. record { no = x.no; count = length rs; bytes = bytes_of rs; checkpoint = if b then last_checkpoint rs else checkpoint.ShardEnd }) (open_undated (Some x))
+    ∙ ap (λ at. record { no = x.no; count = length rs; bytes = bytes_of rs; checkpoint = if is_open (undated_shard x) then at else checkpoint.ShardEnd })
+    (last_records rs)
+    ∙ ap (λ b. record { no = x.no; count = length rs; bytes = bytes_of rs; checkpoint = if b then last_checkpoint rs else checkpoint.ShardEnd })
+    (open_undated (Some x))
 
 final_kept_at : (f : ℕ → ℕ) (log : Journal) (s : ℕ) (x : ShardState) → final_at (kept f log) s (undated_shard x) ≡ final_at log s x
 unfolding final
@@ -127,10 +133,12 @@ drained_all log s (x ∷ xs) are =
     ap (λ at. summed x.no (records log s x.no) at ∷ map (summed_at log s) xs) (checkpoint_is (row log (ref s x.no)) _ are.0)
     ∙ ap (λ ys. final_at log s x ∷ ys) (drained_all log s xs are.1)
 
-summary_final : (log : Journal) (c : ℕ) (o : Option ℕ) → stream_named log drill_name ≡ o → AreDrained log c → ((s : ℕ) → trim_floor log c s ≡ 0) → summary_of log c o ≡ final_of log o
+summary_final : (log : Journal) (c : ℕ) (o : Option ℕ) → stream_named log drill_name ≡ o → AreDrained log c → ((s : ℕ) → trim_floor log c s ≡ 0)
+    → summary_of log c o ≡ final_of log o
 summary_final log c None is drained none = refl
 summary_final log c (Some s) is drained none =
-    ap text_of (drained_all log s (listed_shards log c s) (drained s) ∙ ap (map (final_at log s)) (listed_all log c s (live_named log drill_name s is) (none s)))
+    ap text_of
+    (drained_all log s (listed_shards log c s) (drained s) ∙ ap (map (final_at log s)) (listed_all log c s (live_named log drill_name s is) (none s)))
 
 -- ---- the commands alone, by nobody at the beginning of time
 
@@ -156,7 +164,8 @@ bare_services : (h : List Turn) → service_turns (map bare h) ≡ map bare (ser
 bare_services [] = refl
 bare_services (turn ∷ h) = either (is_service turn.what) (bare_services h)
   where
-    either : (b : Bool) → service_turns (map bare h) ≡ map bare (service_turns h) → cond b (bare turn ∷ service_turns (map bare h)) (service_turns (map bare h)) ≡ map bare (cond b (turn ∷ service_turns h) (service_turns h))
+    either : (b : Bool) → service_turns (map bare h) ≡ map bare (service_turns h)
+        → cond b (bare turn ∷ service_turns (map bare h)) (service_turns (map bare h)) ≡ map bare (cond b (turn ∷ service_turns h) (service_turns h))
     either true so = ap (λ ts. bare turn ∷ ts) so
     either false so = so
 
@@ -181,7 +190,9 @@ bare_turns [] = refl
 bare_turns (turn ∷ ts) = ap (λ xs. bare turn ∷ xs) (bare_turns ts)
 
 -- a history in which the service was asked what a generator gives leaves what these commands leave
-pub asked_alone : Reaches → (h : List Turn) (number count : ℕ) → IsHistory h → clock h < LEAST_RETENTION → map (λ turn. turn.what) (service_turns h) ≡ reverse (generated number count) → kept nobody (journal h) ≡ kept nobody (journal (turns_of (generated number count)))
+pub asked_alone : Reaches → (h : List Turn) (number count : ℕ) → IsHistory h → clock h < LEAST_RETENTION
+    → map (λ turn. turn.what) (service_turns h) ≡ reverse (generated number count)
+    → kept nobody (journal h) ≡ kept nobody (journal (turns_of (generated number count)))
 asked_alone reaches h number count lawful below are =
     let alone = map bare (service_turns h) in
     let lawful' = bare_lawful (service_turns h) (lawful_service h lawful) in
@@ -192,7 +203,9 @@ asked_alone reaches h number count lawful below are =
     let commands : alone ≡ turns_of (generated number count) = bare_turns (service_turns h) ∙ ap (map (λ what. record { by = 0; at = 0; what = what })) are in
     same ∙ ap (λ ts. kept nobody (journal ts)) commands
 
-pub text_alone : Reaches → (h : List Turn) (number count : ℕ) → IsHistory h → clock h < LEAST_RETENTION → map (λ turn. turn.what) (service_turns h) ≡ reverse (generated number count) → AreDrained (journal h) (clock h) → summary_text (journal h) (clock h) ≡ drill_text number count
+pub text_alone : Reaches → (h : List Turn) (number count : ℕ) → IsHistory h → clock h < LEAST_RETENTION
+    → map (λ turn. turn.what) (service_turns h) ≡ reverse (generated number count) → AreDrained (journal h) (clock h)
+    → summary_text (journal h) (clock h) ≡ drill_text number count
 text_alone reaches h number count lawful below are drained =
     let reached = reaches h lawful in
     let young = young_if_legal (journal h) reached.legal (omega (arith, reached.order, below)) in

@@ -1,13 +1,13 @@
 -- What the turns of the stream service alone leave behind, beside those of the leases.
-use Rattle.std.specs.Prelude.{ℕ, ◌≡◌, Bool, true, false, List, map}
+use Rattle.std.specs.Prelude.{ℕ, ◌≡◌, Bool, true, false, is_some, List, map}
 use Rattle.std.specs.List.{AllByRecursion, filter}
 use Rattle.kds_defs.specs.declared.command.Command.{Command}
 use Rattle.kds_defs.specs.declared.command.Command.TheVariants as command
 use Rattle.kds_defs.specs.declared.command.Turn.{Turn}
 use Rattle.kds_defs.specs.declared.entry.Entry.{Entry}
-use Rattle.kds_defs.specs.declared.entry.Entry.TheVariants as entry
 use Rattle.kds_defs.specs.Journal.{Line, Journal}
 use Rattle.kds_defs.specs.Kinds.{is_service}
+use Rattle.kds_defs.specs.Subjects.{stream_of}
 
 -- the milliseconds of the least retention, 24 hours: a history whose clock is below has trimmed nothing
 -- (Kinesis API Reference, DecreaseStreamRetentionPeriod)
@@ -16,13 +16,7 @@ LEAST_RETENTION = 86400000
 
 -- the line is of a stream, and not of a lease
 abbrev pub is_stream_entry : Entry → Bool
-is_stream_entry (entry.Made stream name shards) = true
-is_stream_entry (entry.Gone stream) = true
-is_stream_entry (entry.Put stream shard seq hash bytes key_bytes) = true
-is_stream_entry (entry.Split stream shard at seq low high) = true
-is_stream_entry (entry.Merged stream shard other seq child) = true
-is_stream_entry (entry.Kept stream hours) = true
-is_stream_entry _ = false
+is_stream_entry what = is_some (stream_of what)
 
 -- a line without its clock
 abbrev pub undated : Line → Line

@@ -1,11 +1,12 @@
 -- The entries that a line of a journal can tell: their numbers have the bits of their types, and lie in their ranges.
-use Rattle.std.specs.Prelude.{◌≡◌, ℕ, ◌+◌, ◌^◌, ◌<◌, ◌≤◌, Bool, true, false, ◌==◌}
+use Rattle.std.specs.Prelude.{◌≡◌, ℕ, ◌+◌, ◌^◌, ◌<◌, ◌≤◌, Bool, true, false, ◌==◌, is_none, IfSome}
 use Rattle.std.specs.List.{AllByRecursion}
 use Rattle.kds_base.specs.Names.{IsName}
 use Rattle.kds_defs.specs.declared.entry.Entry.{Entry}
 use Rattle.kds_defs.specs.declared.entry.Entry.TheVariants as entry
 use Rattle.kds_defs.specs.declared.limits.TheConstants.{RECORD_BYTES}
 use Rattle.kds_defs.specs.Lawful.{IsShardCount, IsRetention, IsLimit}
+use Rattle.kds_defs.specs.Subjects.{stream_of}
 use Rattle.kcl_script_fields.specs.Commands.{IsKey, IsTarget}
 use Rattle.kcl_script_fields.specs.Origins.{IsOrigin}
 use Rattle.kcl_journal.specs.declared.line.EntryLine.{EntryLine}
@@ -38,16 +39,14 @@ AreSizesBy false bytes key_bytes = ((1 ≤ key_bytes) × (key_bytes ≤ KEY_BYTE
 abbrev pub AreSizes : ℕ → ℕ → ℕ → Type 0
 AreSizes version bytes key_bytes = AreSizesBy (is_first version) bytes key_bytes
 
--- a text of this version can tell the entry
+-- a text of this version can tell the entry, of which the last ones have no number but their stream's
 abbrev pub IsTellable : ℕ → Entry → Type 0
 IsTellable version (entry.Made s name count) = Is64 s × (IsName name × IsShardCount count)
-IsTellable version (entry.Gone s) = Is64 s
 IsTellable version (entry.Put s sh number hash bytes key_bytes) =
     Is64 s × (Is64 sh × (Is64 number × (IsHash hash × AreSizes version bytes key_bytes)))
 IsTellable version (entry.Split s sh at number low high) = Is64 s × (Is64 sh × (IsHash at × (Is64 number × (Is64 low × Is64 high))))
 IsTellable version (entry.Merged s sh other number child) = Is64 s × (Is64 sh × (Is64 other × (Is64 number × Is64 child)))
 IsTellable version (entry.Kept s hours) = Is64 s × IsRetention hours
-IsTellable version (entry.Enforced s on) = Is64 s
 IsTellable version (entry.LeaseMade key from) = IsKey key × IsOrigin from
 IsTellable version (entry.Taken key t counter owner) = IsKey key × (Is64 t × (IsCounter counter × IsWorkerNo owner))
 IsTellable version (entry.Renewed t counter) = Is64 t × IsCounter counter
@@ -57,17 +56,11 @@ IsTellable version (entry.Read t limit ended numbers) = Is64 t × (IsLimit limit
 IsTellable version (entry.Given t) = Is64 t
 IsTellable version (entry.Marked t counter to) = Is64 t × (IsCounter counter × IsTarget to)
 IsTellable version (entry.LeaseCut key counter) = IsKey key × Is64 counter
+IsTellable version what = IfSome (stream_of what) Is64
 
 -- the entry is of a lease, else of a stream
 abbrev pub is_lease_entry : Entry → Bool
-is_lease_entry (entry.Made s name count) = false
-is_lease_entry (entry.Gone s) = false
-is_lease_entry (entry.Put s sh number hash bytes key_bytes) = false
-is_lease_entry (entry.Split s sh at number low high) = false
-is_lease_entry (entry.Merged s sh other number child) = false
-is_lease_entry (entry.Kept s hours) = false
-is_lease_entry (entry.Enforced s on) = false
-is_lease_entry _ = true
+is_lease_entry what = is_none (stream_of what)
 
 -- the entry is of a tenure
 abbrev pub is_tenure_entry : Entry → Bool

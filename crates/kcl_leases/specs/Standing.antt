@@ -4,8 +4,6 @@ use Rattle.std.specs.Option.{option_map}
 use Rattle.kds_base.specs.declared.lease_key.Checkpoint.TheVariants.{At}
 use Rattle.kds_base.specs.declared.lease_key.ShardRef.{ShardRef}
 use Rattle.kds_defs.specs.declared.command.Command.{Command}
-use Rattle.kds_defs.specs.declared.entry.Entry.{Entry}
-use Rattle.kds_defs.specs.declared.entry.Entry.TheVariants as entry
 use Rattle.kds_defs.specs.declared.reply.Refusal.{Refusal}
 use Rattle.kds_defs.specs.declared.reply.Reply.{Reply}
 use Rattle.kds_defs.specs.declared.reply.Row.{Row}
@@ -16,20 +14,10 @@ use Rattle.kds_defs.specs.Records.{place_after}
 use Rattle.kds_defs.specs.Shards.{ShardState, shard_at}
 use Rattle.kds_defs.specs.StreamCommands.{last_number}
 use Rattle.kds_defs.specs.Streams.{is_live}
+use Rattle.kds_defs.specs.Subjects.{stream_of}
 use Rattle.kcl_book.specs.declared.tenure.PendingRead.{PendingRead}
 use Rattle.kcl_book.specs.Tenures.{TenureValue, tenure_at}
 use Rattle.kcl_table.specs.Rows.{row_of}
-
--- the stream that an entry speaks of, if it isn't of a lease
-abbrev pub stream_of : Entry → Option ℕ
-stream_of (entry.Made s name count) = Some s
-stream_of (entry.Gone s) = Some s
-stream_of (entry.Put s sh number hash bytes key_bytes) = Some s
-stream_of (entry.Split s sh at number low high) = Some s
-stream_of (entry.Merged s sh other number child) = Some s
-stream_of (entry.Kept s hours) = Some s
-stream_of (entry.Enforced s on) = Some s
-stream_of _ = None
 
 -- the shard of a key in a journal, where its stream is live
 abbrev pub live_shard : Journal → ShardRef → Option ShardState

@@ -1,6 +1,6 @@
 -- What a scribe knows of a journal, after a line of it other than the making of a stream.
 use Rattle.std.proofs.Common.{◌≡◌, ℕ, ◌+◌, ◌<◌, ◌≤◌, List, [], ◌∷◌, length, map, Bool, true, false, Option, Some, refl, sym, ap, ◌∙◌, arith, inl, inr, subst}
-use Rattle.std.proofs.lemmas.Bool.{cases_Bool, eqb-true}
+use Rattle.std.proofs.lemmas.Bool.{cases_Bool, eqb-true, ne_eqb}
 use Rattle.std.specs.List.{AllByRecursion, filter, find}
 use Rattle.std.specs.Prelude.{◌==◌, ◌&&◌, not, option_map, if◌then◌else◌}
 use Rattle.kds_base.proofs.Facts.{all_filter}
@@ -10,7 +10,8 @@ use Rattle.kds_defs.specs.Journal.{Journal, Line, with_lines}
 use Rattle.kds_defs.specs.Records.{draws, next_number}
 use Rattle.kds_defs.specs.Shards.{closing_of, shards, shards_after}
 use Rattle.kds_defs.specs.StreamCommands.{last_number}
-use Rattle.kds_defs.specs.Streams.{is_live, is_live_after, live_streams, made_count, made_count_after, name_of, name_of_after, numbers_from, same_name, stream_named}
+use Rattle.kds_defs.specs.Streams.{is_live, is_live_after, live_streams, made_count, made_count_after, name_of, name_of_after, numbers_from}
+use Rattle.kds_defs.specs.Streams.{same_name, stream_named}
 use Rattle.kds_defs.proofs.Counted.{length_split, length_merged}
 use Rattle.kcl_sim_scribe.specs.Known.{IsKnown, Known, Knows, changed, changed_by, is_gone, known_as, renumbered}
 use Rattle.kcl_sim_scribe.proofs.Lists.{all_kept, both_tests, mapped, same_kept, up_to}
@@ -20,7 +21,8 @@ no_of v = v.no
 
 -- ---- the stream of a name
 
-pick : (b : Bool) (v : Known) (x : Option ℕ) (y : Option Known) → x ≡ option_map no_of y → (if b then Some v.no else x) ≡ option_map no_of (if b then Some v else y)
+pick : (b : Bool) (v : Known) (x : Option ℕ) (y : Option Known) → x ≡ option_map no_of y
+    → (if b then Some v.no else x) ≡ option_map no_of (if b then Some v else y)
 pick true v x y h = refl
 pick false v x y h = h
 
@@ -59,83 +61,26 @@ FitAll log (line ∷ lines) = Fits log line.what × FitAll (line ∷ log) lines
 
 made_same : (log : Journal) (e : Entry) (n : ℕ) → Fits log e → made_count_after e n ≡ n
 made_same log (entry.Made s name count) n f = absurd f
-made_same log (entry.Gone s) n f = refl
-made_same log (entry.Put s sh q hash bytes key_bytes) n f = refl
-made_same log (entry.Split s sh at q low high) n f = refl
-made_same log (entry.Merged s sh other q child) n f = refl
-made_same log (entry.Kept s hours) n f = refl
-made_same log (entry.Enforced s on) n f = refl
-made_same log (entry.LeaseMade key from) n f = refl
-made_same log (entry.Taken key t c owner) n f = refl
-made_same log (entry.Renewed t c) n f = refl
-made_same log (entry.Freed t c) n f = refl
-made_same log (entry.Opened t) n f = refl
-made_same log (entry.Read t limit ended ns) n f = refl
-made_same log (entry.Given t) n f = refl
-made_same log (entry.Marked t c to) n f = refl
-made_same log (entry.LeaseCut key c) n f = refl
+made_same log _ n f = refl
 
 name_same : (log : Journal) (e : Entry) (n : ℕ) (name : List ℕ) → Fits log e → name_of_after e n name ≡ name
 name_same log (entry.Made s name' count) n name f = absurd f
-name_same log (entry.Gone s) n name f = refl
-name_same log (entry.Put s sh q hash bytes key_bytes) n name f = refl
-name_same log (entry.Split s sh at q low high) n name f = refl
-name_same log (entry.Merged s sh other q child) n name f = refl
-name_same log (entry.Kept s hours) n name f = refl
-name_same log (entry.Enforced s on) n name f = refl
-name_same log (entry.LeaseMade key from) n name f = refl
-name_same log (entry.Taken key t c owner) n name f = refl
-name_same log (entry.Renewed t c) n name f = refl
-name_same log (entry.Freed t c) n name f = refl
-name_same log (entry.Opened t) n name f = refl
-name_same log (entry.Read t limit ended ns) n name f = refl
-name_same log (entry.Given t) n name f = refl
-name_same log (entry.Marked t c to) n name f = refl
-name_same log (entry.LeaseCut key c) n name f = refl
+name_same log _ n name f = refl
 
 lives : (log : Journal) (e : Entry) (n : ℕ) (b : Bool) → Fits log e → is_live_after e n b ≡ (not (is_gone e n) && b)
 lives log (entry.Made s name' count) n b f = absurd f
-lives log (entry.Gone s) n b f = refl
-lives log (entry.Put s sh q hash bytes key_bytes) n b f = refl
-lives log (entry.Split s sh at q low high) n b f = refl
-lives log (entry.Merged s sh other q child) n b f = refl
-lives log (entry.Kept s hours) n b f = refl
-lives log (entry.Enforced s on) n b f = refl
-lives log (entry.LeaseMade key from) n b f = refl
-lives log (entry.Taken key t c owner) n b f = refl
-lives log (entry.Renewed t c) n b f = refl
-lives log (entry.Freed t c) n b f = refl
-lives log (entry.Opened t) n b f = refl
-lives log (entry.Read t limit ended ns) n b f = refl
-lives log (entry.Given t) n b f = refl
-lives log (entry.Marked t c to) n b f = refl
-lives log (entry.LeaseCut key c) n b f = refl
+lives log _ n b f = refl
 
 -- ---- what a line draws
 
 other_stream : (s n m : ℕ) → s ≤ m → m < n → (s == n) ≡ false
-other_stream s n m a b = elim (cases_Bool (s == n)) [
-  | inl same ↦ let e : s ≡ n = eqb-true s n same in absurd (omega (arith, e, a, b))
-  | inr other ↦ other
-]
+other_stream s n m a b = ne_eqb s n (λ e. absurd (omega (arith, e, a, b)))
 
 none_drawn : (log : Journal) (e : Entry) (n : ℕ) → Fits log e → made_count log < n → draws e n ≡ 0
-none_drawn log (entry.Made s name' count) n f h = absurd f
-none_drawn log (entry.Gone s) n f h = refl
 none_drawn log (entry.Put s sh q hash bytes key_bytes) n f h = rw (other_stream s n (made_count log) f.0 h) refl
 none_drawn log (entry.Split s sh at q low high) n f h = rw (other_stream s n (made_count log) f.0 h) refl
 none_drawn log (entry.Merged s sh other q child) n f h = rw (other_stream s n (made_count log) f.0 h) refl
-none_drawn log (entry.Kept s hours) n f h = refl
-none_drawn log (entry.Enforced s on) n f h = refl
-none_drawn log (entry.LeaseMade key from) n f h = refl
-none_drawn log (entry.Taken key t c owner) n f h = refl
-none_drawn log (entry.Renewed t c) n f h = refl
-none_drawn log (entry.Freed t c) n f h = refl
-none_drawn log (entry.Opened t) n f h = refl
-none_drawn log (entry.Read t limit ended ns) n f h = refl
-none_drawn log (entry.Given t) n f h = refl
-none_drawn log (entry.Marked t c to) n f h = refl
-none_drawn log (entry.LeaseCut key c) n f h = refl
+none_drawn log _ n f h = refl
 
 -- ---- a stream that is known
 
@@ -147,7 +92,8 @@ record Kept (log : Journal) (line : Line) (e : Entry) (v w : Known) : Type 0 whe
   many : (start : ℕ) → length (shards_after line e v.no start (shards log v.no)) ≡ w.shard + 1
   left : w.drawn < last_number
 
-as_before : (log : Journal) (line : Line) (e : Entry) (v : Known) → IsKnown log v → draws e v.no ≡ 0 → ((start : ℕ) → shards_after line e v.no start (shards log v.no) ≡ shards log v.no) → Kept log line e v v
+as_before : (log : Journal) (line : Line) (e : Entry) (v : Known) → IsKnown log v → draws e v.no ≡ 0
+    → ((start : ℕ) → shards_after line e v.no start (shards log v.no) ≡ shards log v.no) → Kept log line e v v
 as_before log line e v k none shards_same = record {
   same = refl;
   name = refl;
@@ -223,18 +169,7 @@ entry_kept log line (entry.Made s name count) v f k = absurd f
 entry_kept log line (entry.Put s sh q hash bytes key_bytes) v f k = put_kept log line s sh q hash bytes key_bytes v f k
 entry_kept log line (entry.Split s sh at q low high) v f k = split_kept log line s sh at q low high v f k
 entry_kept log line (entry.Merged s sh other q child) v f k = merged_kept log line s sh other q child v f k
-entry_kept log line (entry.Gone s) v f k = as_before log line (entry.Gone s) v k refl (λ start. refl)
-entry_kept log line (entry.Kept s hours) v f k = as_before log line (entry.Kept s hours) v k refl (λ start. refl)
-entry_kept log line (entry.Enforced s on) v f k = as_before log line (entry.Enforced s on) v k refl (λ start. refl)
-entry_kept log line (entry.LeaseMade key from) v f k = as_before log line (entry.LeaseMade key from) v k refl (λ start. refl)
-entry_kept log line (entry.Taken key t c owner) v f k = as_before log line (entry.Taken key t c owner) v k refl (λ start. refl)
-entry_kept log line (entry.Renewed t c) v f k = as_before log line (entry.Renewed t c) v k refl (λ start. refl)
-entry_kept log line (entry.Freed t c) v f k = as_before log line (entry.Freed t c) v k refl (λ start. refl)
-entry_kept log line (entry.Opened t) v f k = as_before log line (entry.Opened t) v k refl (λ start. refl)
-entry_kept log line (entry.Read t limit ended ns) v f k = as_before log line (entry.Read t limit ended ns) v k refl (λ start. refl)
-entry_kept log line (entry.Given t) v f k = as_before log line (entry.Given t) v k refl (λ start. refl)
-entry_kept log line (entry.Marked t c to) v f k = as_before log line (entry.Marked t c to) v k refl (λ start. refl)
-entry_kept log line (entry.LeaseCut key c) v f k = as_before log line (entry.LeaseCut key c) v k refl (λ start. refl)
+entry_kept log line e v f k = as_before log line e v k refl (λ start. refl)
 
 known_after : (log : Journal) (line : Line) (v : Known) → Fits log line.what → IsKnown log v → IsKnown (line ∷ log) (renumbered line.what v)
 known_after log line v f k =
@@ -265,11 +200,13 @@ gone_among log line e (v ∷ vs) f all =
       | inr goes ↦ let too : not (is_gone e (renumbered e v).no) ≡ false = test ∙ goes in rw (goes, too) rest
     ]
 
-agree : (log : Journal) (e : Entry) (ns : List ℕ) → Fits log e → AllByRecursion (λ s. is_live_after e s (is_live log s) ≡ (not (is_gone e s) && is_live log s)) ns
+agree : (log : Journal) (e : Entry) (ns : List ℕ) → Fits log e
+    → AllByRecursion (λ s. is_live_after e s (is_live log s) ≡ (not (is_gone e s) && is_live log s)) ns
 agree log e [] f = tt
 agree log e (n ∷ ns) f = (lives log e n (is_live log n) f, agree log e ns f)
 
-live_after : (log : Journal) (line : Line) (made : ℕ) (vs : List Known) → Fits log line.what → Knows log made vs → live_streams (line ∷ log) ≡ map no_of (changed line.what vs)
+live_after : (log : Journal) (line : Line) (made : ℕ) (vs : List Known) → Fits log line.what → Knows log made vs
+    → live_streams (line ∷ log) ≡ map no_of (changed line.what vs)
 live_after log line made vs f k =
     let ns = numbers_from 1 (made_count log) in
     let count = made_same log line.what (made_count log) f in
@@ -281,7 +218,8 @@ live_after log line made vs f k =
 
 -- ---- lines, one after another
 
-pub knows_after : (log : Journal) (line : Line) (made : ℕ) (vs : List Known) → Fits log line.what → Knows log made vs → Knows (line ∷ log) made (changed line.what vs)
+pub knows_after : (log : Journal) (line : Line) (made : ℕ) (vs : List Known) → Fits log line.what → Knows log made vs
+    → Knows (line ∷ log) made (changed line.what vs)
 knows_after log line made vs f k = record {
   made_is = made_same log line.what (made_count log) f ∙ k.made_is;
   live = live_after log line made vs f k;

@@ -1,5 +1,5 @@
 -- The entries of a command that was accepted, by its reply and what a scribe knows.
-use Rattle.std.specs.Prelude.{◌≡◌, ℕ, ◌+◌, ◌<◌, ◌≤◌, ◌==◌, Bool, true, false, List, [], ◌∷◌, length, map, Option, Some, None}
+use Rattle.std.specs.Prelude.{◌≡◌, ℕ, ◌+◌, ◌<◌, ◌≤◌, ◌==◌, Bool, true, false, if◌then◌else◌, List, [], ◌∷◌, length, map, Option, Some, None}
 use Rattle.std.specs.List.{filter}
 use Rattle.kds_defs.specs.declared.command.Command.{Command}
 use Rattle.kds_defs.specs.declared.command.Command.TheVariants as command
@@ -12,7 +12,9 @@ use Rattle.kds_defs.specs.declared.reply.Place.{Place}
 use Rattle.kds_defs.specs.declared.reply.Reply.{Reply}
 use Rattle.kds_defs.specs.declared.reply.Reply.TheVariants as reply
 use Rattle.kds_defs.specs.declared.reply.Stored.{Stored}
+use Rattle.kds_defs.specs.Kinds.{is_change}
 use Rattle.kds_defs.specs.StreamCommands.{last_number}
+use Rattle.kds_defs.specs.Subjects.{name_of_command}
 use Rattle.kcl_journal.specs.declared.line.EntryLine.{EntryLine}
 use Rattle.kcl_sim_scribe.specs.Known.{Known, ScribeValue, changed_by, known_as, with_made}
 
@@ -49,15 +51,7 @@ stream_entries v _ r = []
 
 -- the name of the stream that a command changes, other than its making
 abbrev pub changed_name : Command → Option (List ℕ)
-changed_name (command.Delete name) = Some name
-changed_name (command.Put name item) = Some name
-changed_name (command.PutMany name items) = Some name
-changed_name (command.Split name sh at) = Some name
-changed_name (command.Merge name sh other) = Some name
-changed_name (command.Keep name hours raise) = Some name
-changed_name (command.Scale name target) = Some name
-changed_name (command.Enforce name on) = Some name
-changed_name _ = None
+changed_name what = if is_change what then name_of_command what else None
 
 -- the numbers that a split or a merge of the stream draws are there
 abbrev pub HasNumbers : Known → Command → Type 0

@@ -40,16 +40,10 @@ impl Model for Scribe {
 fn changed_name(what: &Command) -> Option<&Name>
     ensures { option_map (λ n. n.now) result ≡ name_changed what.now }
 {
-    match what {
-        Command::Delete { name }
-        | Command::Put { name, .. }
-        | Command::PutMany { name, .. }
-        | Command::Split { name, .. }
-        | Command::Merge { name, .. }
-        | Command::Keep { name, .. }
-        | Command::Scale { name, .. }
-        | Command::Enforce { name, .. } => Some(name),
-        _ => None,
+    if what.is_change() {
+        what.stream_name()
+    } else {
+        None
     }
 }
 

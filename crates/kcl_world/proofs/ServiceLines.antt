@@ -1,12 +1,10 @@
 -- The lines of the commands to the stream service leave rows and tenures as they were.
 use Rattle.std.proofs.Common.{◌≡◌, ℕ, ◌+◌, Bool, true, false, List, [], ◌∷◌, Option, Some, None, refl}
 use Rattle.std.specs.Prelude.{if◌then◌else◌, is_some, Result, Ok, Err, IfOk}
-use Rattle.kds_base.specs.declared.lease_key.ShardRef.{ShardRef}
+use Rattle.kds_defs.proofs.Elsewhere.{of_some}
 use Rattle.kds_defs.specs.declared.command.Command.{Command}
 use Rattle.kds_defs.specs.declared.command.Command.TheVariants as command
 use Rattle.kds_defs.specs.declared.command.NewItem.{NewItem}
-use Rattle.kds_defs.specs.declared.entry.Entry.{Entry}
-use Rattle.kds_defs.specs.declared.entry.Entry.TheVariants as entry
 use Rattle.kds_defs.specs.declared.reply.Refusal.{Refusal}
 use Rattle.kds_defs.specs.declared.reply.Reply.{Reply}
 use Rattle.kds_defs.specs.declared.reply.Row.{Row}
@@ -16,17 +14,17 @@ use Rattle.kds_defs.specs.Decision.{Decision, refuse◌if◌else◌, with◌or�
 use Rattle.kds_defs.specs.Histories.{decide, lines_of}
 use Rattle.kds_defs.specs.Journal.{Journal, Line, plain_line, with_lines}
 use Rattle.kds_defs.specs.Kinds.{is_service}
-use Rattle.kds_defs.specs.Leases.{TenureState, row_after, row_keys_after, taken_count_after, tenure_after}
 use Rattle.kds_defs.specs.PutCommands.{is_held_back, put_lines}
 use Rattle.kds_defs.specs.Records.{next_number}
 use Rattle.kds_defs.specs.ScaleCommands.{step_entry, step_lines, steps_to}
 use Rattle.kds_defs.specs.StreamCommands.{put_line}
-use Rattle.kds_stream.specs.Showing.{stream_of}
+use Rattle.kds_defs.specs.Subjects.{stream_of}
 use Rattle.kcl_leases.specs.Standing.{Facing, facing}
 use Rattle.kds_service.specs.Shown.{ServiceValue, ShowsAll}
 use Rattle.kds_service.specs.Shown as service
 use Rattle.kcl_book.specs.Tenures.{TenureValue}
-use Rattle.kcl_leases.proofs.LeaseSteps.{HasRows, HasTenures, rows_of, same_rows, same_tenures, stands_of, tenures_of}
+use Rattle.kcl_leases.proofs.LeaseSteps.{HasRows, HasTenures, rows_of, stands_of, tenures_of}
+use Rattle.kcl_leases.proofs.StreamLines.{rows_beside, tenures_beside}
 use Rattle.kcl_world.specs.Standing.{Leads, world}
 
 -- what leases see of the service
@@ -43,12 +41,14 @@ unfolding refuse◌if◌else◌
 refused r true d rest = tt
 refused r false d rest = rest
 
-found : {A : Type 0} (o : Option A) (r : Refusal) (next : A → Decision) → ((x : A) → AreOfStreams (lines_of (next x))) → AreOfStreams (lines_of (with o or r then next))
+found : {A : Type 0} (o : Option A) (r : Refusal) (next : A → Decision) → ((x : A) → AreOfStreams (lines_of (next x)))
+    → AreOfStreams (lines_of (with o or r then next))
 unfolding with◌or◌then◌
 found None r next rest = tt
 found (Some x) r next rest = rest x
 
-either : (b : Bool) (line : Line) (xs ys : List Line) → is_some (stream_of line.what) ≡ true → AreOfStreams xs → AreOfStreams ys → AreOfStreams (if b then xs else line ∷ ys)
+either : (b : Bool) (line : Line) (xs ys : List Line) → is_some (stream_of line.what) ≡ true → AreOfStreams xs → AreOfStreams ys
+    → AreOfStreams (if b then xs else line ∷ ys)
 either true line xs ys of held stored = held
 either false line xs ys of held stored = (of, stored)
 
@@ -78,54 +78,32 @@ service_lines log c by (command.GetIterator name sh from) h = found _ _ _ (λ s.
 service_lines log c by (command.Records iter limit) h = refused _ _ _ (refused _ _ _ (refused _ _ _ tt))
 service_lines log c by (command.Put name item) h = found _ _ _ (λ s. refused _ _ _ (refused _ _ _ (refl, tt)))
 service_lines log c by (command.PutMany name items) h = found _ _ _ (λ s. refused _ _ _ (puts log c by s items))
-service_lines log c by (command.Split name sh at) h = found _ _ _ (λ s. refused _ _ _ (refused _ _ _ (refused _ _ _ (refused _ _ _ (refused _ _ _ (refl, tt))))))
+service_lines log c by (command.Split name sh at) h =
+    found _ _ _ (λ s. refused _ _ _ (refused _ _ _ (refused _ _ _ (refused _ _ _ (refused _ _ _ (refl, tt))))))
 service_lines log c by (command.Merge name sh other) h = found _ _ _ (λ s. refused _ _ _ (refused _ _ _ (refused _ _ _ (refused _ _ _ (refl, tt)))))
 service_lines log c by (command.Keep name wanted raise) h = found _ _ _ (λ s. refused _ _ _ (refl, tt))
 service_lines log c by (command.Scale name target) h = found _ _ _ (λ s. refused _ _ _ (refused _ _ _ (scalings log c by s (steps_to log s target))))
 service_lines log c by (command.Enforce name on) h = found _ _ _ (λ s. (refl, tt))
 service_lines log c by _ h = absurd cc
 
--- ---- what such a line leaves
-
-row_same : (log : Journal) (line : Line) (what : Entry) (k : ShardRef) (o : Option Row) → is_some (stream_of what) ≡ true → row_after log line what k o ≡ o
-row_same log line (entry.LeaseMade q from) k o h = absurd cc
-row_same log line (entry.LeaseCut q n) k o h = absurd cc
-row_same log line (entry.Taken q t n owner) k o h = absurd cc
-row_same log line (entry.Renewed t n) k o h = absurd cc
-row_same log line (entry.Freed t n) k o h = absurd cc
-row_same log line (entry.Marked t n to) k o h = absurd cc
-row_same log line _ k o h = refl
-
-keys_same : (what : Entry) (ks : List ShardRef) → is_some (stream_of what) ≡ true → row_keys_after what ks ≡ ks
-keys_same (entry.LeaseMade q from) ks h = absurd cc
-keys_same (entry.LeaseCut q n) ks h = absurd cc
-keys_same _ ks h = refl
-
-count_same : (what : Entry) (n : ℕ) → is_some (stream_of what) ≡ true → taken_count_after what n ≡ n
-count_same (entry.Taken q t m owner) n h = absurd cc
-count_same _ n h = refl
-
-tenure_same : (log : Journal) (line : Line) (what : Entry) (t : ℕ) (o : Option TenureState) → is_some (stream_of what) ≡ true → tenure_after log line what t o ≡ o
-tenure_same log line (entry.Taken q u m owner) t o h = absurd cc
-tenure_same log line (entry.Opened u) t o h = absurd cc
-tenure_same log line (entry.Read u limit ended numbers) t o h = absurd cc
-tenure_same log line (entry.Given u) t o h = absurd cc
-tenure_same log line _ t o h = refl
+-- ---- what such lines leave
 
 rows_along : (rs : List Row) (lines : List Line) (log : Journal) → AreOfStreams lines → HasRows log rs → HasRows (with_lines lines log) rs
 rows_along rs [] log of has = has
-rows_along rs (line ∷ lines) log of has =
-    rows_along rs lines (line ∷ log) of.1 (same_rows log line rs (λ ks. keys_same line.what ks of.0) (λ k o. row_same log line line.what k o of.0) has)
+rows_along rs (line ∷ lines) log of has = rows_along rs lines (line ∷ log) of.1 (rows_beside log line rs (of_some (stream_of line.what) of.0) has)
 
 tenures_along : (ts : List TenureValue) (lines : List Line) (log : Journal) → AreOfStreams lines → HasTenures log ts → HasTenures (with_lines lines log) ts
 tenures_along ts [] log of has = has
 tenures_along ts (line ∷ lines) log of has =
-    tenures_along ts lines (line ∷ log) of.1 (same_tenures log line ts (λ n. count_same line.what n of.0) (λ t o. tenure_same log line line.what t o of.0) has)
+    tenures_along ts lines (line ∷ log) of.1 (tenures_beside log line ts (of_some (stream_of line.what) of.0) has)
 
 -- a command to the service leads the whole machine where it leads the service
-pub service_leads : {E : Type 0} (r : Result (Result Reply Refusal) E) (s s' : ServiceValue) (rs : List Row) (ts : List TenureValue) (by : ℕ) (what : Command) → is_service what ≡ true → IfOk r (service.Leads s s' what) → IfOk r (Leads (world s rs ts) (world s' rs ts) by what)
+pub service_leads : {E : Type 0} (r : Result (Result Reply Refusal) E) (s s' : ServiceValue) (rs : List Row) (ts : List TenureValue) (by : ℕ) (what : Command)
+    → is_service what ≡ true → IfOk r (service.Leads s s' what) → IfOk r (Leads (world s rs ts) (world s' rs ts) by what)
 service_leads (Err e) s s' rs ts by what own led = tt
 service_leads (Ok gives) s s' rs ts by what own led = λ log st.
     let l = led log by st.shows in
     let of = service_lines log s.clock by what own in
-    (l.0, stands_of (seen s') rs ts (with_lines (lines_of (decide log s.clock by what)) log) l.1 (rows_along rs (lines_of (decide log s.clock by what)) log of (rows_of (seen s) rs ts log st)) (tenures_along ts (lines_of (decide log s.clock by what)) log of (tenures_of (seen s) rs ts log st)))
+    let lines = lines_of (decide log s.clock by what) in
+    let rows = rows_along rs lines log of (rows_of (seen s) rs ts log st) in
+    (l.0, stands_of (seen s') rs ts (with_lines lines log) l.1 rows (tenures_along ts lines log of (tenures_of (seen s) rs ts log st)))

@@ -12,7 +12,8 @@ use Rattle.kds_defs.specs.Shards.{open_count}
 use Rattle.kds_defs.specs.StreamCommands.{create, last_number}
 use Rattle.kds_defs.specs.Streams.{live_streams, made_count, stream_named}
 use Rattle.kds_defs.proofs.Decisions.{after_accepted, passed_if, refused_if}
-use Rattle.kds_stream.specs.Showing.{IsFresh, Shows}
+use Rattle.kds_defs.specs.Subjects.{IsFresh}
+use Rattle.kds_stream.specs.Showing.{Shows}
 use Rattle.kds_stream.specs.Value.{StreamValue}
 use Rattle.kds_service.proofs.Leading.{refused_leads}
 use Rattle.kds_service.proofs.Readings.{live_count, open_are, some_named}
@@ -24,25 +25,34 @@ there : (w : ServiceValue) (log : Journal) (name : List ℕ) → ShowsAll w log 
 there w log name all = some_named w log name all
 
 -- the limits are those of the service
-full : (w : ServiceValue) (log : Journal) (count : ℕ) → ShowsAll w log → (nat_le LIVE_STREAMS (length (live_streams log)) || nat_lt OPEN_SHARDS (open_count log + count)) ≡ is_full w.streams count
+full : (w : ServiceValue) (log : Journal) (count : ℕ) → ShowsAll w log
+    → (nat_le LIVE_STREAMS (length (live_streams log)) || nat_lt OPEN_SHARDS (open_count log + count)) ≡ is_full w.streams count
 full w log count all =
     ap (λ n. nat_le LIVE_STREAMS n || nat_lt OPEN_SHARDS (open_count log + count)) (live_count w log all)
     ∙ ap (λ n. nat_le LIVE_STREAMS (length w.streams) || nat_lt OPEN_SHARDS (n + count)) (open_are w log all)
 
 -- what `others` ensures of a stream that is added
 abbrev pub Adds : Type 0
-Adds = (c b n by count : ℕ) (name : List ℕ) (vs : List StreamValue) (v : StreamValue) (log : Journal) → ShowsAll (service c b n vs) log → v.no ≡ n + 1 → v.clock ≡ c
-    → Shows v (plain_line c by (entry.Made (n + 1) name count) ∷ log) → ShowsAll (service c b (n + 1) (vs ++ (v ∷ []))) (plain_line c by (entry.Made (n + 1) name count) ∷ log)
+Adds =
+    (c b n by count : ℕ) (name : List ℕ) (vs : List StreamValue) (v : StreamValue) (log : Journal) → ShowsAll (service c b n vs) log → v.no ≡ n + 1
+    → v.clock ≡ c
+    → Shows v (plain_line c by (entry.Made (n + 1) name count) ∷ log)
+    → ShowsAll (service c b (n + 1) (vs ++ (v ∷ []))) (plain_line c by (entry.Made (n + 1) name count) ∷ log)
 
 module _ (c b n : ℕ) (vs : List StreamValue) (name : List ℕ) (count : ℕ) where
   pub create_there : is_some (place_of vs name) ≡ true → Leads (service c b n vs) (service c b n vs) (command.Create name count) (Err refusal.StreamThere)
-  create_there is = refused_leads (service c b n vs) (command.Create name count) refusal.StreamThere (λ log by all. refused_if _ _ _ (there (service c b n vs) log name all ∙ is))
+  create_there is =
+      refused_leads (service c b n vs) (command.Create name count) refusal.StreamThere
+      (λ log by all. refused_if _ _ _ (there (service c b n vs) log name all ∙ is))
 
-  pub create_full : is_some (place_of vs name) ≡ false → is_full vs count ≡ true → Leads (service c b n vs) (service c b n vs) (command.Create name count) (Err refusal.Full)
+  pub create_full : is_some (place_of vs name) ≡ false → is_full vs count ≡ true
+      → Leads (service c b n vs) (service c b n vs) (command.Create name count) (Err refusal.Full)
   create_full is at_limit =
-      refused_leads (service c b n vs) (command.Create name count) refusal.Full (λ log by all. passed_if _ _ _ (there (service c b n vs) log name all ∙ is) ∙ refused_if _ _ _ (full (service c b n vs) log count all ∙ at_limit))
+      refused_leads (service c b n vs) (command.Create name count) refusal.Full
+      (λ log by all. passed_if _ _ _ (there (service c b n vs) log name all ∙ is) ∙ refused_if _ _ _ (full (service c b n vs) log count all ∙ at_limit))
 
-  pub create_spent : is_some (place_of vs name) ≡ false → is_full vs count ≡ false → (n == last_number) ≡ true → Leads (service c b n vs) (service c b n vs) (command.Create name count) (Err refusal.Spent)
+  pub create_spent : is_some (place_of vs name) ≡ false → is_full vs count ≡ false → (n == last_number) ≡ true
+      → Leads (service c b n vs) (service c b n vs) (command.Create name count) (Err refusal.Spent)
   create_spent is room last =
       refused_leads (service c b n vs) (command.Create name count) refusal.Spent
       (λ log by all.
@@ -50,7 +60,8 @@ module _ (c b n : ℕ) (vs : List StreamValue) (name : List ℕ) (count : ℕ) w
       ∙ passed_if _ _ _ (full (service c b n vs) log count all ∙ room)
       ∙ refused_if _ _ _ (ap (λ m. m == last_number) all.made ∙ last))
 
-  pub create_done : (m : ℕ) (ws : List StreamValue) (v : StreamValue) → Adds → is_some (place_of vs name) ≡ false → is_full vs count ≡ false → (n == last_number) ≡ false
+  pub create_done : (m : ℕ) (ws : List StreamValue) (v : StreamValue) → Adds → is_some (place_of vs name) ≡ false → is_full vs count ≡ false
+      → (n == last_number) ≡ false
       → m ≡ n + 1 → ws ≡ vs ++ (v ∷ []) → v.no ≡ m → v.clock ≡ c
       → ((log : Journal) (by : ℕ) → IsFresh log m → Shows v (plain_line c by (entry.Made m name count) ∷ log))
       → Leads (service c b n vs) (service c b m ws) (command.Create name count) (Ok reply.Done)
@@ -59,7 +70,8 @@ module _ (c b n : ℕ) (vs : List StreamValue) (name : List ℕ) (count : ℕ) w
       let line = plain_line c by (entry.Made (made_count log + 1) name count) in
       let here = plain_line c by (entry.Made (n + 1) name count) in
       let same : here ≡ line = ap (λ k. plain_line c by (entry.Made (k + 1) name count)) (sym all.made) in
-      let shown : Shows v (here ∷ log) = subst (λ k. Shows v (plain_line c by (entry.Made k name count) ∷ log)) next (shows log by (all.unmade m (later m n next))) in
+      let shown : Shows v (here ∷ log) =
+      subst (λ k. Shows v (plain_line c by (entry.Made k name count) ∷ log)) next (shows log by (all.unmade m (later m n next))) in
       let decided : create log c by name count ≡ Accepted (line ∷ []) reply.Done =
       passed_if _ _ _ (there w log name all ∙ is)
       ∙ passed_if _ _ _ (full w log count all ∙ room)

@@ -1,9 +1,11 @@
 -- What the lines of one stream leave of the others, and which lines the commands write.
-use Rattle.std.proofs.Common.{◌≡◌, ◌≢◌, ℕ, zero, suc, ◌+◌, ◌<◌, ◌≤◌, Bool, true, false, ◌==◌, List, [], ◌∷◌, ◌++◌, remove, slice_get, slice_set, Option, Some, None, refl, sym, ap, subst, ◌∙◌, arith}
+use Rattle.std.proofs.Common.{◌≡◌, ◌≢◌, ℕ, zero, suc, ◌+◌, ◌<◌, ◌≤◌, Bool, true, false, ◌==◌, List, [], ◌∷◌, ◌++◌, remove, slice_get, slice_set}
+use Rattle.std.proofs.Common.{Option, Some, None, refl, sym, ap, subst, ◌∙◌, arith}
 use Rattle.std.specs.Prelude.{◌&&◌, not, if◌then◌else◌}
-use Rattle.std.proofs.lemmas.Option.{none-some}
+use Rattle.std.proofs.lemmas.Option.{none-some, same_Some}
 use Rattle.std.proofs.lemmas.Bool.{or_from}
-use Rattle.kds_base.proofs.Facts.{same_some}
+use Rattle.kds_defs.proofs.Elsewhere.{count_same, fresh_empty, fresh_other, of_no_stream, of_other}
+use Rattle.kds_defs.proofs.Elsewhere as elsewhere
 use Rattle.kds_defs.specs.declared.command.NewItem.{NewItem}
 use Rattle.kds_defs.specs.declared.command.Start.{Start}
 use Rattle.kds_defs.specs.declared.entry.Entry.{Entry}
@@ -23,34 +25,32 @@ use Rattle.kds_defs.specs.Records.{next_number}
 use Rattle.kds_defs.specs.ScaleCommands.{scale_stream, step_entry, step_lines, steps_to}
 use Rattle.kds_defs.specs.StreamCommands.{keep, merge, put_line, split}
 use Rattle.kds_defs.specs.Streams.{is_live, is_live_after, made_count, made_count_after}
-use Rattle.kds_stream.specs.Showing.{IsFresh, Shows, stream_of}
+use Rattle.kds_defs.specs.Subjects.{IsFresh, stream_of}
+use Rattle.kds_stream.specs.Showing.{Shows}
 use Rattle.kds_stream.specs.Value.{StreamValue}
-use Rattle.kds_service.proofs.Lists.{AreUpTo, among_push, among_remove, at_push, at_remove, at_set, map_push, map_same, either_way, rising_push, rising_remove, shown_push, shown_remove, shown_set}
+use Rattle.kds_service.proofs.Lists.{AreUpTo, among_push, among_remove, at_push, at_remove, at_set, map_push, map_same, either_way}
+use Rattle.kds_service.proofs.Lists.{rising_push, rising_remove, shown_push, shown_remove, shown_set}
 use Rattle.kds_service.proofs.Readings.{up_to}
 use Rattle.kds_service.specs.Lines.{AreOf, is_within_life}
 use Rattle.kds_service.specs.Shown.{AreAt, AreShown, IsRising, ServiceValue, ShowsAll, is_among, numbers_of, service}
 
--- ---- the laws of a stream, as `other_lines` and `fresh` ensure them
+-- ---- the law of a stream, as `other_lines` ensures it
 
 abbrev pub LinesOfOthers : Type 0
 LinesOfOthers = (v : StreamValue) (log : Journal) (line : Line) → Shows v log → line.clock ≡ v.clock → stream_of line.what ≢ Some v.no → Shows v (line ∷ log)
 
-abbrev pub StaysFresh : Type 0
-StaysFresh = (log : Journal) (line : Line) (s : ℕ) → IsFresh log s → stream_of line.what ≢ Some s → IsFresh (line ∷ log) s
+-- ---- several lines
 
-the_same : (a b : ℕ) → Some a ≡ Some b → a ≡ b
-the_same a b h = cc
-
--- ---- the same of several lines
-
-shows_more : (v : StreamValue) (c s : ℕ) (lines : List Line) (log : Journal) → LinesOfOthers → v.clock ≡ c → v.no ≢ s → AreOf s c lines → Shows v log → Shows v (with_lines lines log)
+shows_more : (v : StreamValue) (c s : ℕ) (lines : List Line) (log : Journal) → LinesOfOthers → v.clock ≡ c → s ≢ v.no → AreOf s c lines → Shows v log
+    → Shows v (with_lines lines log)
 shows_more v c s [] log law clock differ of shown = shown
 shows_more v c s (line ∷ lines) log law clock differ of shown =
-    shows_more v c s lines (line ∷ log) law clock differ of.3 (law v log line shown (of.1 ∙ sym clock) (λ same. differ (the_same _ _ (sym same ∙ of.0))))
+    shows_more v c s lines (line ∷ log) law clock differ of.3 (law v log line shown (of.1 ∙ sym clock) (of_other line.what s v.no of.0 differ))
 
-fresh_more : (s t c : ℕ) (lines : List Line) (log : Journal) → StaysFresh → t ≢ s → AreOf s c lines → IsFresh log t → IsFresh (with_lines lines log) t
-fresh_more s t c [] log law differ of fresh = fresh
-fresh_more s t c (line ∷ lines) log law differ of fresh = fresh_more s t c lines (line ∷ log) law differ of.3 (law log line t fresh (λ same. differ (the_same _ _ (sym same ∙ of.0))))
+fresh_more : (s t c : ℕ) (lines : List Line) (log : Journal) → s ≢ t → AreOf s c lines → IsFresh log t → IsFresh (with_lines lines log) t
+fresh_more s t c [] log differ of fresh = fresh
+fresh_more s t c (line ∷ lines) log differ of fresh =
+    fresh_more s t c lines (line ∷ log) differ of.3 (fresh_other log line t fresh (of_other line.what s t of.0 differ))
 
 made_same : (what : Entry) (n : ℕ) → is_within_life what ≡ true → made_count_after what n ≡ n
 made_same (entry.Made s name count) n h = absurd cc
@@ -75,27 +75,35 @@ beyond n s t a b e = absurd (omega arith)
 
 up_at : (n i : ℕ) (vs : List StreamValue) (x : StreamValue) → AreUpTo n vs → slice_get vs i ≡ Some x → x.no ≤ n
 up_at n i [] x up here = absurd (none-some x here)
-up_at n zero (v ∷ vs) x up here = subst (λ (u : StreamValue). u.no ≤ n) (same_some v x here) up.0
+up_at n zero (v ∷ vs) x up here = subst (λ (u : StreamValue). u.no ≤ n) (same_Some v x here) up.0
 up_at n (suc i) (v ∷ vs) x up here = up_at n i vs x up.1 here
 
 -- a stream goes on to show the journal with its lines, and the service with it
-pub shows_after : (c b n i : ℕ) (vs : List StreamValue) (x v : StreamValue) (log : Journal) (lines : List Line) → LinesOfOthers → StaysFresh → ShowsAll (service c b n vs) log → slice_get vs i ≡ Some x → v.no ≡ x.no → v.clock ≡ c → AreOf x.no c lines → Shows v (with_lines lines log) → ShowsAll (service c b n (slice_set vs i v)) (with_lines lines log)
-shows_after c b n i vs x v log lines law fresh all here numbered clock of shown =
+pub shows_after : (c b n i : ℕ) (vs : List StreamValue) (x v : StreamValue) (log : Journal) (lines : List Line) → LinesOfOthers
+    → ShowsAll (service c b n vs) log → slice_get vs i ≡ Some x → v.no ≡ x.no → v.clock ≡ c → AreOf x.no c lines → Shows v (with_lines lines log)
+    → ShowsAll (service c b n (slice_set vs i v)) (with_lines lines log)
+shows_after c b n i vs x v log lines law all here numbered clock of shown =
     let numbers : numbers_of (slice_set vs i v) ≡ numbers_of vs = map_same (λ u. u.no) i vs x v here numbered in
     record {
       made = made_more x.no c lines log of ∙ all.made;
       at = at_set c i vs v all.at clock;
       rising = subst (IsRising 0) (sym numbers) all.rising;
-      shown = shown_set log (with_lines lines log) c 0 i vs x v all.rising all.at all.shown here shown (λ u is at differ. shows_more u c x.no lines log law at differ of is);
+      shown =
+          shown_set log (with_lines lines log) c 0 i vs x v all.rising all.at all.shown here shown
+          (λ u is at differ. shows_more u c x.no lines log law at (λ e. differ (sym e)) of is);
       others = λ s out. live_more x.no s c lines log of ∙ all.others s (ap (λ ns. is_among ns s) (sym numbers) ∙ out);
-      unmade = λ s later. fresh_more x.no s c lines log fresh (λ same. beyond n x.no s (up_at n i vs x (up_to n vs log all.shown all.unmade) here) later same) of (all.unmade s later);
+      unmade =
+          λ s later. fresh_more x.no s c lines log (λ same. beyond n x.no s (up_at n i vs x (up_to n vs log all.shown all.unmade) here) later (sym same)) of
+          (all.unmade s later);
     }
 
 -- ---- a new stream
 
-pub shows_added : (c b n by count : ℕ) (name : List ℕ) (vs : List StreamValue) (v : StreamValue) (log : Journal) → LinesOfOthers → StaysFresh → ShowsAll (service c b n vs) log → v.no ≡ n + 1 → v.clock ≡ c
-    → Shows v (plain_line c by (entry.Made (n + 1) name count) ∷ log) → ShowsAll (service c b (n + 1) (vs ++ (v ∷ []))) (plain_line c by (entry.Made (n + 1) name count) ∷ log)
-shows_added c b n by count name vs v log law fresh all numbered clock shown =
+pub shows_added : (c b n by count : ℕ) (name : List ℕ) (vs : List StreamValue) (v : StreamValue) (log : Journal) → LinesOfOthers
+    → ShowsAll (service c b n vs) log → v.no ≡ n + 1 → v.clock ≡ c
+    → Shows v (plain_line c by (entry.Made (n + 1) name count) ∷ log)
+    → ShowsAll (service c b (n + 1) (vs ++ (v ∷ []))) (plain_line c by (entry.Made (n + 1) name count) ∷ log)
+shows_added c b n by count name vs v log law all numbered clock shown =
     let line = plain_line c by (entry.Made (n + 1) name count) in
     let up = up_to n vs log all.shown all.unmade in
     let numbers : numbers_of (vs ++ (v ∷ [])) ≡ numbers_of vs ++ ((n + 1) ∷ []) = map_push (λ u. u.no) vs v ∙ ap (λ m. numbers_of vs ++ (m ∷ [])) numbered in
@@ -103,11 +111,13 @@ shows_added c b n by count name vs v log law fresh all numbered clock shown =
       made = ap (λ m. m + 1) all.made;
       at = at_push c vs v all.at clock;
       rising = subst (IsRising 0) (sym numbers) (rising_push 0 n (n + 1) vs (omega arith) (omega arith) up all.rising);
-      shown = shown_push log (line ∷ log) c n vs v up all.at all.shown shown (λ u is at below. law u log line is (sym at) (λ same. last n u.no below (the_same _ _ same)));
+      shown =
+          shown_push log (line ∷ log) c n vs v up all.at all.shown shown
+          (λ u is at below. law u log line is (sym at) (λ same. last n u.no below (same_Some _ _ same)));
       others = λ s out.
           let parts = among_push (numbers_of vs) (n + 1) s (ap (λ ns. is_among ns s) (sym numbers) ∙ out) in
           or_from ((n + 1) == s) (is_live log s) parts.1 (all.others s parts.0);
-      unmade = λ s later. fresh log line s (all.unmade s (omega arith)) (λ same. apart n s later (the_same _ _ same));
+      unmade = λ s later. fresh_other log line s (all.unmade s (omega arith)) (λ same. apart n s later (same_Some _ _ same));
     }
   where
     last : (n m : ℕ) → m ≤ n → n + 1 ≡ m → ⊥
@@ -118,17 +128,22 @@ shows_added c b n by count name vs v log law fresh all numbered clock shown =
 
 -- ---- the end of a stream
 
-pub shows_removed : (c b n by i : ℕ) (vs : List StreamValue) (x : StreamValue) (log : Journal) → LinesOfOthers → StaysFresh → ShowsAll (service c b n vs) log → slice_get vs i ≡ Some x → ShowsAll (service c b n (remove vs i)) (plain_line c by (entry.Gone x.no) ∷ log)
-shows_removed c b n by i vs x log law fresh all here =
+pub shows_removed : (c b n by i : ℕ) (vs : List StreamValue) (x : StreamValue) (log : Journal) → LinesOfOthers → ShowsAll (service c b n vs) log
+    → slice_get vs i ≡ Some x → ShowsAll (service c b n (remove vs i)) (plain_line c by (entry.Gone x.no) ∷ log)
+shows_removed c b n by i vs x log law all here =
     let line = plain_line c by (entry.Gone x.no) in
     let up = up_to n vs log all.shown all.unmade in
     record {
       made = all.made;
       at = at_remove c i vs all.at;
       rising = rising_remove 0 i vs all.rising;
-      shown = shown_remove log (line ∷ log) c 0 i vs x all.rising all.at all.shown here (λ u is at differ. law u log line is (sym at) (λ same. differ (sym (the_same _ _ same))));
-      others = λ s out. either_way (x.no == s) (λ e. ended (x.no == s) (is_live log s) e) (λ e. stays (x.no == s) (is_live log s) (all.others s (among_remove i s vs x here out e)));
-      unmade = λ s later. fresh log line s (all.unmade s later) (λ same. beyond n x.no s (up_at n i vs x up here) later (sym (the_same _ _ same)));
+      shown =
+          shown_remove log (line ∷ log) c 0 i vs x all.rising all.at all.shown here
+          (λ u is at differ. law u log line is (sym at) (λ same. differ (sym (same_Some _ _ same))));
+      others =
+          λ s out. either_way (x.no == s) (λ e. ended (x.no == s) (is_live log s) e)
+          (λ e. stays (x.no == s) (is_live log s) (all.others s (among_remove i s vs x here out e)));
+      unmade = λ s later. fresh_other log line s (all.unmade s later) (λ same. beyond n x.no s (up_at n i vs x up here) later (sym (same_Some _ _ same)));
     }
   where
     ended : (a b : Bool) → a ≡ true → (not a && b) ≡ false
@@ -141,33 +156,27 @@ shows_removed c b n by i vs x log law fresh all here =
 
 -- ---- a line of a lease
 
-none_some : (what : Entry) (s : ℕ) → stream_of what ≡ None → stream_of what ≢ Some s
-none_some what s none h = none-some s (sym none ∙ h)
-
-no_life : (what : Entry) → stream_of what ≡ None → is_within_life what ≡ true
-no_life (entry.Made s name count) h = absurd (none-some s (sym h))
-no_life (entry.Gone s) h = absurd (none-some s (sym h))
-no_life _ h = refl
-
-shown_along : (c : ℕ) (vs : List StreamValue) (line : Line) (log : Journal) → LinesOfOthers → AreAt c vs → line.clock ≡ c → stream_of line.what ≡ None → AreShown log vs → AreShown (line ∷ log) vs
+shown_along : (c : ℕ) (vs : List StreamValue) (line : Line) (log : Journal) → LinesOfOthers → AreAt c vs → line.clock ≡ c → stream_of line.what ≡ None
+    → AreShown log vs → AreShown (line ∷ log) vs
 shown_along c [] line log law at clock none shown = tt
 shown_along c (v ∷ vs) line log law at clock none shown =
-    (law v log line shown.0 (clock ∙ sym at.0) (none_some line.what v.no none), shown_along c vs line log law at.1 clock none shown.1)
+    (law v log line shown.0 (clock ∙ sym at.0) (of_no_stream line.what v.no none), shown_along c vs line log law at.1 clock none shown.1)
 
-pub shows_lease : (w : ServiceValue) (line : Line) (log : Journal) → LinesOfOthers → StaysFresh → ShowsAll w log → line.clock ≡ w.clock → stream_of line.what ≡ None → ShowsAll w (line ∷ log)
-shows_lease w line log law fresh all clock none = record {
-  made = made_same line.what (made_count log) (no_life line.what none) ∙ all.made;
+pub shows_lease : (w : ServiceValue) (line : Line) (log : Journal) → LinesOfOthers → ShowsAll w log → line.clock ≡ w.clock → stream_of line.what ≡ None
+    → ShowsAll w (line ∷ log)
+shows_lease w line log law all clock none = record {
+  made = count_same line.what (made_count log) none ∙ all.made;
   at = all.at;
   rising = all.rising;
   shown = shown_along w.clock w.streams line log law all.at clock none all.shown;
-  others = λ s out. live_same line.what s (is_live log s) (no_life line.what none) ∙ all.others s out;
-  unmade = λ s later. fresh log line s (all.unmade s later) (none_some line.what s none);
+  others = λ s out. elsewhere.live_same line.what s (is_live log s) (of_no_stream line.what s none) ∙ all.others s out;
+  unmade = λ s later. fresh_other log line s (all.unmade s later) (of_no_stream line.what s none);
 }
 
 -- ---- no stream
 
-pub shows_none : (c b : ℕ) → ((s : ℕ) → IsFresh [] s) → ShowsAll (service c b 0 []) []
-shows_none c b fresh = record { made = refl; at = tt; rising = tt; shown = tt; others = λ s out. refl; unmade = λ s later. fresh s }
+pub shows_none : (c b : ℕ) → ShowsAll (service c b 0 []) []
+shows_none c b = record { made = refl; at = tt; rising = tt; shown = tt; others = λ s out. refl; unmade = λ s later. fresh_empty s }
 
 -- ---- the lines of the commands
 

@@ -1,5 +1,6 @@
 -- What the streams of a service say of the journal that they show.
-use Rattle.std.proofs.Common.{◌≡◌, ◌≢◌, ℕ, zero, suc, ◌+◌, ◌<◌, ◌≤◌, Bool, true, false, ◌==◌, cond, List, [], ◌∷◌, length, slice_get, Option, Some, None, refl, sym, ap, subst, ◌∙◌, arith}
+use Rattle.std.proofs.Common.{◌≡◌, ◌≢◌, ℕ, zero, suc, ◌+◌, ◌<◌, ◌≤◌, Bool, true, false, ◌==◌, cond, List, [], ◌∷◌, length, slice_get, Option, Some}
+use Rattle.std.proofs.Common.{None, refl, sym, ap, subst, ◌∙◌, arith}
 use Rattle.std.specs.Prelude.{◌||◌, if◌then◌else◌, is_some, nat_le, nat_lt, not}
 use Rattle.std.specs.Cmp.Lexicographic.{bytes_decides, nat_list_eq_equiv}
 use Rattle.std.specs.List.{find, filter, position_from}
@@ -12,7 +13,8 @@ use Rattle.kds_defs.specs.declared.limits.TheConstants.{MOST_SHARDS, OPEN_SHARDS
 use Rattle.kds_defs.specs.Journal.{Journal}
 use Rattle.kds_defs.specs.Shards.{is_open, open_count, open_in}
 use Rattle.kds_defs.specs.Streams.{is_live, live_streams, name_of, numbers_from, same_name, stream_named}
-use Rattle.kds_stream.specs.Showing.{IsFresh, Shows, is_full}
+use Rattle.kds_defs.specs.Subjects.{IsFresh}
+use Rattle.kds_stream.specs.Showing.{Shows, is_full}
 use Rattle.kds_stream.specs.Value.{StreamValue}
 use Rattle.kds_service.proofs.Lists.{AreUpTo, either_way, not_below}
 use Rattle.kds_defs.specs.ScaleCommands.{open_elsewhere}
@@ -28,7 +30,8 @@ live_or_dead log s live dead = absurd cc
 pub up_to : (n : ℕ) (vs : List StreamValue) (log : Journal) → AreShown log vs → ((s : ℕ) → n < s → IsFresh log s) → AreUpTo n vs
 up_to n [] log shown unmade = tt
 up_to n (v ∷ vs) log shown unmade =
-    (either_way (nat_le v.no n) (λ e. within v.no n e) (λ e. absurd (live_or_dead log v.no shown.0.live (unmade v.no (over v.no n e)).gone)), up_to n vs log shown.1 unmade)
+    let low = either_way (nat_le v.no n) (λ e. within v.no n e) (λ e. absurd (live_or_dead log v.no shown.0.live (unmade v.no (over v.no n e)).gone)) in
+    (low, up_to n vs log shown.1 unmade)
   where
     within : (a b : ℕ) → nat_le a b ≡ true → a ≤ b
     within a b e = grind (arith, nat_tests)
@@ -39,7 +42,8 @@ up_to n (v ∷ vs) log shown unmade =
 none_live : (log : Journal) (low count : ℕ) → ((s : ℕ) → low < s → is_live log s ≡ false) → filter (is_live log) (numbers_from (low + 1) count) ≡ []
 none_live log low zero dead = refl
 none_live log low (suc count) dead =
-    ap (λ b. cond b ((low + 1) ∷ filter (is_live log) (numbers_from (low + 1 + 1) count)) (filter (is_live log) (numbers_from (low + 1 + 1) count))) (dead (low + 1) (omega arith))
+    ap (λ b. cond b ((low + 1) ∷ filter (is_live log) (numbers_from (low + 1 + 1) count)) (filter (is_live log) (numbers_from (low + 1 + 1) count)))
+    (dead (low + 1) (omega arith))
     ∙ none_live log (low + 1) count (λ s above. dead s (omega arith))
 
 -- of the numbers above the lowest those of these streams are live, and no others
@@ -53,13 +57,17 @@ live_above log low (suc count) (v ∷ vs) rising below shown others =
     (λ e.
     let same = is_next v.no low e in
     let live : is_live log (low + 1) ≡ true = ap (is_live log) (sym same) ∙ shown.0.live in
-    let after = live_above log (low + 1) count vs (subst (λ n. IsRising n (numbers_of vs)) same rising.1) (subst (λ n. AreUpTo n vs) (end low count) below.1) shown.1
+    let after =
+    live_above log (low + 1) count vs (subst (λ n. IsRising n (numbers_of vs)) same rising.1) (subst (λ n. AreUpTo n vs) (end low count) below.1) shown.1
     (λ s above out. others s (omega arith) (or_from (v.no == s) (is_among (numbers_of vs) s) (is_other v.no s (λ is. apart v.no s low same above is)) out)) in
     ap (λ b. cond b ((low + 1) ∷ rest) rest) live ∙ ap (λ ns. (low + 1) ∷ ns) after ∙ ap (λ n. n ∷ numbers_of vs) (sym same))
     (λ e.
     let past = later v.no low e rising.0 in
-    let dead : is_live log (low + 1) ≡ false = others (low + 1) (omega arith) (not_below (low + 1) (low + 1) (numbers_of (v ∷ vs)) (omega arith) (past, rising.1)) in
-    let after = live_above log (low + 1) count (v ∷ vs) (past, rising.1) (subst (λ n. AreUpTo n (v ∷ vs)) (end low count) below) shown (λ s above out. others s (omega arith) out) in
+    let dead : is_live log (low + 1) ≡ false =
+    others (low + 1) (omega arith) (not_below (low + 1) (low + 1) (numbers_of (v ∷ vs)) (omega arith) (past, rising.1)) in
+    let after =
+    live_above log (low + 1) count (v ∷ vs) (past, rising.1) (subst (λ n. AreUpTo n (v ∷ vs)) (end low count) below) shown
+    (λ s above out. others s (omega arith) out) in
     ap (λ b. cond b ((low + 1) ∷ rest) rest) dead ∙ after)
   where
     end : (low count : ℕ) → low + suc count ≡ low + 1 + count
@@ -81,7 +89,8 @@ from_zero n = omega arith
 pub live_are : (w : ServiceValue) (log : Journal) → ShowsAll w log → live_streams log ≡ numbers_of w.streams
 live_are w log all =
     ap (λ n. filter (is_live log) (numbers_from 1 n)) all.made
-    ∙ live_above log 0 w.made w.streams all.rising (subst (λ n. AreUpTo n w.streams) (from_zero w.made) (up_to w.made w.streams log all.shown all.unmade)) all.shown (λ s above out. all.others s out)
+    ∙ live_above log 0 w.made w.streams all.rising
+    (subst (λ n. AreUpTo n w.streams) (from_zero w.made) (up_to w.made w.streams log all.shown all.unmade)) all.shown (λ s above out. all.others s out)
 
 pub live_count : (w : ServiceValue) (log : Journal) → ShowsAll w log → length (live_streams log) ≡ length w.streams
 live_count w log all = ap length (live_are w log all) ∙ length-map w.streams (λ v. v.no)
@@ -101,19 +110,23 @@ open_at i [] x here = absurd (none-some x here)
 open_at zero (v ∷ vs) x here = omega (arith, ap (λ (u : StreamValue). length (filter is_open u.tree)) (same_some v x here))
 open_at (suc i) (v ∷ vs) x here = let rest = open_at i vs x here in omega (arith, rest)
 
-pub open_within : (w : ServiceValue) (log : Journal) (i : ℕ) (x : StreamValue) → ShowsAll w log → slice_get w.streams i ≡ Some x → length (filter is_open x.tree) ≤ open_count log
+pub open_within : (w : ServiceValue) (log : Journal) (i : ℕ) (x : StreamValue) → ShowsAll w log → slice_get w.streams i ≡ Some x
+    → length (filter is_open x.tree) ≤ open_count log
 open_within w log i x all here = let few = open_at i w.streams x here in omega (arith, few, open_are w log all)
 
 -- one more shard may be open where fewer than the limit are
-pub room_is : (w : ServiceValue) (log : Journal) (room : Bool) → room ≡ nat_le (open_total w.streams + 1) OPEN_SHARDS → ShowsAll w log → room ≡ not (nat_le OPEN_SHARDS (open_count log))
+pub room_is : (w : ServiceValue) (log : Journal) (room : Bool) → room ≡ nat_le (open_total w.streams + 1) OPEN_SHARDS → ShowsAll w log
+    → room ≡ not (nat_le OPEN_SHARDS (open_count log))
 room_is w log room is all = is ∙ below (open_total w.streams) ∙ ap (λ n. not (nat_le OPEN_SHARDS n)) (sym (open_are w log all))
   where
     below : (n : ℕ) → nat_le (n + 1) OPEN_SHARDS ≡ not (nat_le OPEN_SHARDS n)
     below n = grind (arith, nat_tests)
 
 -- so a stream's own count adds nothing to what the service tells
-pub full_is : (log : Journal) (x : StreamValue) (room : Bool) → room ≡ not (nat_le OPEN_SHARDS (open_count log)) → length (filter is_open x.tree) ≤ open_count log → is_full x room ≡ nat_le OPEN_SHARDS (open_count log)
-full_is log x room is within = ap (λ b. not b || nat_le OPEN_SHARDS (length (filter is_open x.tree))) is ∙ by (length (filter is_open x.tree)) (open_count log) within
+pub full_is : (log : Journal) (x : StreamValue) (room : Bool) → room ≡ not (nat_le OPEN_SHARDS (open_count log))
+    → length (filter is_open x.tree) ≤ open_count log → is_full x room ≡ nat_le OPEN_SHARDS (open_count log)
+full_is log x room is within =
+    ap (λ b. not b || nat_le OPEN_SHARDS (length (filter is_open x.tree))) is ∙ by (length (filter is_open x.tree)) (open_count log) within
   where
     by : (own all : ℕ) → own ≤ all → (not (not (nat_le OPEN_SHARDS all)) || nat_le OPEN_SHARDS own) ≡ nat_le OPEN_SHARDS all
     by own all h = grind (arith, nat_tests)
@@ -131,7 +144,8 @@ missed p n x xs e = ap (λ b. cond b (Some n) (position_from p (n + 1) xs)) e
 from_on : {X : Type 0} (p : X → Bool) (n j : ℕ) (xs : List X) → position_from p n xs ≡ Some j → n ≤ j
 from_on p n j [] is = absurd (none-some j is)
 from_on p n j (x ∷ xs) is =
-    either_way (p x) (λ e. let same : n ≡ j = same_some n j (sym (hit p n x xs e) ∙ is) in omega (arith, same)) (λ e. let rest = from_on p (n + 1) j xs (sym (missed p n x xs e) ∙ is) in omega (arith, rest))
+    either_way (p x) (λ e. let same : n ≡ j = same_some n j (sym (hit p n x xs e) ∙ is) in omega (arith, same))
+    (λ e. let rest = from_on p (n + 1) j xs (sym (missed p n x xs e) ∙ is) in omega (arith, rest))
 
 -- the first place is found exactly where the first passes
 pub first_passes : {X : Type 0} (p : X → Bool) (n : ℕ) (x : X) (xs : List X) → position_from p n (x ∷ xs) ≡ Some (n + 0) → p x ≡ true
@@ -140,7 +154,8 @@ first_passes p n x xs is = either_way (p x) (λ e. e) (λ e. absurd (short n (fr
     short : (n : ℕ) → n + 1 ≤ n + 0 → ⊥
     short n h = absurd (omega (arith, h))
 
-pub later_fails : {X : Type 0} (p : X → Bool) (n i : ℕ) (x : X) (xs : List X) → position_from p n (x ∷ xs) ≡ Some (n + suc i) → (p x ≡ false) × (position_from p (n + 1) xs ≡ Some (n + 1 + i))
+pub later_fails : {X : Type 0} (p : X → Bool) (n i : ℕ) (x : X) (xs : List X) → position_from p n (x ∷ xs) ≡ Some (n + suc i)
+    → (p x ≡ false) × (position_from p (n + 1) xs ≡ Some (n + 1 + i))
 later_fails p n i x xs is =
     let one : n + suc i ≡ n + 1 + i = omega arith in
     either_way (p x) (λ e. absurd (past n i (same_some n (n + suc i) (sym (hit p n x xs e) ∙ is)))) (λ e. (e, sym (missed p n x xs e) ∙ is ∙ ap Some one))
@@ -148,7 +163,8 @@ later_fails p n i x xs is =
     past : (n i : ℕ) → n ≡ n + suc i → ⊥
     past n i h = absurd (omega (arith, h))
 
-pub none_passes : {X : Type 0} (p : X → Bool) (n : ℕ) (x : X) (xs : List X) → position_from p n (x ∷ xs) ≡ None → (p x ≡ false) × (position_from p (n + 1) xs ≡ None)
+pub none_passes : {X : Type 0} (p : X → Bool) (n : ℕ) (x : X) (xs : List X) → position_from p n (x ∷ xs) ≡ None
+    → (p x ≡ false) × (position_from p (n + 1) xs ≡ None)
 none_passes p n x xs none = either_way (p x) (λ e. absurd (none-some n (sym none ∙ hit p n x xs e))) (λ e. (e, sym (missed p n x xs e) ∙ none))
 
 same_names : (log : Journal) (v : StreamValue) (name : List ℕ) → Shows v log → same_name (name_of log v.no) name ≡ same_name name v.name
@@ -159,7 +175,8 @@ module _ (log : Journal) (name : List ℕ) where
       → find (λ s. same_name (name_of log s) name) (numbers_of (v ∷ vs)) ≡ cond b (Some v.no) (find (λ s. same_name (name_of log s) name) (numbers_of vs))
   here_or_rest v vs b shown e = ap (λ b. cond b (Some v.no) (find (λ s. same_name (name_of log s) name) (numbers_of vs))) (same_names log v name shown ∙ e)
 
-  named_from : (n i : ℕ) (vs : List StreamValue) (x : StreamValue) → AreShown log vs → position_from (same_name name) n (names_of vs) ≡ Some (n + i) → slice_get vs i ≡ Some x → find (λ s. same_name (name_of log s) name) (numbers_of vs) ≡ Some x.no
+  named_from : (n i : ℕ) (vs : List StreamValue) (x : StreamValue) → AreShown log vs → position_from (same_name name) n (names_of vs) ≡ Some (n + i)
+      → slice_get vs i ≡ Some x → find (λ s. same_name (name_of log s) name) (numbers_of vs) ≡ Some x.no
   named_from n i [] x shown is here = absurd (none-some x here)
   named_from n zero (v ∷ vs) x shown is here =
       here_or_rest v vs true shown.0 (first_passes (same_name name) n v.name (names_of vs) is) ∙ ap (λ (u : StreamValue). Some u.no) (same_some v x here)
@@ -167,13 +184,15 @@ module _ (log : Journal) (name : List ℕ) where
       let rest = later_fails (same_name name) n i v.name (names_of vs) is in
       here_or_rest v vs false shown.0 rest.0 ∙ named_from (n + 1) i vs x shown.1 rest.1 here
 
-  none_named_from : (n : ℕ) (vs : List StreamValue) → AreShown log vs → position_from (same_name name) n (names_of vs) ≡ None → find (λ s. same_name (name_of log s) name) (numbers_of vs) ≡ None
+  none_named_from : (n : ℕ) (vs : List StreamValue) → AreShown log vs → position_from (same_name name) n (names_of vs) ≡ None
+      → find (λ s. same_name (name_of log s) name) (numbers_of vs) ≡ None
   none_named_from n [] shown none = refl
   none_named_from n (v ∷ vs) shown none =
       let rest = none_passes (same_name name) n v.name (names_of vs) none in
       here_or_rest v vs false shown.0 rest.0 ∙ none_named_from (n + 1) vs shown.1 rest.1
 
-pub named_at : (w : ServiceValue) (log : Journal) (name : List ℕ) (i : ℕ) (x : StreamValue) → ShowsAll w log → place_of w.streams name ≡ Some i → slice_get w.streams i ≡ Some x → stream_named log name ≡ Some x.no
+pub named_at : (w : ServiceValue) (log : Journal) (name : List ℕ) (i : ℕ) (x : StreamValue) → ShowsAll w log → place_of w.streams name ≡ Some i
+    → slice_get w.streams i ≡ Some x → stream_named log name ≡ Some x.no
 named_at w log name i x all is here =
     ap (find (λ s. same_name (name_of log s) name)) (live_are w log all) ∙ named_from log name 0 i w.streams x all.shown (is ∙ ap Some (from_zero i)) here
 
@@ -181,7 +200,8 @@ pub none_named : (w : ServiceValue) (log : Journal) (name : List ℕ) → ShowsA
 none_named w log name all none = ap (find (λ s. same_name (name_of log s) name)) (live_are w log all) ∙ none_named_from log name 0 w.streams all.shown none
 
 -- a place that was found is that of a stream
-at_place : (n i : ℕ) (vs : List StreamValue) (name : List ℕ) → position_from (same_name name) n (names_of vs) ≡ Some (n + i) → (x : StreamValue) × (slice_get vs i ≡ Some x)
+at_place : (n i : ℕ) (vs : List StreamValue) (name : List ℕ) → position_from (same_name name) n (names_of vs) ≡ Some (n + i)
+    → (x : StreamValue) × (slice_get vs i ≡ Some x)
 at_place n i [] name is = absurd (none-some (n + i) is)
 at_place n zero (v ∷ vs) name is = (v, refl)
 at_place n (suc i) (v ∷ vs) name is = at_place (n + 1) i vs name (later_fails (same_name name) n i v.name (names_of vs) is).1
@@ -197,7 +217,8 @@ some_named w log name all = by (place_of w.streams name) refl
 
 -- ---- the stream of a number
 
-pub number_at : (n i s : ℕ) (vs : List StreamValue) (x : StreamValue) → position_from (λ m. m == s) n (numbers_of vs) ≡ Some (n + i) → slice_get vs i ≡ Some x → s ≡ x.no
+pub number_at : (n i s : ℕ) (vs : List StreamValue) (x : StreamValue) → position_from (λ m. m == s) n (numbers_of vs) ≡ Some (n + i) → slice_get vs i ≡ Some x
+    → s ≡ x.no
 number_at n i s [] x is here = absurd (none-some x here)
 number_at n zero s (v ∷ vs) x is here =
     sym (eqb-true v.no s (first_passes (λ m. m == s) n v.no (numbers_of vs) is)) ∙ ap (λ (u : StreamValue). u.no) (same_some v x here)
@@ -216,7 +237,8 @@ beside log s [] shown = refl
 beside log s (v ∷ vs) shown = by (v.no == s) (beside log s vs shown.1)
   where
     by : (b : Bool) → open_in log (filter (λ t. not (t == s)) (numbers_of vs)) ≡ open_beside vs s
-        → open_in log (cond (not b) (v.no ∷ filter (λ t. not (t == s)) (numbers_of vs)) (filter (λ t. not (t == s)) (numbers_of vs))) ≡ (if b then 0 else length (filter is_open v.tree)) + open_beside vs s
+        → open_in log (cond (not b) (v.no ∷ filter (λ t. not (t == s)) (numbers_of vs)) (filter (λ t. not (t == s)) (numbers_of vs)))
+        ≡ (if b then 0 else length (filter is_open v.tree)) + open_beside vs s
     by true rest = omega (arith, rest)
     by false rest = omega (arith, ap (λ xs. length (filter is_open xs)) shown.0.shards_are, rest)
 
@@ -224,17 +246,21 @@ pub beside_is : (w : ServiceValue) (log : Journal) (s : ℕ) → ShowsAll w log 
 beside_is w log s all = ap (λ ns. open_in log (filter (λ t. not (t == s)) ns)) (live_are w log all) ∙ beside log s w.streams all.shown
 
 -- where they leave room for so many, a stream that is told of room for as many more than its own isn't over it
-pub fits_beside : (own target others elsewhere : ℕ) → target ≤ MOST_SHARDS → elsewhere ≡ others → nat_le (others + target) OPEN_SHARDS ≡ true → nat_lt (own + MOST_SHARDS) target ≡ nat_lt OPEN_SHARDS (elsewhere + target)
+pub fits_beside : (own target others elsewhere : ℕ) → target ≤ MOST_SHARDS → elsewhere ≡ others → nat_le (others + target) OPEN_SHARDS ≡ true
+    → nat_lt (own + MOST_SHARDS) target ≡ nat_lt OPEN_SHARDS (elsewhere + target)
 fits_beside own target others elsewhere small same fits = grind (arith, nat_tests)
 
-pub fits_not : (target others elsewhere : ℕ) → elsewhere ≡ others → nat_le (others + target) OPEN_SHARDS ≡ false → nat_lt OPEN_SHARDS (elsewhere + target) ≡ true
+pub fits_not : (target others elsewhere : ℕ) → elsewhere ≡ others → nat_le (others + target) OPEN_SHARDS ≡ false
+    → nat_lt OPEN_SHARDS (elsewhere + target) ≡ true
 fits_not target others elsewhere same fits = grind (arith, nat_tests)
 
 -- ---- the stream of a name has just this name
 
-named_like : (name : List ℕ) (n i : ℕ) (vs : List StreamValue) (x : StreamValue) → position_from (same_name name) n (names_of vs) ≡ Some (n + i) → slice_get vs i ≡ Some x → same_name name x.name ≡ true
+named_like : (name : List ℕ) (n i : ℕ) (vs : List StreamValue) (x : StreamValue) → position_from (same_name name) n (names_of vs) ≡ Some (n + i)
+    → slice_get vs i ≡ Some x → same_name name x.name ≡ true
 named_like name n i [] x is here = absurd (none-some x here)
-named_like name n zero (v ∷ vs) x is here = ap (λ (u : StreamValue). same_name name u.name) (sym (same_some v x here)) ∙ first_passes (same_name name) n v.name (names_of vs) is
+named_like name n zero (v ∷ vs) x is here =
+    ap (λ (u : StreamValue). same_name name u.name) (sym (same_some v x here)) ∙ first_passes (same_name name) n v.name (names_of vs) is
 named_like name n (suc i) (v ∷ vs) x is here = named_like name (n + 1) i vs x (later_fails (same_name name) n i v.name (names_of vs) is).1 here
 
 pub has_name : (name : List ℕ) (i : ℕ) (vs : List StreamValue) (x : StreamValue) → place_of vs name ≡ Some i → slice_get vs i ≡ Some x → name ≡ x.name

@@ -3,7 +3,7 @@ use Rattle.std.specs.Prelude.{ℕ, ◌≡◌, Bool, true, false, List, [], ◌�
 use Rattle.kds_defs.specs.declared.entry.Entry.{Entry}
 use Rattle.kds_defs.specs.declared.entry.Entry.TheVariants as entry
 use Rattle.kds_defs.specs.Journal.{Line}
-use Rattle.kds_stream.specs.Showing.{stream_of}
+use Rattle.kds_defs.specs.Subjects.{stream_of}
 
 -- the entry neither makes a stream nor ends one
 abbrev pub is_within_life : Entry → Bool

@@ -7,7 +7,8 @@ use Rattle.kds_defs.specs.Histories.{answer_of, decide, lines_of}
 use Rattle.kds_defs.specs.declared.entry.Entry.TheVariants as entry
 use Rattle.kds_defs.specs.Journal.{Journal, Line, plain_line, with_lines}
 use Rattle.kds_defs.specs.Streams.{is_live, made_count}
-use Rattle.kds_stream.specs.Showing.{IsFresh, Shows}
+use Rattle.kds_defs.specs.Subjects.{IsFresh}
+use Rattle.kds_stream.specs.Showing.{Shows}
 use Rattle.kds_stream.specs.Value.{StreamValue}
 use Rattle.kds_service.specs.Lines.{AreOf}
 

@@ -1,11 +1,11 @@
 //! What a command to one stream, or to a lease, leaves of the other streams.
 ghost use Rattle.std.specs.Prelude.{◌≡◌, ◌∷◌, [], ℕ, List, None};
 ghost use Rattle.kds_defs.specs.Journal.{Journal, Line};
-ghost use Rattle.kds_stream.specs.Showing.{stream_of};
+ghost use Rattle.kds_defs.specs.Subjects.{stream_of};
 ghost use Rattle.kds_stream.specs.Value.{StreamValue};
 ghost use Rattle.kds_service.specs.Shown.{ServiceValue, ShowsAll, StaysShown, StaysShownWith, StaysShownWithout, service};
 
-use kds_stream::{fresh, other_lines};
+use kds_stream::other_lines;
 
 /// The streams of a service show a journal with the lines of one stream, once that stream shows it; with the line
 /// of a new stream, once that stream stands last; and with the line of a stream's end, once that stream is away.
@@ -20,7 +20,6 @@ pub fn others()
     ensures empty { (c b : ℕ) → ShowsAll (service c b 0 []) [] }
 {
     other_lines();
-    fresh();
 }
 
 /// The streams of a service show a journal with a line of a lease too, at its clock.
@@ -28,5 +27,4 @@ pub fn lease_lines()
     ensures { (w : ServiceValue) (log : Journal) (line : Line) → ShowsAll w log → line.clock ≡ w.clock → stream_of line.what ≡ None → ShowsAll w (line ∷ log) }
 {
     other_lines();
-    fresh();
 }

@@ -2,6 +2,7 @@
 use Rattle.std.proofs.Common.{◌≡◌, ℕ, ◌+◌, ◌-◌, ◌*◌, max, ◌≤◌, Bool, true, false, ◌∷◌, Option, Some, None, refl, sym, ap, ◌∙◌, arith}
 use Rattle.std.specs.Prelude.{nat_lt, if◌then◌else◌}
 use Rattle.std.proofs.lemmas.Bool.Decides.{nat_tests}
+use Rattle.kds_defs.proofs.Elsewhere.{floor_same}
 use Rattle.kds_defs.specs.declared.limits.TheConstants.{HOUR}
 use Rattle.kds_defs.specs.Journal.{Line, Journal}
 use Rattle.kds_defs.specs.Streams.{floor_after, floor_at, floor_of, floor_of_lines, hours, retention, trim_floor, was_made}
@@ -10,28 +11,20 @@ use Rattle.kds_stream.specs.Value.{cut_at, later_cut}
 
 -- ---- a line at the stream's clock that leaves the retention leaves the floor as it was
 
+pub same_floor_at : (log : Journal) (line : Line) (c s : ℕ) → line.clock ≡ c → hours (line ∷ log) s ≡ hours log s
+    → trim_floor (line ∷ log) c s ≡ trim_floor log c s
+same_floor_at log line c s at same = floor_same log line s c (omega (arith, at)) same
+
+-- ---- what a line adds to the floor of a stream
+
 pub added : Bool → Bool → ℕ → ℕ → ℕ
 added made before floor floor_before = if made then max floor (if before then floor_before else 0) else 0
 
-max_added : (made before : Bool) (a b : ℕ) → max a (max (added made before a a) b) ≡ max a b
-unfolding added
-max_added true true a b = omega arith
-max_added true false a b = omega arith
-max_added false before a b = omega arith
-
-floor_added : (log : Journal) (line : Line) (s : ℕ) → floor_after log line s ≡ added (was_made (line ∷ log) s) (was_made log s) (floor_at line.clock (retention (line ∷ log) s)) (floor_at line.clock (retention log s))
+floor_added : (log : Journal) (line : Line) (s : ℕ)
+    → floor_after log line s
+    ≡ added (was_made (line ∷ log) s) (was_made log s) (floor_at line.clock (retention (line ∷ log) s)) (floor_at line.clock (retention log s))
 unfolding added
 floor_added log line s = refl
-
-pub same_floor : (log : Journal) (line : Line) (s : ℕ) → hours (line ∷ log) s ≡ hours log s → trim_floor (line ∷ log) line.clock s ≡ trim_floor log line.clock s
-same_floor log line s same =
-    ap (λ n. max (floor_at line.clock (retention (line ∷ log) s)) (max n (floor_of_lines log s))) (floor_added log line s)
-    ∙ ap (λ h. max (floor_at line.clock (h * HOUR)) (max (added (was_made (line ∷ log) s) (was_made log s) (floor_at line.clock (h * HOUR)) (floor_at line.clock (retention log s))) (floor_of_lines log s))) same
-    ∙ max_added (was_made (line ∷ log) s) (was_made log s) (floor_at line.clock (retention log s)) (floor_of_lines log s)
-
--- the same where the line's clock is the stream's by an equation
-pub same_floor_at : (log : Journal) (line : Line) (c s : ℕ) → line.clock ≡ c → hours (line ∷ log) s ≡ hours log s → trim_floor (line ∷ log) c s ≡ trim_floor log c s
-same_floor_at log line c s at same = ap (λ n. trim_floor (line ∷ log) n s) (sym at) ∙ same_floor log line s same ∙ ap (λ n. trim_floor log n s) at
 
 -- ---- the first line of a stream
 
@@ -41,10 +34,12 @@ max_first true false a b n h g is = omega (arith, is)
 max_first true true a b n h g is = absurd cc
 max_first false before a b n h g is = absurd cc
 
-pub first_floor : (log : Journal) (line : Line) (s : ℕ) → was_made (line ∷ log) s ≡ true → was_made log s ≡ false → floor_of_lines log s ≡ 0 → trim_floor (line ∷ log) line.clock s ≡ floor_at line.clock (retention (line ∷ log) s)
+pub first_floor : (log : Journal) (line : Line) (s : ℕ) → was_made (line ∷ log) s ≡ true → was_made log s ≡ false → floor_of_lines log s ≡ 0
+    → trim_floor (line ∷ log) line.clock s ≡ floor_at line.clock (retention (line ∷ log) s)
 first_floor log line s made unmade none =
     ap (λ n. max (floor_at line.clock (retention (line ∷ log) s)) (max n (floor_of_lines log s))) (floor_added log line s)
-    ∙ max_first (was_made (line ∷ log) s) (was_made log s) (floor_at line.clock (retention (line ∷ log) s)) (floor_at line.clock (retention log s)) (floor_of_lines log s) made unmade none
+    ∙ max_first (was_made (line ∷ log) s) (was_made log s) (floor_at line.clock (retention (line ∷ log) s)) (floor_at line.clock (retention log s))
+    (floor_of_lines log s) made unmade none
 
 -- ---- a line that changes the retention: both count
 
@@ -54,10 +49,12 @@ max_changed true true a b n h g = omega arith
 max_changed true false a b n h g = absurd cc
 max_changed false before a b n h g = absurd cc
 
-pub changed_floor : (log : Journal) (line : Line) (s : ℕ) → was_made (line ∷ log) s ≡ true → was_made log s ≡ true → trim_floor (line ∷ log) line.clock s ≡ max (trim_floor log line.clock s) (floor_at line.clock (retention (line ∷ log) s))
+pub changed_floor : (log : Journal) (line : Line) (s : ℕ) → was_made (line ∷ log) s ≡ true → was_made log s ≡ true
+    → trim_floor (line ∷ log) line.clock s ≡ max (trim_floor log line.clock s) (floor_at line.clock (retention (line ∷ log) s))
 changed_floor log line s made before =
     ap (λ n. max (floor_at line.clock (retention (line ∷ log) s)) (max n (floor_of_lines log s))) (floor_added log line s)
-    ∙ max_changed (was_made (line ∷ log) s) (was_made log s) (floor_at line.clock (retention (line ∷ log) s)) (floor_at line.clock (retention log s)) (floor_of_lines log s) made before
+    ∙ max_changed (was_made (line ∷ log) s) (was_made log s) (floor_at line.clock (retention (line ∷ log) s)) (floor_at line.clock (retention log s))
+    (floor_of_lines log s) made before
 
 -- ---- a later clock
 
@@ -76,7 +73,8 @@ later_floor (Some a) (Some b) = omega arith
 max_later : (c d r f : ℕ) → c ≤ d → max (d + 1 - r) f ≡ max (max (c + 1 - r) f) (d + 1 - r)
 max_later c d r f h = omega arith
 
-pub advanced_floor : (log : Journal) (c d s h : ℕ) (cut : Option ℕ) → c ≤ d → hours log s ≡ h → trim_floor log c s ≡ floor_of cut → trim_floor log d s ≡ floor_of (later_cut cut (cut_at d h))
+pub advanced_floor : (log : Journal) (c d s h : ℕ) (cut : Option ℕ) → c ≤ d → hours log s ≡ h → trim_floor log c s ≡ floor_of cut
+    → trim_floor log d s ≡ floor_of (later_cut cut (cut_at d h))
 advanced_floor log c d s h cut later lasts is =
     max_later c d (retention log s) (floor_of_lines log s) later
     ∙ ap (λ n. max n (floor_at d (retention log s))) is

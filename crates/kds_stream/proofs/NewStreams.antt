@@ -20,9 +20,10 @@ use Rattle.kds_rate.specs.Windows.{WindowValue}
 use Rattle.kds_stream.proofs.Cuts.{cut_floor, first_floor, trims_at}
 use Rattle.kds_stream.proofs.Rates.{counted_unused, stand_unused}
 use Rattle.kds_stream_logs.specs.Rating.{IsUnused}
-use Rattle.kds_stream.specs.Showing.{AreKept, IsFresh, Shows}
+use Rattle.kds_defs.specs.Subjects.{IsFresh}
+use Rattle.kds_stream.specs.Showing.{AreKept, Shows}
 use Rattle.kds_stream_logs.specs.Logs.{HasArrived, IsBelow, empty_log}
-use Rattle.kds_stream.specs.Value.{EndsUnder, IsStream, cut_at}
+use Rattle.kds_stream.specs.Value.{EndsUnder, IsStream, StreamValue, cut_at}
 
 -- ---- so many shards, and so many logs
 
@@ -39,7 +40,8 @@ all_replicate P (suc n) x h = (h, all_replicate P n x h)
 
 kept_none : (floor : ℕ) (log : Journal) (s n count : ℕ) → ((sh : ℕ) → records log s sh ≡ []) → AreKept floor log s n (replicate count empty_log)
 kept_none floor log s n zero none = tt
-kept_none floor log s n (suc count) none = (record { from = 0; early = omega arith; rest = ap (left_among 0 0) (sym (none n)) }, kept_none floor log s (n + 1) count none)
+kept_none floor log s n (suc count) none =
+    (record { from = 0; early = omega arith; rest = ap (left_among 0 0) (sym (none n)) }, kept_none floor log s (n + 1) count none)
 
 -- ---- the stream
 
@@ -53,8 +55,29 @@ open_first n start (r ∷ rs) = ap suc (open_first (n + 1) start rs)
 few_made : (count : ℕ) → IsShardCount count → length (filter is_open (made_shards count 1)) ≤ OPEN_SHARDS
 few_made count h = omega (arith, h.1, open_first 0 1 (uniform count), length_uniform (2 ^ 128 / count) 0 count)
 
-pub new_stream : (s : ℕ) (name : List ℕ) (made count : ℕ) (tree : List ShardState) (logs : List LogValue) (windows : List WindowValue) (cut cut_before : Option ℕ) → IsShardCount count → tree ≡ made_shards count 1 → logs ≡ replicate count empty_log → length windows ≡ count → AllByRecursion IsUnused windows → cut ≡ cut_at made FIRST_HOURS → cut_before ≡ cut_at made FIRST_HOURS
-    → IsStream (record { no = s; name = name; made = made; hours = FIRST_HOURS; tree = tree; logs = logs; windows = windows; enforced = false; next = 1; clock = made; cut = cut; clock_before = made; cut_before = cut_before; turn = 0 })
+-- a stream as it is made
+abbrev pub new_value : ℕ → ℕ → List ℕ → List ShardState → List LogValue → List WindowValue → Option ℕ → Option ℕ → StreamValue
+new_value s made name tree logs windows cut cut_before = record {
+  no = s;
+  name = name;
+  made = made;
+  hours = FIRST_HOURS;
+  tree = tree;
+  logs = logs;
+  windows = windows;
+  enforced = false;
+  next = 1;
+  clock = made;
+  cut = cut;
+  clock_before = made;
+  cut_before = cut_before;
+  turn = 0;
+}
+
+pub new_stream : (s : ℕ) (name : List ℕ) (made count : ℕ) (tree : List ShardState) (logs : List LogValue) (windows : List WindowValue)
+    → (cut cut_before : Option ℕ) → IsShardCount count → tree ≡ made_shards count 1 → logs ≡ replicate count empty_log
+    → length windows ≡ count → AllByRecursion IsUnused windows → cut ≡ cut_at made FIRST_HOURS → cut_before ≡ cut_at made FIRST_HOURS
+    → IsStream (new_value s made name tree logs windows cut cut_before)
 new_stream s name made count tree logs windows cut cut_before counted shards_are logs_are many unused is is_before = record {
   as_many = ap length logs_are ∙ length-replicate count empty_log ∙ sym (length-made count 1) ∙ ap length (sym shards_are);
   few = subst (λ (xs : List ShardState). length (filter is_open xs) ≤ OPEN_SHARDS) (sym shards_are) (few_made count counted);
@@ -81,8 +104,9 @@ module _ (log : Journal) (by s : ℕ) (name : List ℕ) (made count : ℕ) (fres
       ∙ sym (cut_floor made FIRST_HOURS)
       ∙ ap floor_of (sym is)
 
-  pub shows_new : (tree : List ShardState) (logs : List LogValue) (windows : List WindowValue) (cut cut_before : Option ℕ) → tree ≡ made_shards count 1 → logs ≡ replicate count empty_log → AllByRecursion IsUnused windows → cut ≡ cut_at made FIRST_HOURS
-      → Shows (record { no = s; name = name; made = made; hours = FIRST_HOURS; tree = tree; logs = logs; windows = windows; enforced = false; next = 1; clock = made; cut = cut; clock_before = made; cut_before = cut_before; turn = 0 }) (plain_line made by (entry.Made s name count) ∷ log)
+  pub shows_new : (tree : List ShardState) (logs : List LogValue) (windows : List WindowValue) (cut cut_before : Option ℕ) → tree ≡ made_shards count 1
+      → logs ≡ replicate count empty_log → AllByRecursion IsUnused windows → cut ≡ cut_at made FIRST_HOURS
+      → Shows (new_value s made name tree logs windows cut cut_before) (plain_line made by (entry.Made s name count) ∷ log)
   shows_new tree logs windows cut cut_before shards_are logs_are unused is = record {
     live = or_left (s == s) (is_live log s) (is_itself s);
     was = or_left (s == s) (was_made log s) (is_itself s);
@@ -92,7 +116,14 @@ module _ (log : Journal) (by s : ℕ) (name : List ℕ) (made count : ℕ) (fres
     shards_are = chosen (s == s) _ (shards log s) (is_itself s) ∙ ap (made_shards count) drawn ∙ sym shards_are;
     next_is = drawn;
     floor_is = floor_made cut is;
-    kept = subst (AreKept (floor_of cut) (plain_line made by (entry.Made s name count) ∷ log) s 0) (sym logs_are) (kept_none (floor_of cut) (plain_line made by (entry.Made s name count) ∷ log) s 0 count fresh.no_records);
+    kept =
+        subst (AreKept (floor_of cut) (plain_line made by (entry.Made s name count) ∷ log) s 0) (sym logs_are)
+        (kept_none (floor_of cut) (plain_line made by (entry.Made s name count) ∷ log) s 0 count fresh.no_records);
     none_beyond = λ sh beyond. fresh.no_records sh;
-    rates = record { enforced_is = fresh.not_enforced; stand = stand_unused (puts log s) 0 windows unused (λ sh any. fresh.no_puts sh); none_beyond = λ sh beyond. fresh.no_puts sh };
+    rates =
+        record {
+          enforced_is = fresh.not_enforced;
+          stand = stand_unused (puts log s) 0 windows unused (λ sh any. fresh.no_puts sh);
+          none_beyond = λ sh beyond. fresh.no_puts sh;
+        };
   }

@@ -33,12 +33,6 @@ use Rattle.kds_stream.specs.Showing.{AreKept, IsKept, Shows}
 use Rattle.kds_stream_logs.specs.Logs.{HasArrived, IsBelow, IsUnder, with_appended}
 use Rattle.kds_stream.specs.Value.{EndsUnder, IsClosedUnder, IsStream, StreamValue}
 
--- ---- a number and itself
-
-    by : (b : Bool) → (n == m) ≡ b → b ≡ false
-    by true e = absurd (h (same n m e))
-    by false e = refl
-
 -- ---- what a call owes, of one of two equal values
 
 pub led_along : (decided : StreamValue → Decision) (u u' w : StreamValue) (log : Journal) (a : Result Reply Refusal) → u ≡ u' → (a ≡ answer_of (decided u)) × Shows w (with_lines (lines_of (decided u)) log) → (a ≡ answer_of (decided u')) × Shows w (with_lines (lines_of (decided u')) log)

@@ -44,28 +44,6 @@ pub record Shows (v : StreamValue) (log : Journal) : Type 0 where
   pub none_beyond : (sh : ℕ) → length v.tree ≤ sh → records log v.no sh ≡ []
   pub rates : ShowsRates log v.no v.enforced (length v.tree) v.windows
 
--- no line of the journal speaks of this stream
-pub record IsFresh (log : Journal) (s : ℕ) : Type 0 where
-  pub gone : is_live log s ≡ false
-  pub unmade : was_made log s ≡ false
-  pub undrawn : next_number log s ≡ 1
-  pub no_floor : floor_of_lines log s ≡ 0
-  pub no_shards : shards log s ≡ []
-  pub no_records : (sh : ℕ) → records log s sh ≡ []
-  pub no_puts : (sh : ℕ) → puts log s sh ≡ []
-  pub not_enforced : is_enforced log s ≡ false
-
--- the stream that an entry speaks of, if it isn't of a lease
-abbrev pub stream_of : Entry → Option ℕ
-stream_of (entry.Made s name count) = Some s
-stream_of (entry.Gone s) = Some s
-stream_of (entry.Put s sh number hash bytes key_bytes) = Some s
-stream_of (entry.Split s sh at number low high) = Some s
-stream_of (entry.Merged s sh other number child) = Some s
-stream_of (entry.Kept s hours) = Some s
-stream_of (entry.Enforced s on) = Some s
-stream_of _ = None
-
 -- what a call that made one stream of another answered is the decision at it, of every journal that it showed; and it
 -- shows the journal with the decision's lines
 abbrev pub Decides : StreamValue → StreamValue → Result Reply Refusal → (Journal → ℕ → Decision) → Type 0

@@ -4,5 +4,5 @@
 mod laws;
 mod stream;
 
-pub use laws::{fresh, other_lines};
+pub use laws::other_lines;
 pub use stream::Stream;

@@ -6,7 +6,8 @@ ghost use Rattle.kds_defs.specs.declared.limits.TheConstants.{FIRST_HOURS};
 ghost use Rattle.kds_defs.specs.Journal.{Journal, plain_line};
 ghost use Rattle.kds_defs.specs.Lawful.{IsShardCount};
 ghost use Rattle.kds_defs.specs.Shards.{is_open};
-ghost use Rattle.kds_stream.specs.Showing.{IsFresh, Shows};
+ghost use Rattle.kds_defs.specs.Subjects.{IsFresh};
+ghost use Rattle.kds_stream.specs.Showing.{Shows};
 
 mod about;
 mod clock;

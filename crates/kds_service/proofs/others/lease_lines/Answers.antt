@@ -2,4 +2,4 @@ use Rattle.kds_service.proofs.Lives.{shows_lease}
 use Rattle.kds_service.proofs.others.lease_lines.Goals as goal
 
 pub returns : goal.returns
-returns c = λ w log line all clock none. shows_lease w line log c.other_lines.ensures c.fresh.ensures.other all clock none
+returns c = λ w log line all clock none. shows_lease w line log c.other_lines.ensures all clock none
