@@ -1,39 +1,34 @@
 -- The lines that a command of the stream service adds depend on the stream lines alone, clocks aside.
 use Rattle.std.proofs.Common.{◌≡◌, ℕ, ◌+◌, ◌<◌, ◌≤◌, max, Bool, true, false, List, [], ◌∷◌, length, Option, Some, None, refl, sym, ap, subst, ◌∙◌, arith}
-use Rattle.std.specs.Prelude.{◌==◌, ◌&&◌, ◌||◌, not, nat_le, nat_lt, map, cond, is_some, if◌then◌else◌}
+use Rattle.std.specs.Prelude.{Result, ◌==◌, ◌&&◌, ◌||◌, not, nat_le, nat_lt, map, cond, is_some, if◌then◌else◌}
 use Rattle.std.specs.List.{filter, AllByRecursion}
 use Rattle.std.proofs.lemmas.List.{length-map}
 use Rattle.kds_base.specs.Span.{is_inside, are_adjacent}
 use Rattle.kds_defs.specs.declared.command.Command.{Command}
 use Rattle.kds_defs.specs.declared.command.Command.TheVariants as command
 use Rattle.kds_defs.specs.declared.command.NewItem.{NewItem}
-use Rattle.kds_defs.specs.declared.command.Start.{Start}
-use Rattle.kds_defs.specs.declared.command.Target.{Target}
-use Rattle.kds_defs.specs.declared.command.Target.TheVariants as target
 use Rattle.kds_defs.specs.declared.command.Turn.{Turn}
 use Rattle.kds_defs.specs.declared.entry.Entry.{Entry}
 use Rattle.kds_defs.specs.declared.entry.Entry.TheVariants as entry
 use Rattle.kds_defs.specs.declared.limits.TheConstants.{LIVE_STREAMS, OPEN_SHARDS}
-use Rattle.kds_defs.specs.declared.reply.Iter.{Iter}
-use Rattle.kds_defs.specs.declared.reply.Page.{Page}
 use Rattle.kds_defs.specs.declared.reply.Refusal.{Refusal}
 use Rattle.kds_defs.specs.declared.reply.Reply.{Reply}
 use Rattle.kds_defs.specs.Decision.{Decision, Accepted, refuse◌if◌else◌, with◌or◌then◌}
 use Rattle.kds_defs.specs.Histories.{decide, decision, lines_of, journal, clock, with_stream}
 use Rattle.kds_defs.specs.Journal.{Line, Journal, with_lines, plain_line}
-use Rattle.kds_defs.specs.Kinds.{is_service}
+use Rattle.kds_defs.specs.Kinds.{is_query, is_service}
 use Rattle.kds_defs.specs.Lawful.{IsHistory, item_bytes}
-use Rattle.kds_defs.specs.LeaseCommands.{with_tenure, with_held, past_parent, past_parents, past_target}
-use Rattle.kds_defs.specs.Leases.{TenureState}
 use Rattle.kds_defs.specs.Legal.{IsReached}
-use Rattle.kds_defs.specs.Listings.{more, get_iterator, get_records}
+use Rattle.kds_defs.specs.Listings.{more}
 use Rattle.kds_defs.specs.Records.{next_number}
-use Rattle.kds_defs.specs.Shards.{ShardState, shards, shard_at, range_of, is_listed, open_count, home}
+use Rattle.kds_defs.specs.Shards.{shards, shard_at, range_of, is_listed, open_count, home}
 use Rattle.kds_defs.specs.PutCommands.{enforced_after, is_enforced, is_held_back, put, put_lines, put_many}
 use Rattle.kds_defs.specs.Rates.{is_throttled, puts}
 use Rattle.kds_defs.specs.StreamCommands.{create, put_line, split, merge, keep, is_open_at, last_number}
 use Rattle.kds_defs.specs.Streams.{made_count, live_streams, stream_named}
+use Rattle.kds_defs.proofs.Walk.{Outcome, IsAdded, Alone, Refuses, Answers, Adds, Creates, Enforces, each_line, walk}
 use Rattle.kcl_drill.specs.Apart.{AreBasic, LEAST_RETENTION, is_basic, is_stream_entry, stream_lines, service_turns}
+use Rattle.kcl_drill.proofs.Inner.{lease_basic}
 use Rattle.kcl_drill.proofs.Readings.{enforced_same, forget, kept, made_count_same, hours_same, next_number_same, home_same, length_same, range_same, open_same, live_same, named_same, open_count_same, IsYoung, young_if_legal, listed_same}
 
 -- the line turns limits on throughput on or off
@@ -53,7 +48,8 @@ if_same f r r' true false d d' is so = absurd cc
 if_same f r r' false true d d' is so = absurd cc
 if_same f r r' false false d d' is so = so
 
-with_same : {A : Type 0} (f : ℕ → ℕ) (o o' : Option A) (r : Refusal) (d d' : A → Decision) → o ≡ o' → ((x : A) → AddsSame f (d x) (d' x)) → AddsSame f (with o or r then d) (with o' or r then d')
+with_same : {A : Type 0} (f : ℕ → ℕ) (o o' : Option A) (r : Refusal) (d d' : A → Decision) → o ≡ o' → ((x : A) → AddsSame f (d x) (d' x))
+    → AddsSame f (with o or r then d) (with o' or r then d')
 unfolding with◌or◌then◌ AddsSame
 with_same f None None r d d' is so = refl
 with_same f None (Some x) r d d' is so = absurd cc
@@ -64,40 +60,21 @@ lines_same : (f : ℕ → ℕ) (ls ls' : List Line) (r r' : Reply) → map (forg
 unfolding AddsSame
 lines_same f ls ls' r r' is = is
 
--- nothing is added
-pub IsIdle : Decision → Type 0
-IsIdle d = lines_of d ≡ []
+-- what asks the service and changes nothing adds no line
+query_idle : (log : Journal) (c by : ℕ) (what : Command) (lines : List Line) (answer : Result Reply Refusal) → Outcome log c by what lines answer
+    → is_query what ≡ true → lines ≡ []
+query_idle log c by _ _ _ (Refuses what r may) query = refl
+query_idle log c by _ _ _ (Answers what r shows) query = refl
+query_idle log c by _ _ _ (Adds _ _ _ (Creates name count fits)) query = absurd cc
+query_idle log c by _ _ _ _ query = absurd cc
 
-pub idle : (r : Reply) → IsIdle (Accepted [] r)
-unfolding IsIdle
-idle r = refl
-
-pub idle_lines : (d : Decision) → IsIdle d → lines_of d ≡ []
-unfolding IsIdle
-idle_lines d is = is
-
-pub idle_if : (r : Refusal) (b : Bool) (d : Decision) → IsIdle d → IsIdle (refuse r if b else d)
-unfolding refuse◌if◌else◌ IsIdle
-idle_if r true d so = refl
-idle_if r false d so = so
-
-pub idle_with : {A : Type 0} (o : Option A) (r : Refusal) (d : A → Decision) → ((x : A) → IsIdle (d x)) → IsIdle (with o or r then d)
-unfolding with◌or◌then◌ IsIdle
-idle_with None r d so = refl
-idle_with (Some x) r d so = so x
-
-idle_same : (f : ℕ → ℕ) (d d' : Decision) → IsIdle d → IsIdle d' → AddsSame f d d'
-unfolding AddsSame IsIdle
-idle_same f d d' is is' = ap (map (forget f)) (is ∙ sym is')
-
-more_idle : (log : Journal) (c : ℕ) (page : Page) (limit : ℕ) → IsIdle (more log c page limit)
-more_idle log c page limit = idle_if _ _ _ (idle_if _ _ _ (idle _))
-
-pub iterator_idle : (log : Journal) (c s sh : ℕ) (from : Start) → IsIdle (get_iterator log c s sh from)
-iterator_idle log c s sh from = idle_if _ _ _ (idle_with _ _ _ (λ x. idle_if _ _ _ (idle _)))
-
-pub records_idle : (log : Journal) (c : ℕ) (iter : Iter) (limit : ℕ) → IsIdle (get_records log c iter limit)
-records_idle log c iter limit = idle_if _ _ _ (idle_if _ _ _ (idle_if _ _ _ (idle _)))
+queries_same : (f : ℕ → ℕ) (log log' : Journal) (c c' by by' : ℕ) (what : Command) → is_query what ≡ true
+    → AddsSame f (decide log c by what) (decide log' c' by' what)
+unfolding AddsSame
+queries_same f log log' c c' by by' what query =
+    let none = query_idle log c by what _ _ (walk log c by what) query in
+    let none' = query_idle log' c' by' what _ _ (walk log' c' by' what) query in
+    ap (map (forget f)) (none ∙ sym none')
 
 -- ---- no limits are on
 
@@ -121,24 +98,69 @@ abbrev put_next : Journal → ℕ → ℕ → ℕ → NewItem → Line
 put_next log c by s item = put_line log c by s (next_number log s) item
 
 -- the lines of an item that isn't held back, and of those that follow
-taken : (log : Journal) (c by s : ℕ) (item : NewItem) (items : List NewItem) → IsCalm log → put_lines log c by s (item ∷ items) ≡ put_next log c by s item ∷ put_lines (put_next log c by s item ∷ log) c by s items
+taken : (log : Journal) (c by s : ℕ) (item : NewItem) (items : List NewItem) → IsCalm log
+    → put_lines log c by s (item ∷ items) ≡ put_next log c by s item ∷ put_lines (put_next log c by s item ∷ log) c by s items
 taken log c by s item items calm =
-    ap (λ b. if b then put_lines log c by s items else put_next log c by s item ∷ put_lines (put_next log c by s item ∷ log) c by s items) (not_held log c s item calm)
+    ap (λ b. if b then put_lines log c by s items else put_next log c by s item ∷ put_lines (put_next log c by s item ∷ log) c by s items)
+    (not_held log c s item calm)
 
 module _ (f : ℕ → ℕ) (c by by' : ℕ) (alike : f by ≡ by') (again : f by ≡ f by') where
   line_same : (log : Journal) (s : ℕ) (item : NewItem) → forget f (put_next log c by s item) ≡ put_next (kept f log) 0 by' s item
   line_same log s item =
-      ap (λ sh. record { clock = 0; by = f by; what = entry.Put s sh (next_number log s) item.hash (length item.payload) (length item.key); key = item.key; payload = item.payload }) (home_same f log s item.hash)
-      ∙ ap (λ n. record { clock = 0; by = f by; what = entry.Put s (home (kept f log) s item.hash) n item.hash (length item.payload) (length item.key); key = item.key; payload = item.payload }) (next_number_same f log s)
-      ∙ ap (λ n. record { clock = 0; by = n; what = entry.Put s (home (kept f log) s item.hash) (next_number (kept f log) s) item.hash (length item.payload) (length item.key); key = item.key; payload = item.payload }) alike
+      ap (λ sh. record {
+        clock = 0;
+        by = f by;
+        what = entry.Put s sh (next_number log s) item.hash (length item.payload)
+            (length item.key);
+        key = item.key;
+        payload = item.payload;
+      }) (home_same f log s item.hash)
+      ∙ ap (λ n. record {
+        clock = 0;
+        by = f by;
+        what = entry.Put s (home (kept f log) s item.hash) n item.hash (length item.payload)
+            (length item.key);
+        key = item.key;
+        payload = item.payload;
+      }) (next_number_same f log s)
+      ∙ ap (λ n. record {
+        clock = 0;
+        by = n;
+        what = entry.Put s (home (kept f log) s item.hash) (next_number (kept f log) s) item.hash (length item.payload)
+            (length item.key);
+        key = item.key;
+        payload = item.payload;
+      }) alike
 
   line_same_twice : (log : Journal) (s : ℕ) (item : NewItem) → forget f (put_next log c by s item) ≡ forget f (put_next (kept f log) 0 by' s item)
   line_same_twice log s item =
-      ap (λ sh. record { clock = 0; by = f by; what = entry.Put s sh (next_number log s) item.hash (length item.payload) (length item.key); key = item.key; payload = item.payload }) (home_same f log s item.hash)
-      ∙ ap (λ n. record { clock = 0; by = f by; what = entry.Put s (home (kept f log) s item.hash) n item.hash (length item.payload) (length item.key); key = item.key; payload = item.payload }) (next_number_same f log s)
-      ∙ ap (λ n. record { clock = 0; by = n; what = entry.Put s (home (kept f log) s item.hash) (next_number (kept f log) s) item.hash (length item.payload) (length item.key); key = item.key; payload = item.payload }) again
+      ap (λ sh. record {
+        clock = 0;
+        by = f by;
+        what = entry.Put s sh (next_number log s) item.hash (length item.payload)
+            (length item.key);
+        key = item.key;
+        payload = item.payload;
+      }) (home_same f log s item.hash)
+      ∙ ap (λ n. record {
+        clock = 0;
+        by = f by;
+        what = entry.Put s (home (kept f log) s item.hash) n item.hash (length item.payload)
+            (length item.key);
+        key = item.key;
+        payload = item.payload;
+      }) (next_number_same f log s)
+      ∙ ap (λ n. record {
+        clock = 0;
+        by = n;
+        what = entry.Put s (home (kept f log) s item.hash) (next_number (kept f log) s) item.hash (length item.payload)
+            (length item.key);
+        key = item.key;
+        payload = item.payload;
+      }) again
 
-  pub put_lines_same : (items : List NewItem) (log : Journal) (s : ℕ) → IsCalm log → map (forget f) (put_lines log c by s items) ≡ map (forget f) (put_lines (kept f log) 0 by' s items)
+  pub put_lines_same : (items : List NewItem) (log : Journal) (s : ℕ) → IsCalm log
+      → map (forget f) (put_lines log c by s items) ≡ map (forget f) (put_lines (kept f log) 0 by' s items)
   put_lines_same [] log s calm = refl
   put_lines_same (item ∷ items) log s calm =
       let line = put_next log c by s item in
@@ -157,13 +179,18 @@ same_length f ls ls' is = sym (length-map ls (forget f)) ∙ ap length is ∙ le
 abbrev line_of : ℕ → Entry → Journal
 line_of by e = plain_line 0 by e ∷ []
 
-module _ (f : ℕ → ℕ) (log : Journal) (c by by' : ℕ) (young : IsYoung log) (calm : IsCalm log) (below : c < LEAST_RETENTION) (kept_by : f by ≡ by') (alike : f by ≡ f by') where
+module _ (f : ℕ → ℕ) (log : Journal) (c by by' : ℕ) (young : IsYoung log) (calm : IsCalm log) (below : c < LEAST_RETENTION) (kept_by : f by ≡ by')
+    (alike : f by ≡ f by') where
   create_same : (name : List ℕ) (count : ℕ) → AddsSame f (create log c by name count) (create (kept f log) 0 by' name count)
   create_same name count =
       if_same _ _ _ _ _ _ _ (ap is_some (named_same f log name))
-      (if_same _ _ _ _ _ _ _ (ap (λ ss. nat_le LIVE_STREAMS (length ss) || nat_lt OPEN_SHARDS (open_count log + count)) (live_same f log) ∙ ap (λ n. nat_le LIVE_STREAMS (length (live_streams (kept f log))) || nat_lt OPEN_SHARDS (n + count)) (open_count_same f log))
+      (if_same _ _ _ _ _ _ _
+      (ap (λ ss. nat_le LIVE_STREAMS (length ss) || nat_lt OPEN_SHARDS (open_count log + count)) (live_same f log)
+      ∙ ap (λ n. nat_le LIVE_STREAMS (length (live_streams (kept f log))) || nat_lt OPEN_SHARDS (n + count)) (open_count_same f log))
       (if_same _ _ _ _ _ _ _ (ap (λ n. n == last_number) (made_count_same f log))
-      (lines_same _ _ _ _ _ (ap (λ n. line_of (f by) (entry.Made (n + 1) name count)) (made_count_same f log) ∙ ap (λ n. line_of n (entry.Made (made_count (kept f log) + 1) name count)) alike))))
+      (lines_same _ _ _ _ _
+      (ap (λ n. line_of (f by) (entry.Made (n + 1) name count)) (made_count_same f log)
+      ∙ ap (λ n. line_of n (entry.Made (made_count (kept f log) + 1) name count)) alike))))
 
   put_same : (s : ℕ) (item : NewItem) → AddsSame f (put log c by s item) (put (kept f log) 0 by' s item)
   put_same s item =
@@ -190,7 +217,9 @@ module _ (f : ℕ → ℕ) (log : Journal) (c by by' : ℕ) (young : IsYoung log
       (if_same _ _ _ _ _ _ _ (ap not (open_same f log s sh))
       (if_same _ _ _ _ _ _ _ (ap (λ r. not (is_inside r at)) (range_same f log s sh))
       (if_same _ _ _ _ _ _ _ (ap (nat_le OPEN_SHARDS) (open_count_same f log))
-      (if_same _ _ _ _ _ _ _ (ap (λ n. nat_lt last_number (n + 1) || next_number log s == last_number) count ∙ ap (λ n. nat_lt last_number (length (shards S s) + 1) || n == last_number) number)
+      (if_same _ _ _ _ _ _ _
+      (ap (λ n. nat_lt last_number (n + 1) || next_number log s == last_number) count
+      ∙ ap (λ n. nat_lt last_number (length (shards S s) + 1) || n == last_number) number)
       (lines_same _ _ _ _ _ (ap (λ n. line_of (f by) (entry.Split s sh at n (length (shards log s)) (length (shards log s) + 1))) number
       ∙ ap (λ n. line_of (f by) (entry.Split s sh at (next_number S s) n (n + 1))) count
       ∙ ap (λ n. line_of n (entry.Split s sh at (next_number S s) (length (shards S s)) (length (shards S s) + 1))) alike))))))
@@ -201,18 +230,25 @@ module _ (f : ℕ → ℕ) (log : Journal) (c by by' : ℕ) (young : IsYoung log
       let count = length_same f log s in
       let number = next_number_same f log s in
       if_same _ _ _ _ _ _ _ (ap (λ b. not (b && is_listed log c s other)) (listed s sh) ∙ ap (λ b. not (is_listed S 0 s sh && b)) (listed s other))
-      (if_same _ _ _ _ _ _ _ (ap (λ b. not (b && is_open_at (shard_at log s other))) (open_same f log s sh) ∙ ap (λ b. not (is_open_at (shard_at S s sh) && b)) (open_same f log s other))
-      (if_same _ _ _ _ _ _ _ (ap (λ r. not (are_adjacent r (range_of (shard_at log s other)))) (range_same f log s sh) ∙ ap (λ r. not (are_adjacent (range_of (shard_at S s sh)) r)) (range_same f log s other))
-      (if_same _ _ _ _ _ _ _ (ap (λ n. nat_lt last_number n || next_number log s == last_number) count ∙ ap (λ n. nat_lt last_number (length (shards S s)) || n == last_number) number)
+      (if_same _ _ _ _ _ _ _
+      (ap (λ b. not (b && is_open_at (shard_at log s other))) (open_same f log s sh)
+      ∙ ap (λ b. not (is_open_at (shard_at S s sh) && b)) (open_same f log s other))
+      (if_same _ _ _ _ _ _ _
+      (ap (λ r. not (are_adjacent r (range_of (shard_at log s other)))) (range_same f log s sh)
+      ∙ ap (λ r. not (are_adjacent (range_of (shard_at S s sh)) r)) (range_same f log s other))
+      (if_same _ _ _ _ _ _ _
+      (ap (λ n. nat_lt last_number n || next_number log s == last_number) count ∙ ap (λ n. nat_lt last_number (length (shards S s)) || n == last_number) number)
       (lines_same _ _ _ _ _ (ap (λ n. line_of (f by) (entry.Merged s sh other n (length (shards log s)))) number
       ∙ ap (λ n. line_of (f by) (entry.Merged s sh other (next_number S s) n)) count
       ∙ ap (λ n. line_of n (entry.Merged s sh other (next_number S s) (length (shards S s)))) alike)))))
 
   keep_same : (s wanted : ℕ) (raise : Bool) → AddsSame f (keep log c by s wanted raise) (keep (kept f log) 0 by' s wanted raise)
   keep_same s wanted raise =
-      if_same _ _ _ _ _ _ _ (ap (λ n. if raise then nat_lt wanted n else nat_lt n wanted) (hours_same f log s)) (lines_same _ _ _ _ _ (ap (λ n. line_of n (entry.Kept s wanted)) alike))
+      if_same _ _ _ _ _ _ _ (ap (λ n. if raise then nat_lt wanted n else nat_lt n wanted) (hours_same f log s))
+      (lines_same _ _ _ _ _ (ap (λ n. line_of n (entry.Kept s wanted)) alike))
 
-  in_stream_same : (name : List ℕ) (d d' : ℕ → Decision) → ((s : ℕ) → AddsSame f (d s) (d' s)) → AddsSame f (with_stream log name d) (with_stream (kept f log) name d')
+  in_stream_same : (name : List ℕ) (d d' : ℕ → Decision) → ((s : ℕ) → AddsSame f (d s) (d' s))
+      → AddsSame f (with_stream log name d) (with_stream (kept f log) name d')
   in_stream_same name d d' so = with_same _ (stream_named log name) _ _ d d' (named_same f log name) so
 
   pub decide_same : (what : Command) → is_service what ≡ true → is_basic what ≡ true → AddsSame f (decide log c by what) (decide (kept f log) 0 by' what)
@@ -223,16 +259,9 @@ module _ (f : ℕ → ℕ) (log : Journal) (c by by' : ℕ) (young : IsYoung log
   decide_same (command.Split name sh at) is basic = in_stream_same name _ _ (λ s. split_same s sh at)
   decide_same (command.Merge name sh other) is basic = in_stream_same name _ _ (λ s. merge_same s sh other)
   decide_same (command.Keep name wanted raise) is basic = in_stream_same name _ _ (λ s. keep_same s wanted raise)
-  decide_same (command.Streams after limit) is basic = lines_same _ _ _ _ _ refl
-  decide_same (command.Describe name after limit) is basic = in_stream_same name _ _ (λ s. lines_same _ _ _ _ _ refl)
-  decide_same (command.Summary name) is basic = in_stream_same name _ _ (λ s. lines_same _ _ _ _ _ refl)
-  decide_same (command.Shards name after limit) is basic = in_stream_same name _ _ (λ s. lines_same _ _ _ _ _ refl)
-  decide_same (command.More page limit) is basic = idle_same _ _ _ (more_idle log c page limit) (more_idle (kept f log) 0 page limit)
-  decide_same (command.GetIterator name sh from) is basic = in_stream_same name _ _ (λ s. idle_same _ _ _ (iterator_idle log c s sh from) (iterator_idle (kept f log) 0 s sh from))
-  decide_same (command.Records iter limit) is basic = idle_same _ _ _ (records_idle log c iter limit) (records_idle (kept f log) 0 iter limit)
   decide_same (command.Scale name target) is basic = absurd cc
   decide_same (command.Enforce name on) is basic = absurd cc
-  decide_same _ is basic = absurd cc
+  decide_same what is basic = queries_same f log (kept f log) c 0 by by' what cc
 
 -- ---- the kind of the lines that a command adds
 
@@ -240,85 +269,22 @@ module _ (f : ℕ → ℕ) (log : Journal) (c by by' : ℕ) (young : IsYoung log
 abbrev AreOf : Bool → List Line → Type 0
 AreOf b ls = AllByRecursion (λ l. (is_stream_entry l.what ≡ b) × (is_limit l.what ≡ false)) ls
 
-AddsOnly : Bool → Decision → Type 0
-AddsOnly b d = AreOf b (lines_of d)
+kind : (log : Journal) (c by : ℕ) (what : Command) (line : Line) → IsAdded log c by what line → is_basic what ≡ true
+    → (is_stream_entry line.what ≡ is_service what) × (is_limit line.what ≡ false)
+kind log c by _ _ (Alone _ _ _ (Creates name count fits)) basic = (refl, refl)
+kind log c by _ _ (Alone _ _ _ (Enforces name on s named)) basic = absurd cc
+kind log c by _ _ _ basic = (refl, refl)
 
-only : (b : Bool) (ls : List Line) (r : Reply) → AreOf b ls → AddsOnly b (Accepted ls r)
-unfolding AddsOnly
-only b ls r are = are
+-- a basic command adds lines of its own kind
+adds_kind : (log : Journal) (c by : ℕ) (what : Command) → is_basic what ≡ true → AreOf (is_service what) (lines_of (decide log c by what))
+adds_kind log c by what basic =
+    each_line (λ l. (is_stream_entry l.what ≡ is_service what) × (is_limit l.what ≡ false)) log c by what (λ line added. kind log c by what line added basic)
 
-only_if : (k : Bool) (r : Refusal) (b : Bool) (d : Decision) → AddsOnly k d → AddsOnly k (refuse r if b else d)
-unfolding refuse◌if◌else◌ AddsOnly
-only_if k r true d so = tt
-only_if k r false d so = so
+service_adds : (log : Journal) (c by : ℕ) (what : Command) → is_service what ≡ true → is_basic what ≡ true → AreOf true (lines_of (decide log c by what))
+service_adds log c by what is basic = subst (λ b. AreOf b (lines_of (decide log c by what))) is (adds_kind log c by what basic)
 
-only_with : {A : Type 0} (k : Bool) (o : Option A) (r : Refusal) (d : A → Decision) → ((x : A) → AddsOnly k (d x)) → AddsOnly k (with o or r then d)
-unfolding with◌or◌then◌ AddsOnly
-only_with k None r d so = tt
-only_with k (Some x) r d so = so x
-
-puts_only : (items : List NewItem) (log : Journal) (c by s : ℕ) → AreOf true (put_lines log c by s items)
-puts_only [] log c by s = tt
-puts_only (item ∷ items) log c by s = either (is_held_back log c s item) (puts_only items log c by s) (puts_only items (put_next log c by s item ∷ log) c by s)
-  where
-    either : (b : Bool) → AreOf true (put_lines log c by s items) → AreOf true (put_lines (put_next log c by s item ∷ log) c by s items)
-        → AreOf true (if b then put_lines log c by s items else put_next log c by s item ∷ put_lines (put_next log c by s item ∷ log) c by s items)
-    either true skip take = skip
-    either false skip take = ((refl, refl), take)
-
-idle_only : (k : Bool) (d : Decision) → IsIdle d → AddsOnly k d
-unfolding AddsOnly IsIdle
-idle_only k d is = subst (AreOf k) (sym is) tt
-
-service_adds : (log : Journal) (c by : ℕ) (what : Command) → is_service what ≡ true → is_basic what ≡ true → AddsOnly true (decide log c by what)
-service_adds log c by (command.Create name count) is basic = only_if _ _ _ _ (only_if _ _ _ _ (only_if _ _ _ _ (only _ _ _ ((refl, refl), tt))))
-service_adds log c by (command.Delete name) is basic = only_with _ _ _ _ (λ s. only _ _ _ ((refl, refl), tt))
-service_adds log c by (command.Put name item) is basic = only_with _ _ _ _ (λ s. only_if _ _ _ _ (only_if _ _ _ _ (only _ _ _ ((refl, refl), tt))))
-service_adds log c by (command.PutMany name items) is basic = only_with _ _ _ _ (λ s. only_if _ _ _ _ (only _ _ _ (puts_only items log c by s)))
-service_adds log c by (command.Split name sh at) is basic = only_with _ _ _ _ (λ s. only_if _ _ _ _ (only_if _ _ _ _ (only_if _ _ _ _ (only_if _ _ _ _ (only_if _ _ _ _ (only _ _ _ ((refl, refl), tt)))))))
-service_adds log c by (command.Merge name sh other) is basic = only_with _ _ _ _ (λ s. only_if _ _ _ _ (only_if _ _ _ _ (only_if _ _ _ _ (only_if _ _ _ _ (only _ _ _ ((refl, refl), tt))))))
-service_adds log c by (command.Keep name wanted raise) is basic = only_with _ _ _ _ (λ s. only_if _ _ _ _ (only _ _ _ ((refl, refl), tt)))
-service_adds log c by (command.Streams after limit) is basic = only _ _ _ tt
-service_adds log c by (command.Describe name after limit) is basic = only_with _ _ _ _ (λ s. only _ _ _ tt)
-service_adds log c by (command.Summary name) is basic = only_with _ _ _ _ (λ s. only _ _ _ tt)
-service_adds log c by (command.Shards name after limit) is basic = only_with _ _ _ _ (λ s. only _ _ _ tt)
-service_adds log c by (command.More page limit) is basic = idle_only _ _ (more_idle log c page limit)
-service_adds log c by (command.GetIterator name sh from) is basic = only_with _ _ _ _ (λ s. idle_only _ _ (iterator_idle log c s sh from))
-service_adds log c by (command.Records iter limit) is basic = idle_only _ _ (records_idle log c iter limit)
-service_adds log c by (command.Scale name target) is basic = absurd cc
-service_adds log c by (command.Enforce name on) is basic = absurd cc
-service_adds log c by _ is basic = absurd cc
-
-parent_only : (k : Bool) (log : Journal) (c s : ℕ) (parent : Option ℕ) (d : Decision) → AddsOnly k d → AddsOnly k (past_parent log c s parent d)
-parent_only k log c s None d so = so
-parent_only k log c s (Some p) d so = only_if _ _ _ _ so
-
-parents_only : (k : Bool) (log : Journal) (c s : ℕ) (x : Option ShardState) (d : Decision) → AddsOnly k d → AddsOnly k (past_parents log c s x d)
-parents_only k log c s None d so = so
-parents_only k log c s (Some x) d so = parent_only k log c s x.parent _ (parent_only k log c s x.adjacent d so)
-
-target_only : (k : Bool) (log : Journal) (T : TenureState) (to : Target) (d : Decision) → AddsOnly k d → AddsOnly k (past_target log T to d)
-target_only k log T (target.At q) d so = only_if _ _ _ _ (only_if _ _ _ _ (only_if _ _ _ _ so))
-target_only k log T target.End d so = only_if _ _ _ _ so
-
-tenure_only : (k : Bool) (log : Journal) (by t : ℕ) (d : TenureState → Decision) → ((T : TenureState) → AddsOnly k (d T)) → AddsOnly k (with_tenure log by t d)
-tenure_only k log by t d so = only_with _ _ _ _ (λ T. only_if _ _ _ _ (so T))
-
-held_only : (k : Bool) (log : Journal) (by t : ℕ) (d : TenureState → Decision) → ((T : TenureState) → AddsOnly k (d T)) → AddsOnly k (with_held log by t d)
-held_only k log by t d so = tenure_only k log by t _ (λ T. only_if _ _ _ _ (so T))
-
-lease_adds : (log : Journal) (c by : ℕ) (what : Command) → is_service what ≡ false → AddsOnly false (decide log c by what)
-lease_adds log c by command.Survey is = only _ _ _ tt
-lease_adds log c by (command.MakeLease key from) is = only_if _ _ _ _ (only_if _ _ _ _ (only _ _ _ ((refl, refl), tt)))
-lease_adds log c by (command.Take key counter owner) is = only_with _ _ _ _ (λ r. only_if _ _ _ _ (only_if _ _ _ _ (only_if _ _ _ _ (only _ _ _ ((refl, refl), tt)))))
-lease_adds log c by (command.Renew t counter) is = held_only _ log by t _ (λ T. only_if _ _ _ _ (only_if _ _ _ _ (only _ _ _ ((refl, refl), tt))))
-lease_adds log c by (command.Free t counter) is = held_only _ log by t _ (λ T. only_if _ _ _ _ (only_if _ _ _ _ (only _ _ _ ((refl, refl), tt))))
-lease_adds log c by (command.OpenShard t) is = held_only _ log by t _ (λ T. only_if _ _ _ _ (only_if _ _ _ _ (parents_only _ log c _ _ _ (only _ _ _ ((refl, refl), tt)))))
-lease_adds log c by (command.Read t position limit) is = tenure_only _ log by t _ (λ T. only_if _ _ _ _ (only_if _ _ _ _ (only_if _ _ _ _ (only_if _ _ _ _ (only _ _ _ ((refl, refl), tt))))))
-lease_adds log c by (command.Give t) is = tenure_only _ log by t _ (λ T. only_if _ _ _ _ (only _ _ _ ((refl, refl), tt)))
-lease_adds log c by (command.Mark t counter to) is = held_only _ log by t _ (λ T. only_if _ _ _ _ (target_only _ log T to _ (only_if _ _ _ _ (only _ _ _ ((refl, refl), tt)))))
-lease_adds log c by (command.CutLease key counter) is = only_with _ _ _ _ (λ r. only_if _ _ _ _ (only_if _ _ _ _ (only _ _ _ ((refl, refl), tt))))
-lease_adds log c by _ is = absurd cc
+lease_adds : (log : Journal) (c by : ℕ) (what : Command) → is_service what ≡ false → AreOf false (lines_of (decide log c by what))
+lease_adds log c by what is = subst (λ b. AreOf b (lines_of (decide log c by what))) is (adds_kind log c by what (lease_basic what is))
 
 -- lines of streams are added to the stream lines, and others are not
 adds_lines : (f : ℕ → ℕ) (ls : List Line) (log : Journal) → AreOf true ls → kept f (with_lines ls log) ≡ with_lines (map (forget f) ls) (kept f log)
@@ -359,12 +325,15 @@ Reaches = (h : List Turn) → IsHistory h → IsReached (journal h) (clock h)
 
 -- a turn with a basic command turns no limits on
 calm_turn : (turn : Turn) (h : List Turn) → is_basic turn.what ≡ true → IsCalm (journal h) → IsCalm (journal (turn ∷ h))
-unfolding AddsOnly
 calm_turn turn h basic calm = either (is_service turn.what) refl
   where
     either : (b : Bool) → is_service turn.what ≡ b → IsCalm (journal (turn ∷ h))
-    either true is = calm_lines true (lines_of (decision (journal h) (clock (turn ∷ h)) turn)) (journal h) (service_adds (journal h) (clock (turn ∷ h)) turn.by turn.what is basic) calm
-    either false is = calm_lines false (lines_of (decision (journal h) (clock (turn ∷ h)) turn)) (journal h) (lease_adds (journal h) (clock (turn ∷ h)) turn.by turn.what is) calm
+    either true is =
+        calm_lines true (lines_of (decision (journal h) (clock (turn ∷ h)) turn)) (journal h)
+        (service_adds (journal h) (clock (turn ∷ h)) turn.by turn.what is basic) calm
+    either false is =
+        calm_lines false (lines_of (decision (journal h) (clock (turn ∷ h)) turn)) (journal h)
+        (lease_adds (journal h) (clock (turn ∷ h)) turn.by turn.what is) calm
 
 calm_history : (h : List Turn) → AreBasic h → IsCalm (journal h)
 calm_history [] basic = λ s. refl
@@ -377,28 +346,34 @@ module _ (reaches : Reaches) (f : ℕ → ℕ) (once : (n : ℕ) → f n ≡ f (
       young_if_legal (journal h) reached.legal (omega (arith, reached.order, below))
 
   -- a turn of the service adds what its command adds to the stream lines alone, and one of the leases nothing
-  service_turn : (turn : Turn) (h : List Turn) → IsHistory h → AreBasic (turn ∷ h) → clock (turn ∷ h) < LEAST_RETENTION → is_service turn.what ≡ true → kept f (journal (turn ∷ h)) ≡ with_lines (map (forget f) (lines_of (decide (kept f (journal h)) 0 (f turn.by) turn.what))) (kept f (journal h))
-  unfolding AddsSame AddsOnly
+  service_turn : (turn : Turn) (h : List Turn) → IsHistory h → AreBasic (turn ∷ h) → clock (turn ∷ h) < LEAST_RETENTION → is_service turn.what ≡ true
+      → kept f (journal (turn ∷ h)) ≡ with_lines (map (forget f) (lines_of (decide (kept f (journal h)) 0 (f turn.by) turn.what))) (kept f (journal h))
+  unfolding AddsSame
   service_turn turn h lawful basic below is =
-      adds_lines f (lines_of (decision (journal h) (clock (turn ∷ h)) turn)) (journal h) (service_adds (journal h) (clock (turn ∷ h)) turn.by turn.what is basic.0)
-      ∙ ap (λ ls. with_lines ls (kept f (journal h))) (decide_same f (journal h) (clock (turn ∷ h)) turn.by (f turn.by) (young h lawful (omega (arith, below))) (calm_history h basic.1) below refl (once turn.by) turn.what is basic.0)
+      adds_lines f (lines_of (decision (journal h) (clock (turn ∷ h)) turn)) (journal h)
+      (service_adds (journal h) (clock (turn ∷ h)) turn.by turn.what is basic.0)
+      ∙ ap (λ ls. with_lines ls (kept f (journal h)))
+      (decide_same f (journal h) (clock (turn ∷ h)) turn.by (f turn.by) (young h lawful (omega (arith, below))) (calm_history h basic.1) below refl
+      (once turn.by) turn.what is basic.0)
 
   lease_turn : (turn : Turn) (h : List Turn) → is_service turn.what ≡ false → kept f (journal (turn ∷ h)) ≡ kept f (journal h)
-  unfolding AddsOnly
-  lease_turn turn h is = adds_none f (lines_of (decision (journal h) (clock (turn ∷ h)) turn)) (journal h) (lease_adds (journal h) (clock (turn ∷ h)) turn.by turn.what is)
+  lease_turn turn h is =
+      adds_none f (lines_of (decision (journal h) (clock (turn ∷ h)) turn)) (journal h) (lease_adds (journal h) (clock (turn ∷ h)) turn.by turn.what is)
 
   pub left : (h : List Turn) → IsHistory h → AreBasic h → clock h < LEAST_RETENTION → kept f (journal h) ≡ left_by f (asked f h)
   left [] lawful basic below = refl
   left (turn ∷ h) lawful basic below = either (is_service turn.what) refl (left h lawful.1 basic.1 (omega (arith, below)))
     where
-      either : (b : Bool) → is_service turn.what ≡ b → kept f (journal h) ≡ left_by f (asked f h) → kept f (journal (turn ∷ h)) ≡ left_by f (map (λ t. record { by = f t.by; what = t.what }) (cond b (turn ∷ service_turns h) (service_turns h)))
+      either : (b : Bool) → is_service turn.what ≡ b → kept f (journal h) ≡ left_by f (asked f h)
+          → kept f (journal (turn ∷ h)) ≡ left_by f (map (λ t. record { by = f t.by; what = t.what }) (cond b (turn ∷ service_turns h) (service_turns h)))
       either true is so =
           service_turn turn h lawful.1 basic below is
           ∙ ap (λ S. with_lines (map (forget f) (lines_of (decide S 0 (f turn.by) turn.what))) S) so
       either false is so = lease_turn turn h is ∙ so
 
   -- two histories that ask the service the same leave the same stream lines
-  pub same_left : (h h' : List Turn) → IsHistory h → IsHistory h' → AreBasic h → AreBasic h' → clock h < LEAST_RETENTION → clock h' < LEAST_RETENTION → asked f h ≡ asked f h' → kept f (journal h) ≡ kept f (journal h')
+  pub same_left : (h h' : List Turn) → IsHistory h → IsHistory h' → AreBasic h → AreBasic h' → clock h < LEAST_RETENTION → clock h' < LEAST_RETENTION
+      → asked f h ≡ asked f h' → kept f (journal h) ≡ kept f (journal h')
   same_left h h' lawful lawful' basic basic' below below' is = left h lawful basic below ∙ ap (left_by f) is ∙ sym (left h' lawful' basic' below')
 
 -- ---- the turns of the service alone
@@ -431,11 +406,14 @@ pub services_twice : (h : List Turn) → service_turns h ≡ service_turns (serv
 services_twice [] = refl
 services_twice (turn ∷ h) = either (is_service turn.what) refl (services_twice h)
   where
-    either : (b : Bool) → is_service turn.what ≡ b → service_turns h ≡ service_turns (service_turns h) → cond b (turn ∷ service_turns h) (service_turns h) ≡ service_turns (cond b (turn ∷ service_turns h) (service_turns h))
+    either : (b : Bool) → is_service turn.what ≡ b → service_turns h ≡ service_turns (service_turns h)
+        → cond b (turn ∷ service_turns h) (service_turns h) ≡ service_turns (cond b (turn ∷ service_turns h) (service_turns h))
     either true is so = ap (λ ts. turn ∷ ts) so ∙ ap (λ b. cond b (turn ∷ service_turns (service_turns h)) (service_turns (service_turns h))) (sym is)
     either false is so = so
 
-pub alone : Reaches → (h : List Turn) → IsHistory h → AreBasic h → clock h < LEAST_RETENTION → stream_lines (journal h) ≡ stream_lines (journal (service_turns h))
+pub alone : Reaches → (h : List Turn) → IsHistory h → AreBasic h → clock h < LEAST_RETENTION
+    → stream_lines (journal h) ≡ stream_lines (journal (service_turns h))
 alone reaches h lawful basic below =
-    same_left reaches (λ n. n) (λ n. refl) h (service_turns h) lawful (lawful_service h lawful) basic (basic_service h basic) below (omega (arith, below, not_later h))
+    same_left reaches (λ n. n) (λ n. refl) h (service_turns h) lawful (lawful_service h lawful) basic (basic_service h basic) below
+    (omega (arith, below, not_later h))
     (ap (map (λ turn. record { by = turn.by; what = turn.what })) (services_twice h))

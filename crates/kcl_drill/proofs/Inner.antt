@@ -61,14 +61,15 @@ generated_basic : (number records : ℕ) → AreBasicCommands (reverse (generate
 generated_basic number records =
     let rest = from_record 0 records number first_open in
     subst AreBasicCommands (sym (reverse-append (command.Create drill_name FIRST_SHARDS ∷ []) rest))
-    (basic_last (reverse rest) (command.Create drill_name FIRST_SHARDS) (basic_all (reverse rest) (all_reverse rest (generated_inner 0 records number first_open))) refl)
+    (basic_last (reverse rest) (command.Create drill_name FIRST_SHARDS)
+    (basic_all (reverse rest) (all_reverse rest (generated_inner 0 records number first_open))) refl)
 
 turns_basic : (ts : List Turn) → AreBasicCommands (map (λ turn. turn.what) ts) → AreBasic ts
 turns_basic [] are = tt
 turns_basic (turn ∷ ts) are = (are.0, turns_basic ts are.1)
 
 -- a command that does not ask the service is basic
-lease_basic : (what : Command) → is_service what ≡ false → is_basic what ≡ true
+pub lease_basic : (what : Command) → is_service what ≡ false → is_basic what ≡ true
 lease_basic (command.Scale name target) is = absurd cc
 lease_basic (command.Enforce name on) is = absurd cc
 lease_basic _ is = refl
@@ -77,7 +78,8 @@ all_basic : (h : List Turn) → AreBasic (service_turns h) → AreBasic h
 all_basic [] are = tt
 all_basic (turn ∷ h) are = either (is_service turn.what) refl are (all_basic h)
   where
-    either : (b : Bool) → is_service turn.what ≡ b → AreBasic (cond b (turn ∷ service_turns h) (service_turns h)) → (AreBasic (service_turns h) → AreBasic h) → AreBasic (turn ∷ h)
+    either : (b : Bool) → is_service turn.what ≡ b → AreBasic (cond b (turn ∷ service_turns h) (service_turns h)) → (AreBasic (service_turns h) → AreBasic h)
+        → AreBasic (turn ∷ h)
     either true is are rest = (are.0, rest are.1)
     either false is are rest = (lease_basic turn.what is, rest are)
 

@@ -14,6 +14,7 @@ use Rattle.kds_defs.specs.Decision.{Decision, Accepted, refuse◌if◌else◌, w
 use Rattle.kds_defs.specs.Histories.{clock, decide, lines_of, journal}
 use Rattle.kds_defs.specs.Journal.{Line, Journal, with_lines}
 use Rattle.kds_defs.specs.Streams.{made_count, made_count_after, is_live, is_live_after, name_of, name_of_after, numbers_from, same_name, stream_named}
+use Rattle.kds_defs.proofs.Walk.{IsAdded, Alone, Merges, Puts, Splits, each_line}
 use Rattle.kcl_drill.specs.declared.limits.TheConstants.{FIRST_SHARDS}
 use Rattle.kcl_drill.specs.Generated.{drill_name, first_open, generated, from_record}
 use Rattle.kcl_drill.specs.Apart.{LEAST_RETENTION, service_turns}
@@ -36,28 +37,14 @@ is_inner _ = false
 abbrev AreInner : List Line → Type 0
 AreInner ls = AllByRecursion (λ l. is_inner l.what ≡ true) ls
 
-AddsInner : Decision → Type 0
-AddsInner d = AreInner (lines_of d)
+inner_line : (log : Journal) (c by : ℕ) (what : Command) (line : Line) → IsAdded log c by what line → IsInner what → is_inner line.what ≡ true
+inner_line log c by _ _ (Alone _ _ _ (Puts name item s named fits)) is = refl
+inner_line log c by _ _ (Alone _ _ _ (Splits name sh at s named listed fits)) is = refl
+inner_line log c by _ _ (Alone _ _ _ (Merges name sh other s named listed fits)) is = refl
+inner_line log c by _ _ _ is = absurd is
 
-inner : (ls : List Line) (r : Reply) → AreInner ls → AddsInner (Accepted ls r)
-unfolding AddsInner
-inner ls r are = are
-
-inner_if : (r : Refusal) (b : Bool) (d : Decision) → AddsInner d → AddsInner (refuse r if b else d)
-unfolding refuse◌if◌else◌ AddsInner
-inner_if r true d so = tt
-inner_if r false d so = so
-
-inner_with : {A : Type 0} (o : Option A) (r : Refusal) (d : A → Decision) → ((x : A) → AddsInner (d x)) → AddsInner (with o or r then d)
-unfolding with◌or◌then◌ AddsInner
-inner_with None r d so = tt
-inner_with (Some x) r d so = so x
-
-adds_inner : (log : Journal) (c by : ℕ) (what : Command) → IsInner what → AddsInner (decide log c by what)
-adds_inner log c by (command.Put name item) is = inner_with _ _ _ (λ s. inner_if _ _ _ (inner_if _ _ _ (inner _ _ (refl, tt))))
-adds_inner log c by (command.Split name sh at) is = inner_with _ _ _ (λ s. inner_if _ _ _ (inner_if _ _ _ (inner_if _ _ _ (inner_if _ _ _ (inner_if _ _ _ (inner _ _ (refl, tt)))))))
-adds_inner log c by (command.Merge name sh other) is = inner_with _ _ _ (λ s. inner_if _ _ _ (inner_if _ _ _ (inner_if _ _ _ (inner_if _ _ _ (inner _ _ (refl, tt))))))
-adds_inner log c by _ is = absurd is
+adds_inner : (log : Journal) (c by : ℕ) (what : Command) → IsInner what → AreInner (lines_of (decide log c by what))
+adds_inner log c by what is = each_line (λ l. is_inner l.what ≡ true) log c by what (λ line added. inner_line log c by what line added is)
 
 -- ---- the one stream stays
 
@@ -66,7 +53,8 @@ record HasDrill (log : Journal) : Type 0 where
   pub live : is_live log 1 ≡ true
   pub named : name_of log 1 ≡ drill_name
 
-stays_by : (line : Line) (log : Journal) (e : Entry) → line.what ≡ e → is_inner e ≡ true → HasDrill log → (made_count_after e (made_count log) ≡ 1) × (is_live_after e 1 (is_live log 1) ≡ true) × (name_of_after e 1 (name_of log 1) ≡ drill_name)
+stays_by : (line : Line) (log : Journal) (e : Entry) → line.what ≡ e → is_inner e ≡ true → HasDrill log
+    → (made_count_after e (made_count log) ≡ 1) × (is_live_after e 1 (is_live log 1) ≡ true) × (name_of_after e 1 (name_of log 1) ≡ drill_name)
 stays_by line log (entry.Put stream shard seq hash bytes key_bytes) is are has = (has.made, has.live, has.named)
 stays_by line log (entry.Split stream shard at seq low high) is are has = (has.made, has.live, has.named)
 stays_by line log (entry.Merged stream shard other seq child) is are has = (has.made, has.live, has.named)
@@ -85,8 +73,8 @@ first_drill = record { made = refl; live = refl; named = refl }
 abbrev nobodys : Command → Turn
 nobodys what = record { by = 0; at = 0; what = what }
 
-all_stay : (commands : List Command) → AllByRecursion IsInner commands → HasDrill (journal (map nobodys (commands ++ command.Create drill_name FIRST_SHARDS ∷ [])))
-unfolding AddsInner
+all_stay : (commands : List Command) → AllByRecursion IsInner commands
+    → HasDrill (journal (map nobodys (commands ++ command.Create drill_name FIRST_SHARDS ∷ [])))
 all_stay [] are = first_drill
 all_stay (what ∷ commands) are =
     let ts = map nobodys (commands ++ command.Create drill_name FIRST_SHARDS ∷ []) in
@@ -103,9 +91,11 @@ pub drill_named : (number records : ℕ) → stream_named (journal (turns_of (ge
 drill_named number records =
     let rest = from_record 0 records number first_open in
     named_in (journal (turns_of (generated number records)))
-    (subst (λ commands. HasDrill (journal (map nobodys commands))) (sym (reverse-append (command.Create drill_name FIRST_SHARDS ∷ []) rest)) (all_stay (reverse rest) (all_reverse rest (generated_inner 0 records number first_open))))
+    (subst (λ commands. HasDrill (journal (map nobodys commands))) (sym (reverse-append (command.Create drill_name FIRST_SHARDS ∷ []) rest))
+    (all_stay (reverse rest) (all_reverse rest (generated_inner 0 records number first_open))))
 
-pub live_alone : Reaches → (h : List Turn) (number count : ℕ) → IsHistory h → clock h < LEAST_RETENTION → map (λ turn. turn.what) (service_turns h) ≡ reverse (generated number count) → stream_named (journal h) drill_name ≡ Some 1
+pub live_alone : Reaches → (h : List Turn) (number count : ℕ) → IsHistory h → clock h < LEAST_RETENTION
+    → map (λ turn. turn.what) (service_turns h) ≡ reverse (generated number count) → stream_named (journal h) drill_name ≡ Some 1
 live_alone reaches h number count lawful below are =
     named_same nobody (journal h) drill_name
     ∙ ap (λ S. stream_named S drill_name) (asked_alone reaches h number count lawful below are)
