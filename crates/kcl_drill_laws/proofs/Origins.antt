@@ -1,27 +1,23 @@
 -- The rows that the commands of a drill make let reading begin at the trim horizon.
 use Rattle.std.proofs.Common.{◌≡◌, ◌⊎◌, inl, inr, ℕ, Bool, true, false, List, [], ◌∷◌, Option, Some, None, refl, ap}
-use Rattle.std.specs.Prelude.{max, if◌then◌else◌}
+use Rattle.std.specs.Prelude.{if◌then◌else◌}
 use Rattle.std.specs.List.{AllByRecursion}
 use Rattle.kds_base.specs.declared.lease_key.ShardRef.{ShardRef}
 use Rattle.kds_defs.specs.declared.command.Command.{Command}
-use Rattle.kds_defs.specs.declared.command.Command.TheVariants as command
 use Rattle.kds_defs.specs.declared.command.Origin.{Origin}
 use Rattle.kds_defs.specs.declared.command.Origin.TheVariants as origin
-use Rattle.kds_defs.specs.declared.command.Target.{Target}
-use Rattle.kds_defs.specs.declared.command.Target.TheVariants as target
 use Rattle.kds_defs.specs.declared.command.Turn.{Turn}
 use Rattle.kds_defs.specs.declared.entry.Entry.{Entry}
 use Rattle.kds_defs.specs.declared.entry.Entry.TheVariants as entry
-use Rattle.kds_defs.specs.declared.reply.Refusal.{Refusal}
-use Rattle.kds_defs.specs.declared.reply.Reply.{Reply}
 use Rattle.kds_defs.specs.declared.reply.Row.{Row}
-use Rattle.kds_defs.specs.Decision.{Decision, Accepted, refuse◌if◌else◌, with◌or◌then◌}
-use Rattle.kds_defs.specs.Histories.{clock, decide, journal, lines_of}
-use Rattle.kds_defs.specs.Journal.{Line, Journal, with_lines}
+use Rattle.kds_defs.specs.Decision.{refuse◌if◌else◌, with◌or◌then◌}
+use Rattle.kds_defs.specs.Histories.{journal}
+use Rattle.kds_defs.specs.Journal.{Line, Journal}
 use Rattle.kds_defs.specs.Keys.{same_key}
-use Rattle.kds_defs.specs.LeaseCommands.{counting_origin, follows_parent, past_parent, past_parents, past_target, with_held, with_tenure}
-use Rattle.kds_defs.specs.Leases.{TenureState, origin_after, origin_of, row}
-use Rattle.kds_defs.specs.Shards.{ShardState}
+use Rattle.kds_defs.specs.LeaseCommands.{counting_origin, follows_parent}
+use Rattle.kds_defs.specs.Leases.{origin_after, origin_of, row}
+use Rattle.kds_defs.proofs.Walk as walks
+use Rattle.kds_defs.proofs.Walk.{IsAdded, Alone, each_journal}
 use Rattle.kcl_laws.specs.RowLines.{IsToldRow, Making, last_bound, making}
 use Rattle.kcl_drill_laws.specs.Closed.{AreDrillTurns, AreFromHorizon, IsDrillCommand}
 
@@ -33,42 +29,7 @@ IsSoMade _ = Unit {0}
 abbrev AreSoMade : List Line → Type 0
 AreSoMade ls = AllByRecursion (λ line. IsSoMade line.what) ls
 
--- ---- what a decision adds
-
-AddsSo : Decision → Type 0
-AddsSo d = AreSoMade (lines_of d)
-
-so : (ls : List Line) (r : Reply) → AreSoMade ls → AddsSo (Accepted ls r)
-unfolding AddsSo
-so ls r are = are
-
-so_if : (r : Refusal) (b : Bool) (d : Decision) → AddsSo d → AddsSo (refuse r if b else d)
-unfolding refuse◌if◌else◌ AddsSo
-so_if r true d is = tt
-so_if r false d is = is
-
-so_with : {A : Type 0} (o : Option A) (r : Refusal) (d : A → Decision) → ((x : A) → AddsSo (d x)) → AddsSo (with o or r then d)
-unfolding with◌or◌then◌ AddsSo
-so_with None r d is = tt
-so_with (Some x) r d is = is x
-
-so_parent : (log : Journal) (c s : ℕ) (parent : Option ℕ) (d : Decision) → AddsSo d → AddsSo (past_parent log c s parent d)
-so_parent log c s None d is = is
-so_parent log c s (Some p) d is = so_if _ _ _ is
-
-so_parents : (log : Journal) (c s : ℕ) (x : Option ShardState) (d : Decision) → AddsSo d → AddsSo (past_parents log c s x d)
-so_parents log c s None d is = is
-so_parents log c s (Some x) d is = so_parent log c s x.parent _ (so_parent log c s x.adjacent d is)
-
-so_target : (log : Journal) (T : TenureState) (to : Target) (d : Decision) → AddsSo d → AddsSo (past_target log T to d)
-so_target log T (target.At q) d is = so_if _ _ _ (so_if _ _ _ (so_if _ _ _ is))
-so_target log T target.End d is = so_if _ _ _ is
-
-so_tenure : (log : Journal) (by t : ℕ) (d : TenureState → Decision) → ((T : TenureState) → AddsSo (d T)) → AddsSo (with_tenure log by t d)
-so_tenure log by t d is = so_with _ _ _ (λ T. so_if _ _ _ (is T))
-
-so_held : (log : Journal) (by t : ℕ) (d : TenureState → Decision) → ((T : TenureState) → AddsSo (d T)) → AddsSo (with_held log by t d)
-so_held log by t d is = so_tenure log by t _ (λ T. so_if _ _ _ (is T))
+-- ---- what a command adds
 
 counts_so : (log : Journal) (key : ShardRef) (from : Origin) → from ≡ origin.TrimHorizon → counting_origin log key from ≡ origin.TrimHorizon
 counts_so log key from is = either (follows_parent log key)
@@ -77,38 +38,17 @@ counts_so log key from is = either (follows_parent log key)
     either true = refl
     either false = is
 
-command_adds : (log : Journal) (c by : ℕ) (what : Command) → IsDrillCommand what → AddsSo (decide log c by what)
-command_adds log c by (command.Create name count) is = so_if _ _ _ (so_if _ _ _ (so_if _ _ _ (so _ _ (tt, tt))))
-command_adds log c by (command.Put name item) is = so_with _ _ _ (λ s. so_if _ _ _ (so_if _ _ _ (so _ _ (tt, tt))))
-command_adds log c by (command.Split name sh at) is = so_with _ _ _ (λ s. so_if _ _ _ (so_if _ _ _ (so_if _ _ _ (so_if _ _ _ (so_if _ _ _ (so _ _ (tt, tt)))))))
-command_adds log c by (command.Merge name sh other) is = so_with _ _ _ (λ s. so_if _ _ _ (so_if _ _ _ (so_if _ _ _ (so_if _ _ _ (so _ _ (tt, tt))))))
-command_adds log c by command.Survey is = so _ _ tt
-command_adds log c by (command.MakeLease key from) is = so_if _ _ _ (so_if _ _ _ (so _ _ (counts_so log key from is, tt)))
-command_adds log c by (command.Take key counter owner) is = so_with _ _ _ (λ r. so_if _ _ _ (so_if _ _ _ (so_if _ _ _ (so _ _ (tt, tt)))))
-command_adds log c by (command.Renew t counter) is = so_held log by t _ (λ T. so_if _ _ _ (so_if _ _ _ (so _ _ (tt, tt))))
-command_adds log c by (command.Free t counter) is = so_held log by t _ (λ T. so_if _ _ _ (so_if _ _ _ (so _ _ (tt, tt))))
-command_adds log c by (command.OpenShard t) is = so_held log by t _ (λ T. so_if _ _ _ (so_if _ _ _ (so_parents log c _ _ _ (so _ _ (tt, tt)))))
-command_adds log c by (command.Read t position limit) is = so_tenure log by t _ (λ T. so_if _ _ _ (so_if _ _ _ (so_if _ _ _ (so_if _ _ _ (so _ _ (tt, tt))))))
-command_adds log c by (command.Give t) is = so_tenure log by t _ (λ T. so_if _ _ _ (so _ _ (tt, tt)))
-command_adds log c by (command.Mark t counter to) is = so_held log by t _ (λ T. so_if _ _ _ (so_target log T to _ (so_if _ _ _ (so _ _ (tt, tt)))))
-command_adds log c by (command.CutLease key counter) is = so_with _ _ _ (λ r. so_if _ _ _ (so_if _ _ _ (so _ _ (tt, tt))))
-command_adds log c by _ is = absurd cc
+command_adds : (log : Journal) (c by : ℕ) (what : Command) (line : Line) → IsAdded log c by what line → IsDrillCommand what → IsSoMade line.what
+command_adds log c by _ _ (Alone _ _ _ (walks.Makes key from)) is = counts_so log key from is
+command_adds log c by _ _ _ is = tt
 
 -- ---- the journal
 
-with_so : (ls : List Line) (log : Journal) → AreSoMade ls → AreSoMade log → AreSoMade (with_lines ls log)
-with_so [] log new old = old
-with_so (line ∷ ls) log new old = with_so ls (line ∷ log) new.1 (new.0, old)
-
-opened : (d : Decision) → AddsSo d → AreSoMade (lines_of d)
-unfolding AddsSo
-opened d is = is
-
 journal_so : (h : List Turn) → AreDrillTurns h → AreSoMade (journal h)
-journal_so [] are = tt
-journal_so (turn ∷ h) are =
-    let d = decide (journal h) (max (clock h) turn.at) turn.by turn.what in
-    with_so (lines_of d) (journal h) (opened d (command_adds (journal h) (max (clock h) turn.at) turn.by turn.what are.0)) (journal_so h are.1)
+journal_so h are =
+    each_journal (λ line. IsSoMade line.what) (λ turn. IsDrillCommand turn.what)
+    (λ log c turn is line added. command_adds log c turn.by turn.what line added is)
+    h are
 
 IsNoneOrSo : Option Origin → Type 0
 IsNoneOrSo o = (o ≡ None) ⊎ (o ≡ Some origin.TrimHorizon)
@@ -135,7 +75,8 @@ Removes = (log : Journal) (key : ShardRef) → making (last_bound log key) ≡ N
 abbrev pub Makes : Type 0
 Makes = (log : Journal) (key : ShardRef) (m : Making) → making (last_bound log key) ≡ Some m → IsToldRow log key m
 
-by_making : (log : Journal) (key : ShardRef) (r : Row) → Removes → Makes → IsNoneOrSo (origin_of log key) → row log key ≡ Some r → (m : Option Making) → making (last_bound log key) ≡ m → origin_of log key ≡ Some origin.TrimHorizon
+by_making : (log : Journal) (key : ShardRef) (r : Row) → Removes → Makes → IsNoneOrSo (origin_of log key) → row log key ≡ Some r → (m : Option Making)
+    → making (last_bound log key) ≡ m → origin_of log key ≡ Some origin.TrimHorizon
 unfolding IsNoneOrSo
 by_making log key r removes makes (inr is) there m e = is
 by_making log key r removes makes (inl none) there None e = let gone = removes log key e in absurd cc

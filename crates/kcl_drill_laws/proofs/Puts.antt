@@ -1,29 +1,23 @@
 -- Each turn adds 500 records at most.
-use Rattle.std.proofs.Common.{◌≡◌, ℕ, ◌+◌, ◌≤◌, Bool, true, false, List, [], ◌∷◌, ◌++◌, length, Option, Some, None, refl, arith, ◌*◌, suc}
-use Rattle.std.specs.Prelude.{if◌then◌else◌, ◌==◌, ◌&&◌}
+use Rattle.std.proofs.Common.{◌≡◌, ℕ, ◌+◌, ◌≤◌, Bool, true, false, List, [], ◌∷◌, ◌++◌, length, refl, arith, ◌*◌, suc}
+use Rattle.std.specs.List.{AllByRecursion}
+use Rattle.std.specs.Prelude.{Result, if◌then◌else◌, ◌==◌, ◌&&◌}
 use Rattle.kds_defs.specs.declared.command.Command.{Command}
-use Rattle.kds_defs.specs.declared.command.Command.TheVariants as command
 use Rattle.kds_defs.specs.declared.command.NewItem.{NewItem}
-use Rattle.kds_defs.specs.declared.command.Target.{Target}
-use Rattle.kds_defs.specs.declared.command.Target.TheVariants as target
 use Rattle.kds_defs.specs.declared.command.Turn.{Turn}
 use Rattle.kds_defs.specs.declared.entry.Entry.{Entry}
 use Rattle.kds_defs.specs.declared.entry.Entry.TheVariants as entry
 use Rattle.kds_defs.specs.declared.reply.Refusal.{Refusal}
 use Rattle.kds_defs.specs.declared.reply.Reply.{Reply}
-use Rattle.kds_defs.specs.declared.scale.ScaleStep.{ScaleStep}
-use Rattle.kds_defs.specs.declared.scale.ScaleStep.TheVariants.{Join, Cut}
-use Rattle.kds_defs.specs.Decision.{Decision, Accepted, refuse◌if◌else◌, with◌or◌then◌}
+use Rattle.kds_defs.specs.Decision.{refuse◌if◌else◌, with◌or◌then◌}
 use Rattle.kds_defs.specs.Histories.{clock, decide, decision, journal, lines_of}
-use Rattle.kds_defs.specs.Journal.{Line, Journal, with_lines, plain_line}
+use Rattle.kds_defs.specs.Journal.{Line, Journal, with_lines}
 use Rattle.kds_defs.specs.Lawful.{IsHistory, IsLawfulCommand}
-use Rattle.kds_defs.specs.LeaseCommands.{with_tenure, with_held, past_parent, past_parents, past_target}
-use Rattle.kds_defs.specs.Leases.{TenureState}
 use Rattle.kds_defs.specs.PutCommands.{is_held_back, put_lines}
 use Rattle.kds_defs.specs.Records.{Logged, next_number, records, records_after}
-use Rattle.kds_defs.specs.ScaleCommands.{step_entry, step_lines, steps_to}
-use Rattle.kds_defs.specs.Shards.{ShardState}
+use Rattle.kds_defs.specs.ScaleCommands.{step_lines, steps_to}
 use Rattle.kds_defs.specs.StreamCommands.{put_line}
+use Rattle.kds_defs.proofs.Walk.{Outcome, Refuses, Answers, Adds, Stores, Scales, each_step, walk}
 use Rattle.kcl_drill_laws.specs.Parents.{AreFewRecords}
 
 -- 1 for a line of a record
@@ -41,106 +35,41 @@ puts_with (line ∷ ls) log = let n = puts_with ls (line ∷ log) in omega (arit
 
 -- ---- the lines of a decision
 
-Few : Decision → Type 0
-Few d = puts (lines_of d) ≤ 500
-
-few : (ls : List Line) (r : Reply) → puts ls ≤ 500 → Few (Accepted ls r)
-unfolding Few
-few ls r is = is
-
-few_if : (r : Refusal) (b : Bool) (d : Decision) → Few d → Few (refuse r if b else d)
-unfolding refuse◌if◌else◌ Few
-few_if r true d so = omega arith
-few_if r false d so = so
-
-few_with : {A : Type 0} (o : Option A) (r : Refusal) (d : A → Decision) → ((x : A) → Few (d x)) → Few (with o or r then d)
-unfolding with◌or◌then◌ Few
-few_with None r d so = omega arith
-few_with (Some x) r d so = so x
-
 few_puts : (items : List NewItem) (log : Journal) (c by s : ℕ) → puts (put_lines log c by s items) ≤ length items
 few_puts [] log c by s = omega arith
-few_puts (item ∷ items) log c by s = either (is_held_back log c s item) (few_puts items log c by s) (few_puts items (put_line log c by s (next_number log s) item ∷ log) c by s)
+few_puts (item ∷ items) log c by s =
+    either (is_held_back log c s item) (few_puts items log c by s) (few_puts items (put_line log c by s (next_number log s) item ∷ log) c by s)
   where
-    either : (b : Bool) → puts (put_lines log c by s items) ≤ length items → puts (put_lines (put_line log c by s (next_number log s) item ∷ log) c by s items) ≤ length items
-        → puts (if b then put_lines log c by s items else put_line log c by s (next_number log s) item ∷ put_lines (put_line log c by s (next_number log s) item ∷ log) c by s items) ≤ suc (length items)
+    either : (b : Bool) → puts (put_lines log c by s items) ≤ length items
+        → puts (put_lines (put_line log c by s (next_number log s) item ∷ log) c by s items) ≤ length items
+        → puts (if b then put_lines log c by s items else put_line log c by s (next_number log s) item ∷ put_lines
+        (put_line log c by s (next_number log s) item ∷ log) c by s items) ≤ suc (length items)
     either true skip take = omega (arith, skip)
     either false skip take = omega (arith, take)
 
-no_step : (log : Journal) (s : ℕ) (step : ScaleStep) → weight (step_entry log s step) ≡ 0
-no_step log s (Join b) = refl
-no_step log s (Cut b) = refl
+no_steps : (ls : List Line) → AllByRecursion (λ line. weight line.what ≡ 0) ls → puts ls ≡ 0
+no_steps [] none = refl
+no_steps (line ∷ ls) none = omega (arith, none.0, no_steps ls none.1)
 
-no_steps : (steps : List ScaleStep) (log : Journal) (c by s : ℕ) → puts (step_lines log c by s steps) ≡ 0
-no_steps [] log c by s = refl
-no_steps (step ∷ steps) log c by s =
-    let one = no_step log s step in
-    let rest = no_steps steps (plain_line c by (step_entry log s step) ∷ log) c by s in
-    omega (arith, one, rest)
+one : (e : Entry) → weight e + 0 ≤ 500
+one (entry.Put stream shard number hash bytes key_bytes) = omega arith
+one _ = omega arith
 
-none_of : (n : ℕ) → n ≡ 0 → n ≤ 500
-none_of n is = omega (arith, is)
+few : (log : Journal) (c by : ℕ) (what : Command) (lines : List Line) (answer : Result Reply Refusal) → Outcome log c by what lines answer
+    → IsLawfulCommand what → puts lines ≤ 500
+few log c by _ _ _ (Refuses what r may) lawful = omega arith
+few log c by _ _ _ (Answers what r shows) lawful = omega arith
+few log c by _ _ _ (Adds what line r tells) lawful = one line.what
+few log c by _ _ _ (Stores name items s named fits) lawful = omega (arith, few_puts items log c by s, lawful.1.few)
+few log c by _ _ _ (Scales name goal s named room fits) lawful =
+    let none = each_step (λ line. weight line.what ≡ 0) c by s (steps_to log s goal) log (λ sh other n child. refl) (λ sh at n low high. refl) in
+    let n = no_steps (step_lines log c by s (steps_to log s goal)) none in
+    omega (arith, n)
 
-at_most : (n m : ℕ) → n ≤ m → m ≤ 500 → n ≤ 500
-at_most n m le le' = omega (arith, le, le')
-
-parent_few : (log : Journal) (c s : ℕ) (parent : Option ℕ) (d : Decision) → Few d → Few (past_parent log c s parent d)
-parent_few log c s None d so = so
-parent_few log c s (Some p) d so = few_if _ _ _ so
-
-parents_few : (log : Journal) (c s : ℕ) (x : Option ShardState) (d : Decision) → Few d → Few (past_parents log c s x d)
-parents_few log c s None d so = so
-parents_few log c s (Some x) d so = parent_few log c s x.parent _ (parent_few log c s x.adjacent d so)
-
-target_few : (log : Journal) (T : TenureState) (to : Target) (d : Decision) → Few d → Few (past_target log T to d)
-target_few log T (target.At q) d so = few_if _ _ _ (few_if _ _ _ (few_if _ _ _ so))
-target_few log T target.End d so = few_if _ _ _ so
-
-tenure_few : (log : Journal) (by t : ℕ) (d : TenureState → Decision) → ((T : TenureState) → Few (d T)) → Few (with_tenure log by t d)
-tenure_few log by t d so = few_with _ _ _ (λ T. few_if _ _ _ (so T))
-
-held_few : (log : Journal) (by t : ℕ) (d : TenureState → Decision) → ((T : TenureState) → Few (d T)) → Few (with_held log by t d)
-held_few log by t d so = tenure_few log by t _ (λ T. few_if _ _ _ (so T))
-
-one : 1 + 0 ≤ 500
-one = omega arith
-
-none : 0 ≤ 500
-none = omega arith
-
-line : 0 + 0 ≤ 500
-line = omega arith
-
-decided_few : (log : Journal) (c by : ℕ) (what : Command) → IsLawfulCommand what → Few (decide log c by what)
-decided_few log c by (command.Create name count) lawful = few_if _ _ _ (few_if _ _ _ (few_if _ _ _ (few _ _ line)))
-decided_few log c by (command.Delete name) lawful = few_with _ _ _ (λ s. few _ _ line)
-decided_few log c by (command.Streams after limit) lawful = few _ _ none
-decided_few log c by (command.Describe name after limit) lawful = few_with _ _ _ (λ s. few _ _ none)
-decided_few log c by (command.Summary name) lawful = few_with _ _ _ (λ s. few _ _ none)
-decided_few log c by (command.Shards name after limit) lawful = few_with _ _ _ (λ s. few _ _ none)
-decided_few log c by (command.More page limit) lawful = few_if _ _ _ (few_if _ _ _ (few _ _ none))
-decided_few log c by (command.GetIterator name sh from) lawful = few_with _ _ _ (λ s. few_if _ _ _ (few_with _ _ _ (λ x. few_if _ _ _ (few _ _ none))))
-decided_few log c by (command.Records iter limit) lawful = few_if _ _ _ (few_if _ _ _ (few_if _ _ _ (few _ _ none)))
-decided_few log c by (command.Put name item) lawful = few_with _ _ _ (λ s. few_if _ _ _ (few_if _ _ _ (few _ _ one)))
-decided_few log c by (command.PutMany name items) lawful = few_with _ _ _ (λ s. few_if _ _ _ (few _ _ (at_most _ (length items) (few_puts items log c by s) lawful.1.few)))
-decided_few log c by (command.Split name sh at) lawful = few_with _ _ _ (λ s. few_if _ _ _ (few_if _ _ _ (few_if _ _ _ (few_if _ _ _ (few_if _ _ _ (few _ _ line))))))
-decided_few log c by (command.Merge name sh other) lawful = few_with _ _ _ (λ s. few_if _ _ _ (few_if _ _ _ (few_if _ _ _ (few_if _ _ _ (few _ _ line)))))
-decided_few log c by (command.Keep name wanted raise) lawful = few_with _ _ _ (λ s. few_if _ _ _ (few _ _ line))
-decided_few log c by (command.Scale name target) lawful = few_with _ _ _ (λ s. few_if _ _ _ (few_if _ _ _ (few _ _ (none_of _ (no_steps (steps_to log s target) log c by s)))))
-decided_few log c by (command.Enforce name on) lawful = few_with _ _ _ (λ s. few _ _ line)
-decided_few log c by command.Survey lawful = few _ _ none
-decided_few log c by (command.MakeLease key from) lawful = few_if _ _ _ (few_if _ _ _ (few _ _ line))
-decided_few log c by (command.Take key counter owner) lawful = few_with _ _ _ (λ r. few_if _ _ _ (few_if _ _ _ (few_if _ _ _ (few _ _ line))))
-decided_few log c by (command.Renew t counter) lawful = held_few log by t _ (λ T. few_if _ _ _ (few_if _ _ _ (few _ _ line)))
-decided_few log c by (command.Free t counter) lawful = held_few log by t _ (λ T. few_if _ _ _ (few_if _ _ _ (few _ _ line)))
-decided_few log c by (command.OpenShard t) lawful = held_few log by t _ (λ T. few_if _ _ _ (few_if _ _ _ (parents_few log c _ _ _ (few _ _ line))))
-decided_few log c by (command.Read t position limit) lawful = tenure_few log by t _ (λ T. few_if _ _ _ (few_if _ _ _ (few_if _ _ _ (few_if _ _ _ (few _ _ line)))))
-decided_few log c by (command.Give t) lawful = tenure_few log by t _ (λ T. few_if _ _ _ (few _ _ line))
-decided_few log c by (command.Mark t counter to) lawful = held_few log by t _ (λ T. few_if _ _ _ (target_few log T to _ (few_if _ _ _ (few _ _ line))))
-decided_few log c by (command.CutLease key counter) lawful = few_with _ _ _ (λ r. few_if _ _ _ (few_if _ _ _ (few _ _ line)))
+decided_few : (log : Journal) (c by : ℕ) (what : Command) → IsLawfulCommand what → puts (lines_of (decide log c by what)) ≤ 500
+decided_few log c by what lawful = few log c by what _ _ (walk log c by what) lawful
 
 turns_few : (h : List Turn) → IsHistory h → puts (journal h) ≤ 500 * length h
-unfolding Few
 turns_few [] lawful = omega arith
 turns_few (turn ∷ h) lawful =
     let d = decision (journal h) (clock (turn ∷ h)) turn in
