@@ -1,14 +1,14 @@
 -- The lines of each command that is accepted after a legal journal can be told.
-use Rattle.std.proofs.Common.{◌≡◌, ℕ, zero, suc, ◌+◌, ◌-◌, ◌^◌, ◌<◌, ◌≤◌, Bool, true, false, List, [], ◌∷◌, length, refl, subst, arith}
-use Rattle.std.specs.Prelude.{◌==◌, ◌&&◌, not, nat_le, if◌then◌else◌}
+use Rattle.std.proofs.Common.{◌≡◌, ℕ, zero, suc, ◌+◌, ◌-◌, ◌^◌, ◌<◌, ◌≤◌, Bool, true, false, List, [], ◌∷◌, length, refl, arith}
+use Rattle.std.specs.Prelude.{Ok, Result, ◌==◌, ◌&&◌, not, nat_le, if◌then◌else◌}
 use Rattle.std.specs.List.{AllByRecursion, filter}
 use Rattle.std.proofs.lemmas.Bool.Decides.{nat_tests}
 use Rattle.std.proofs.lemmas.Bool.{or_parts}
 use Rattle.kds_defs.specs.declared.command.Command.{Command}
-use Rattle.kds_defs.specs.declared.command.Command.TheVariants as command
 use Rattle.kds_defs.specs.declared.command.Origin.{Origin}
 use Rattle.kds_defs.specs.declared.command.Origin.TheVariants as origin
 use Rattle.kds_defs.specs.declared.entry.Entry.TheVariants as entry
+use Rattle.kds_defs.specs.declared.reply.Refusal.{Refusal}
 use Rattle.kds_defs.specs.declared.reply.Reply.{Reply}
 use Rattle.kds_defs.specs.Decision.{Accepted}
 use Rattle.kds_defs.specs.Histories.{decide}
@@ -21,10 +21,10 @@ use Rattle.kds_defs.specs.Shards.{shards, start_of, shard_at}
 use Rattle.kds_defs.specs.StreamCommands.{last_number}
 use Rattle.kds_defs.specs.Streams.{is_live, trim_floor}
 use Rattle.kds_defs.specs.Tiled.{AreNumbered}
-use Rattle.kds_defs.proofs.Decisions.{found, holds_so, passes, same_lines}
+use Rattle.kds_defs.proofs.Decisions.{holds_so}
+use Rattle.kds_defs.proofs.Walk.{Outcome, Refuses, Answers, Adds, Stores, Scales, accepted}
+use Rattle.kds_defs.proofs.Walk.{Tells, Creates, Deletes, Puts, Splits, Merges, Keeps, Enforces, Makes, Takes, Renews, Frees, Opens, Reads, Gives, Marks, Cuts}
 use Rattle.kcl_laws.specs.Recorded.{AreDrawn, RiseBetween}
-use Rattle.kcl_laws.proofs.FenceLemmas.{held, past_the_target}
-use Rattle.kcl_laws.proofs.LegalLemmas.{owned, past_the_parents}
 use Rattle.kcl_script_fields.specs.Commands.{AreNumbers}
 use Rattle.kcl_script_fields.specs.Origins.{IsOrigin}
 use Rattle.kcl_journal.specs.declared.line.TheConstants.{VERSION}
@@ -32,13 +32,6 @@ use Rattle.kcl_journal.specs.Ranges.{Is64, IsEntryLine}
 use Rattle.kcl_sim_scribe.specs.Added.{told_by}
 use Rattle.kcl_audit_sound.proofs.Counts.{listed_fits, made_fits, named_fits, not_past, shards_fit, taken_fits}
 use Rattle.kcl_audit_sound.proofs.Streams.{AreTold, IsBy, line_told, plan_at, put_told, puts_told, steps_told}
-
--- no line, and one line
-told_none : (lines : List Line) (reply reply' : Reply) → Accepted [] reply' ≡ Accepted lines reply → AreTold lines
-told_none lines reply reply' h = subst AreTold (same_lines [] lines reply' reply h) tt
-
-told_one : (line : Line) (lines : List Line) (reply reply' : Reply) → Accepted (line ∷ []) reply' ≡ Accepted lines reply → IsEntryLine VERSION (told_by line) → AreTold lines
-told_one line lines reply reply' h is = subst AreTold (same_lines (line ∷ []) lines reply' reply h) (is, tt)
 
 -- the counter after a write, where the row's isn't the last number
 next_counter : (n counter : ℕ) → not (n == counter) ≡ false → (n == last_number) ≡ false → counter < 2 ^ 64 → (1 ≤ counter + 1) × (counter + 1 < 2 ^ 64)
@@ -113,146 +106,61 @@ module _
       let left = left_among (trim_floor log c s) place (records log s sh) in
       numbers_fit next (batch log c s sh place limit) (next_fits log legal s)
       (beginning_below limit _ next (left_from log c s sh place)
-      (live_below (is_live log s) next left (filtered_below _ next (records log s sh) (below_next (start_of (shard_at log s sh)) (records log s sh) next (drawn log legal s sh)))))
+      (live_below (is_live log s) next left
+      (filtered_below _ next (records log s sh) (below_next (start_of (shard_at log s sh)) (records log s sh) next (drawn log legal s sh)))))
 
-  pub told_lines : (log : Journal) (c by : ℕ) (what : Command) (lines : List Line) (reply : Reply) → IsLegal log → IsBy c by → IsLawfulCommand what → AreNumbers what
+  -- the line of a command that is told in one
+  told_one : (log : Journal) (c by : ℕ) (what : Command) (line : Line) (r : Reply) → Tells log c by what line r → IsLegal log → IsBy c by
+      → IsLawfulCommand what → AreNumbers what → IsEntryLine VERSION (told_by line)
+  told_one log c by _ _ _ (Creates name count fits) legal is lawful bits = line_told c by _ is (after_free _ fits (made_fits log legal), lawful)
+  told_one log c by _ _ _ (Deletes name s named) legal is lawful bits = line_told c by _ is (named_fits log name s legal named)
+  told_one log c by _ _ _ (Puts name item s named fits) legal is lawful bits =
+      put_told log c by s item is (named_fits log name s legal named) (numbered log s) (shards_fit log legal s) (next_fits log legal s) lawful.1
+  told_one log c by _ _ _ (Splits name sh at s named listed fits) legal is lawful bits =
+      let room = not_past (length (shards log s) + 1) last_number (or_parts _ _ fits).0 in
+      line_told c by _ is (
+        named_fits log name s legal named,
+        (listed_fits log c s sh legal (holds_so _ listed), (lawful.1, (omega (arith, next_fits log legal s), (omega (arith, room), omega (arith, room))))),
+      )
+  told_one log c by _ _ _ (Merges name sh other s named listed fits) legal is lawful bits =
+      let room = not_past (length (shards log s)) last_number (or_parts _ _ fits).0 in
+      let both = both_hold _ _ listed in
+      line_told c by _ is (
+        named_fits log name s legal named,
+        (listed_fits log c s sh legal both.0, (listed_fits log c s other legal both.1, (omega (arith, next_fits log legal s), omega (arith, room)))),
+      )
+  told_one log c by _ _ _ (Keeps name wanted raise s named fits) legal is lawful bits =
+      line_told c by _ is (named_fits log name s legal named, lawful.1)
+  told_one log c by _ _ _ (Enforces name on s named) legal is lawful bits = line_told c by _ is (named_fits log name s legal named)
+  told_one log c by _ _ _ (Makes key from) legal is lawful bits = line_told c by _ is (bits.0, origin_counts (follows_parent log key) from bits.1)
+  told_one log c by _ _ _ (Takes key counter owner r there same fits) legal is lawful bits =
+      let free = or_parts _ _ fits in
+      line_told c by _ is (bits.0, (after_free _ free.1 (taken_fits log legal), (row_counter _ counter same free.0 bits.1.0, (lawful, bits.1.1))))
+  told_one log c by _ _ _ (Renews t counter T begun same fits) legal is lawful bits =
+      line_told c by _ is (bits.0, next_counter _ counter same fits bits.1)
+  told_one log c by _ _ _ (Frees t counter T begun same fits) legal is lawful bits =
+      line_told c by _ is (bits.0, next_counter _ counter same fits bits.1)
+  told_one log c by _ _ _ (Opens t) legal is lawful bits = line_told c by _ is bits
+  told_one log c by _ _ _ (Reads t position limit T place ended begun same) legal is lawful bits =
+      line_told c by _ is (bits.0, (lawful, batch_fits log c _ _ _ limit legal))
+  told_one log c by _ _ _ (Gives t T begun) legal is lawful bits = line_told c by _ is bits
+  told_one log c by _ _ _ (Marks t counter to T begun same fits) legal is lawful bits =
+      line_told c by (entry.Marked t (counter + 1) to) is (bits.0, (next_counter _ counter same fits bits.1.0, bits.1.1))
+  told_one log c by _ _ _ (Cuts key counter) legal is lawful bits = line_told c by _ is (bits.0, bits.1)
+
+  told_of : (log : Journal) (c by : ℕ) (what : Command) (lines : List Line) (answer : Result Reply Refusal) → Outcome log c by what lines answer
+      → IsLegal log → IsBy c by → IsLawfulCommand what → AreNumbers what → AreTold lines
+  told_of log c by _ _ _ (Refuses what r may) legal is lawful bits = tt
+  told_of log c by _ _ _ (Answers what r shows) legal is lawful bits = tt
+  told_of log c by _ _ _ (Adds what line r tells) legal is lawful bits = (told_one log c by what line r tells legal is lawful bits, tt)
+  told_of log c by _ _ _ (Stores name items s named fits) legal is lawful bits =
+      puts_told items log c by s is (named_fits log name s legal named) (numbered log s) (shards_fit log legal s) (not_past _ _ fits) lawful.1.each
+  told_of log c by _ _ _ (Scales name goal s named few fits) legal is lawful bits =
+      let each = or_parts _ _ fits in
+      steps_told numbered _ log c by s is (named_fits log name s legal named) (plan_at _ goal lawful.1.0 lawful.1.1) (not_past _ _ each.0) (not_past _ _ each.1)
+
+  pub told_lines : (log : Journal) (c by : ℕ) (what : Command) (lines : List Line) (reply : Reply) → IsLegal log → IsBy c by → IsLawfulCommand what
+      → AreNumbers what
       → decide log c by what ≡ Accepted lines reply → AreTold lines
-  told_lines log c by (command.Create name count) lines reply legal is lawful bits h =
-      let a = passes _ _ _ _ reply h in
-      let b = passes _ _ _ _ reply a.1 in
-      let d = passes _ _ _ _ reply b.1 in
-      told_one _ lines reply _ d.1 (line_told c by _ is (after_free _ d.0 (made_fits log legal), lawful))
-  told_lines log c by (command.Delete name) lines reply legal is lawful bits h =
-      let f = found _ _ _ _ reply h in
-      told_one _ lines reply _ f.2 (line_told c by _ is (named_fits log name f.0 legal f.1))
-  told_lines log c by (command.Streams after limit) lines reply legal is lawful bits h = told_none lines reply _ h
-  told_lines log c by (command.Describe name after limit) lines reply legal is lawful bits h =
-      let f = found _ _ _ _ reply h in
-      told_none lines reply _ f.2
-  told_lines log c by (command.Summary name) lines reply legal is lawful bits h =
-      let f = found _ _ _ _ reply h in
-      told_none lines reply _ f.2
-  told_lines log c by (command.Shards name after limit) lines reply legal is lawful bits h =
-      let f = found _ _ _ _ reply h in
-      told_none lines reply _ f.2
-  told_lines log c by (command.More page limit) lines reply legal is lawful bits h =
-      let a = passes _ _ _ _ reply h in
-      let b = passes _ _ _ _ reply a.1 in
-      told_none lines reply _ b.1
-  told_lines log c by (command.GetIterator name sh from) lines reply legal is lawful bits h =
-      let f = found _ _ _ _ reply h in
-      let a = passes _ _ _ _ reply f.2 in
-      let g = found _ _ _ _ reply a.1 in
-      let b = passes _ _ _ _ reply g.2 in
-      told_none lines reply _ b.1
-  told_lines log c by (command.Records iter limit) lines reply legal is lawful bits h =
-      let a = passes _ _ _ _ reply h in
-      let b = passes _ _ _ _ reply a.1 in
-      let d = passes _ _ _ _ reply b.1 in
-      told_none lines reply _ d.1
-  told_lines log c by (command.Put name item) lines reply legal is lawful bits h =
-      let f = found _ _ _ _ reply h in
-      let a = passes _ _ _ _ reply f.2 in
-      let b = passes _ _ _ _ reply a.1 in
-      let s = f.0 in
-      told_one _ lines reply _ b.1
-      (put_told log c by s item is (named_fits log name s legal f.1) (numbered log s) (shards_fit log legal s) (next_fits log legal s) lawful.1)
-  told_lines log c by (command.PutMany name items) lines reply legal is lawful bits h =
-      let f = found _ _ _ _ reply h in
-      let a = passes _ _ _ _ reply f.2 in
-      let s = f.0 in
-      subst AreTold (same_lines _ lines _ reply a.1)
-      (puts_told items log c by s is (named_fits log name s legal f.1) (numbered log s) (shards_fit log legal s) (not_past _ _ a.0) lawful.1.each)
-  told_lines log c by (command.Scale name target) lines reply legal is lawful bits h =
-      let f = found _ _ _ _ reply h in
-      let a = passes _ _ _ _ reply f.2 in
-      let b = passes _ _ _ _ reply a.1 in
-      let fits = or_parts _ _ b.0 in
-      subst AreTold (same_lines _ lines _ reply b.1)
-      (steps_told numbered _ log c by f.0 is (named_fits log name f.0 legal f.1) (plan_at _ target lawful.1.0 lawful.1.1) (not_past _ _ fits.0) (not_past _ _ fits.1))
-  told_lines log c by (command.Enforce name on) lines reply legal is lawful bits h =
-      let f = found _ _ _ _ reply h in
-      told_one _ lines reply _ f.2 (line_told c by _ is (named_fits log name f.0 legal f.1))
-  told_lines log c by (command.Split name sh at) lines reply legal is lawful bits h =
-      let f = found _ _ _ _ reply h in
-      let a = passes _ _ _ _ reply f.2 in
-      let b = passes _ _ _ _ reply a.1 in
-      let d = passes _ _ _ _ reply b.1 in
-      let e = passes _ _ _ _ reply d.1 in
-      let g = passes _ _ _ _ reply e.1 in
-      let s = f.0 in
-      let room = not_past (length (shards log s) + 1) last_number (or_parts _ _ g.0).0 in
-      told_one _ lines reply _ g.1
-      (line_told c by _ is (
-        named_fits log name s legal f.1,
-        (listed_fits log c s sh legal (holds_so _ a.0), (lawful.1, (omega (arith, next_fits log legal s), (omega (arith, room), omega (arith, room))))),
-      ))
-  told_lines log c by (command.Merge name sh other) lines reply legal is lawful bits h =
-      let f = found _ _ _ _ reply h in
-      let a = passes _ _ _ _ reply f.2 in
-      let b = passes _ _ _ _ reply a.1 in
-      let d = passes _ _ _ _ reply b.1 in
-      let e = passes _ _ _ _ reply d.1 in
-      let s = f.0 in
-      let room = not_past (length (shards log s)) last_number (or_parts _ _ e.0).0 in
-      let listed = both_hold _ _ a.0 in
-      told_one _ lines reply _ e.1
-      (line_told c by _ is (
-        named_fits log name s legal f.1,
-        (listed_fits log c s sh legal listed.0, (listed_fits log c s other legal listed.1, (omega (arith, next_fits log legal s), omega (arith, room)))),
-      ))
-  told_lines log c by (command.Keep name wanted raise) lines reply legal is lawful bits h =
-      let f = found _ _ _ _ reply h in
-      let a = passes _ _ _ _ reply f.2 in
-      told_one _ lines reply _ a.1 (line_told c by _ is (named_fits log name f.0 legal f.1, lawful.1))
-  told_lines log c by command.Survey lines reply legal is lawful bits h = told_none lines reply _ h
-  told_lines log c by (command.MakeLease key from) lines reply legal is lawful bits h =
-      let a = passes _ _ _ _ reply h in
-      let b = passes _ _ _ _ reply a.1 in
-      told_one _ lines reply _ b.1 (line_told c by _ is (bits.0, origin_counts (follows_parent log key) from bits.1))
-  told_lines log c by (command.Take key counter owner) lines reply legal is lawful bits h =
-      let f = found _ _ _ _ reply h in
-      let a = passes _ _ _ _ reply f.2 in
-      let b = passes _ _ _ _ reply a.1 in
-      let d = passes _ _ _ _ reply b.1 in
-      let free = or_parts _ _ d.0 in
-      told_one _ lines reply _ d.1
-      (line_told c by _ is (bits.0, (after_free _ free.1 (taken_fits log legal), (row_counter _ counter a.0 free.0 bits.1.0, (lawful, bits.1.1)))))
-  told_lines log c by (command.Renew t counter) lines reply legal is lawful bits h =
-      let a = held log by t _ _ reply h in
-      let b = passes _ _ _ _ reply a.rest in
-      let d = passes _ _ _ _ reply b.1 in
-      told_one _ lines reply _ d.1 (line_told c by _ is (bits.0, next_counter _ counter b.0 d.0 bits.1))
-  told_lines log c by (command.Free t counter) lines reply legal is lawful bits h =
-      let a = held log by t _ _ reply h in
-      let b = passes _ _ _ _ reply a.rest in
-      let d = passes _ _ _ _ reply b.1 in
-      told_one _ lines reply _ d.1 (line_told c by _ is (bits.0, next_counter _ counter b.0 d.0 bits.1))
-  told_lines log c by (command.OpenShard t) lines reply legal is lawful bits h =
-      let a = held log by t _ _ reply h in
-      let b = passes _ _ _ _ reply a.rest in
-      let d = passes _ _ _ _ reply b.1 in
-      let e = past_the_parents log c _ _ _ _ reply d.1 in
-      told_one _ lines reply _ e.1 (line_told c by _ is bits)
-  told_lines log c by (command.Read t position limit) lines reply legal is lawful bits h =
-      let f = owned log by t _ _ reply h in
-      let a = passes _ _ _ _ reply f.rest in
-      let b = passes _ _ _ _ reply a.1 in
-      let d = passes _ _ _ _ reply b.1 in
-      let e = passes _ _ _ _ reply d.1 in
-      told_one _ lines reply _ e.1 (line_told c by _ is (bits.0, (lawful, batch_fits log c _ _ _ limit legal)))
-  told_lines log c by (command.Give t) lines reply legal is lawful bits h =
-      let f = owned log by t _ _ reply h in
-      let a = passes _ _ _ _ reply f.rest in
-      told_one _ lines reply _ a.1 (line_told c by _ is bits)
-  told_lines log c by (command.Mark t counter to) lines reply legal is lawful bits h =
-      let a = held log by t _ _ reply h in
-      let b = passes _ _ _ _ reply a.rest in
-      let d = past_the_target log a.holds.state to _ _ reply b.1 in
-      let e = passes _ _ _ _ reply d in
-      told_one _ lines reply _ e.1 (line_told c by (entry.Marked t (counter + 1) to) is (bits.0, (next_counter _ counter b.0 e.0 bits.1.0, bits.1.1)))
-  told_lines log c by (command.CutLease key counter) lines reply legal is lawful bits h =
-      let f = found _ _ _ _ reply h in
-      let a = passes _ _ _ _ reply f.2 in
-      let b = passes _ _ _ _ reply a.1 in
-      told_one _ lines reply _ b.1 (line_told c by _ is (bits.0, bits.1))
+  told_lines log c by what lines reply legal is lawful bits h =
+      told_of log c by what lines (Ok reply) (accepted log c by what lines reply h) legal is lawful bits

@@ -1,5 +1,5 @@
 -- What a scribe tells of a turn, and knows after it.
-use Rattle.std.proofs.Common.{◌≡◌, ℕ, ◌+◌, ◌≤◌, max, List, [], ◌∷◌, ◌++◌, map, refl, sym, ap, ◌∙◌, subst}
+use Rattle.std.proofs.Common.{false, ◌≡◌, ℕ, ◌+◌, ◌≤◌, max, List, [], ◌∷◌, ◌++◌, map, refl, sym, ap, ◌∙◌, subst}
 use Rattle.std.specs.Prelude.{◌==◌, Ok, Err}
 use Rattle.kds_defs.specs.declared.command.Command.{Command}
 use Rattle.kds_defs.specs.declared.command.Command.TheVariants as command
@@ -8,19 +8,22 @@ use Rattle.kds_defs.specs.declared.entry.Entry.{Entry}
 use Rattle.kds_defs.specs.declared.entry.Entry.TheVariants as entry
 use Rattle.kds_defs.specs.declared.reply.Refusal.{Refusal}
 use Rattle.kds_defs.specs.declared.reply.Reply.{Reply}
+use Rattle.kds_defs.specs.declared.reply.Reply.TheVariants as reply
 use Rattle.kds_defs.specs.Decision.{Decision, Refused, Accepted}
-use Rattle.kds_defs.specs.Histories.{answer, answer_of, clock, decide, decision, journal, lines_of}
+use Rattle.kds_defs.specs.Histories.{answer, answer_of, clock, decision, journal, lines_of}
 use Rattle.kds_defs.specs.Journal.{Journal, Line, plain_line, with_lines}
 use Rattle.kds_defs.specs.Lawful.{IsLawful, IsLawfulCommand}
 use Rattle.kds_defs.specs.StreamCommands.{last_number}
 use Rattle.kds_defs.specs.Streams.{made_count}
+use Rattle.kds_defs.proofs.Walk as walks
+use Rattle.kds_defs.proofs.Walk.{Outcome, Adds, Answers, Creates, Surveys}
 use Rattle.kcl_journal.specs.declared.line.EntryLine.{EntryLine}
 use Rattle.kcl_sim_scribe.specs.Added.{added_entries, told_by}
 use Rattle.kcl_sim_scribe.specs.Known.{Known, Knows, ScribeValue, StandsFor, changed_by, new_known}
 use Rattle.kcl_sim_scribe.specs.Telling.{CanTell, MayNumber, changed_name, entries_of, line_by, lines_by, told_after, told_lines}
 use Rattle.kcl_sim_scribe.proofs.Making.{knows_made}
 use Rattle.kcl_sim_scribe.proofs.Readings.{knows_all}
-use Rattle.kcl_sim_scribe.proofs.Tellings.{Gives, IsOther, Told, past, tells}
+use Rattle.kcl_sim_scribe.proofs.Tellings.{IsOther, Told, tells}
 
 pub record Noted (s : ScribeValue) (log : Journal) (c by : ℕ) (what : Command) (lines : List Line) (r : Reply) : Type 0 where
   pub can : CanTell s what
@@ -39,31 +42,35 @@ whats : (lines : List Line) (c by : ℕ) (es : List Entry) → map told_by lines
 whats lines c by es h = sym (told_what lines) ∙ ap (map (λ (l : EntryLine). l.what)) h ∙ what_of c by es
 
 module _ (s : ScribeValue) (log : Journal) (c by : ℕ) (k : Knows log s.made s.streams) where
-  known_all : (what : Command) (lines : List Line) (r : Reply) → Told log c by s.streams what lines r → Knows (with_lines lines log) s.made (changed_by (entries_of s.streams what r) s.streams)
+  known_all : (what : Command) (lines : List Line) (r : Reply) → Told log c by s.streams what lines r
+      → Knows (with_lines lines log) s.made (changed_by (entries_of s.streams what r) s.streams)
   known_all what lines r t =
       subst (λ es. Knows (with_lines lines log) s.made (changed_by es s.streams)) (whats lines c by (entries_of s.streams what r) t.told)
       (knows_all log lines s.made s.streams t.fits k)
 
-  making : (name : List ℕ) (count : ℕ) → 1 ≤ count → Gives (λ lines r. Noted s log c by (command.Create name count) lines r) (decide log c by (command.Create name count))
-  making name count some = past _ _ _ _ (λ a. past _ _ _ _ (λ b. past _ _ _ _ (λ spent.
-      record {
-        can = (ap (λ n. n == last_number) (sym k.made_is) ∙ spent, some);
-        lines_are = λ i. line_by c by (entry.Made (sym k.made_is i + 1) name count) ∷ [];
-        knows = subst (λ (n : ℕ). Knows (plain_line c by (entry.Made (made_count log + 1) name count) ∷ log) (n + 1) (s.streams ++ new_known (n + 1) name count ∷ [])) k.made_is
-            (knows_made log c by count name s.streams some (subst (λ n. Knows log n s.streams) (sym k.made_is) k));
-      })))
+  making : (name : List ℕ) (count : ℕ) → 1 ≤ count → (made_count log == last_number) ≡ false
+      → Noted s log c by (command.Create name count) (plain_line c by (entry.Made (made_count log + 1) name count) ∷ []) reply.Done
+  making name count some spent = record {
+    can = (ap (λ n. n == last_number) (sym k.made_is) ∙ spent, some);
+    lines_are = λ i. line_by c by (entry.Made (sym k.made_is i + 1) name count) ∷ [];
+    knows = subst
+        (λ (n : ℕ). Knows (plain_line c by (entry.Made (made_count log + 1) name count) ∷ log) (n + 1) (s.streams ++ new_known (n + 1) name count ∷ []))
+        k.made_is
+        (knows_made log c by count name s.streams some (subst (λ n. Knows log n s.streams) (sym k.made_is) k));
+  }
 
   others : (what : Command) → IsOther what → (lines : List Line) (r : Reply) → Told log c by s.streams what lines r → Noted s log c by what lines r
   others (command.Create name count) o lines r t = absurd o
   others what o lines r t = record { can = t.can; lines_are = sym t.told; knows = known_all what lines r t }
 
-  spread : (P Q : List Line → Reply → Type 0) (d : Decision) → ((lines : List Line) (r : Reply) → P lines r → Q lines r) → Gives P d → Gives Q d
-  spread P Q (Refused r) each g = tt
-  spread P Q (Accepted lines r) each g = each lines r g
+  all_of : (what : Command) (lines : List Line) (r : Reply) → Outcome log c by what lines (Ok r) → (IsOther what → Told log c by s.streams what lines r)
+      → IsLawfulCommand what → Noted s log c by what lines r
+  all_of _ _ _ (Adds _ _ _ (Creates name count fits)) told lawful = making name count lawful.1.0 fits
+  all_of _ _ _ (Answers _ _ (Surveys keys rows)) told lawful = others _ tt _ _ (told tt)
+  all_of _ _ _ _ told lawful = others _ tt _ _ (told tt)
 
-  all : (what : Command) → IsLawfulCommand what → Gives (λ lines r. Noted s log c by what lines r) (decide log c by what)
-  all (command.Create name count) lawful = making name count lawful.1.0
-  all what lawful = spread (λ lines r. Told log c by s.streams what lines r) (λ lines r. Noted s log c by what lines r) (decide log c by what) (others what tt) (tells log c by s.made s.streams k what tt)
+  all : (what : Command) (lines : List Line) (r : Reply) → Outcome log c by what lines (Ok r) → IsLawfulCommand what → Noted s log c by what lines r
+  all what lines r is lawful = all_of what lines r is (tells log c by s.made s.streams k what lines r is) lawful
 
 -- ---- turns
 
@@ -72,28 +79,31 @@ pub record NotedTurn (s : ScribeValue) (h : List Turn) (turn : Turn) (d : Decisi
   pub lines_are : told_lines s (clock (turn ∷ h)) turn.by turn.what r ≡ map told_by (lines_of d)
   pub knows : Knows (with_lines (lines_of d) (journal h)) (told_after s turn.what r).made (told_after s turn.what r).streams
 
-accepted_by : (s : ScribeValue) (h : List Turn) (turn : Turn) (d : Decision) (r : Reply) → Gives (λ lines q. Noted s (journal h) (clock (turn ∷ h)) turn.by turn.what lines q) d → Ok r ≡ answer_of d → NotedTurn s h turn d r
-accepted_by s h turn (Refused q) r g e = absurd (cc e)
-accepted_by s h turn (Accepted lines q) r g e =
-    let same : q ≡ r = cc in
-    let n = subst (λ z. Noted s (journal h) (clock (turn ∷ h)) turn.by turn.what lines z) same g in
-    record { can = n.can; lines_are = n.lines_are; knows = n.knows }
+is_accepted : (d : Decision) (r : Reply) → Ok r ≡ answer_of d → d ≡ Accepted (lines_of d) r
+is_accepted (Refused q) r e = absurd (cc e)
+is_accepted (Accepted lines q) r e = let same : q ≡ r = cc in ap (λ x. Accepted lines x) same
 
-pub accepted : (s : ScribeValue) (h : List Turn) (turn : Turn) (r : Reply) → StandsFor s h → IsLawful turn → Ok r ≡ answer h turn → NotedTurn s h turn (decision (journal h) (clock (turn ∷ h)) turn) r
+pub accepted : (s : ScribeValue) (h : List Turn) (turn : Turn) (r : Reply) → StandsFor s h → IsLawful turn → Ok r ≡ answer h turn
+    → NotedTurn s h turn (decision (journal h) (clock (turn ∷ h)) turn) r
 accepted s h turn r st lawful e =
-    accepted_by s h turn (decision (journal h) (clock (turn ∷ h)) turn) r (all s (journal h) (clock (turn ∷ h)) turn.by st.knows turn.what lawful.1) e
+    let d : Decision = decision (journal h) (clock (turn ∷ h)) turn in
+    let outcome = walks.accepted (journal h) (clock (turn ∷ h)) turn.by turn.what (lines_of d) r (is_accepted d r e) in
+    let n = all s (journal h) (clock (turn ∷ h)) turn.by st.knows turn.what (lines_of d) r outcome lawful.1 in
+    record { can = n.can; lines_are = n.lines_are; knows = n.knows }
 
 refused_by : (d : Decision) (q : Refusal) → Err q ≡ answer_of d → lines_of d ≡ []
 refused_by (Refused r) q e = refl
 refused_by (Accepted lines r) q e = absurd (cc e)
 
-pub refused : (s : ScribeValue) (h : List Turn) (turn : Turn) (q : Refusal) → StandsFor s h → Err q ≡ answer h turn → ([] ≡ added_entries h turn) × Knows (journal (turn ∷ h)) s.made s.streams
+pub refused : (s : ScribeValue) (h : List Turn) (turn : Turn) (q : Refusal) → StandsFor s h → Err q ≡ answer h turn
+    → ([] ≡ added_entries h turn) × Knows (journal (turn ∷ h)) s.made s.streams
 refused s h turn q st e =
     let none = refused_by (decision (journal h) (clock (turn ∷ h)) turn) q e in
     (ap (map told_by) (sym none), subst (λ ls. Knows (with_lines ls (journal h)) s.made s.streams) (sym none) st.knows)
 
 -- the scribe at the turn's clock
-pub stands_at : (s t : ScribeValue) (h : List Turn) (turn : Turn) → StandsFor s h → t.clock ≡ max s.clock turn.at → Knows (journal (turn ∷ h)) t.made t.streams → StandsFor t (turn ∷ h)
+pub stands_at : (s t : ScribeValue) (h : List Turn) (turn : Turn) → StandsFor s h → t.clock ≡ max s.clock turn.at → Knows (journal (turn ∷ h)) t.made t.streams
+    → StandsFor t (turn ∷ h)
 stands_at s t h turn st clock_is knows = record { clock_is = ap (λ n. max n turn.at) st.clock_is ∙ sym clock_is; knows = knows }
 
 -- ---- as the code tells
@@ -102,11 +112,13 @@ pub is_other : (what : Command) → ((name : List ℕ) (count : ℕ) → what �
 is_other (command.Create name count) h = h name count refl
 is_other what h = tt
 
-pub other_lines : (s : ScribeValue) (c by : ℕ) (what : Command) (r : Reply) → IsOther what → lines_by c by (entries_of s.streams what r) ≡ told_lines s c by what r
+pub other_lines : (s : ScribeValue) (c by : ℕ) (what : Command) (r : Reply) → IsOther what
+    → lines_by c by (entries_of s.streams what r) ≡ told_lines s c by what r
 other_lines s c by (command.Create name count) r o = absurd o
 other_lines s c by what r o = refl
 
-pub other_after : (s : ScribeValue) (what : Command) (r : Reply) → IsOther what → record s { streams = changed_by (entries_of s.streams what r) s.streams } ≡ told_after s what r
+pub other_after : (s : ScribeValue) (what : Command)
+    (r : Reply) → IsOther what → record s { streams = changed_by (entries_of s.streams what r) s.streams } ≡ told_after s what r
 other_after s (command.Create name count) r o = absurd o
 other_after s what r o = refl
 
