@@ -5,4 +5,4 @@ mod laws;
 mod typed;
 
 pub use laws::sound_histories;
-pub use typed::have_bits;
+pub use typed::{has_bits, have_bits};

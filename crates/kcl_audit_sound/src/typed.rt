@@ -92,7 +92,8 @@ fn are_numbers(what: &Command)
     }
 }
 
-fn has_bits(turn: &Turn)
+/// The numbers of a turn that a machine has have the bits of their types. It looks at the turn, and does nothing.
+pub fn has_bits(turn: &Turn)
     ensures { HasBits turn.now }
 {
     has_32_bits(turn.by);

@@ -13,6 +13,7 @@ ghost use Rattle.kcl_sim.specs.Hands.{IsHandOf, MadeRound, RanCommand, RanFirst,
 ghost use Rattle.kcl_sim.specs.Output.{Ran, deal_text, raw_turn};
 ghost use Rattle.kcl_sim.specs.Standing.{GoesOn, MayHaveBroken, RunsSo, turned};
 
+use crate::keep::Keep;
 use crate::print::{print_left, print_part, print_word};
 use crate::sim::Sim;
 use kcl_hand::Handover;
@@ -34,7 +35,7 @@ fn call_hand(hand: &mut Handover<Stock>) -> Result<(), Memory>
     }
 }
 
-impl<M: Machine> Sim<M> {
+impl<M: Machine, K: Keep> Sim<M, K> {
     /// The turn of a command of a hand-off, and both with the answer as a part of a line. After `Memory` the turn ran or not.
     fn hand_turn(
         &mut self,

@@ -16,11 +16,14 @@ use kcl_script::one_spelling;
 use kds_json::asks_lawfully;
 
 mod hands;
+mod keep;
+mod past;
 mod print;
 mod sim;
 mod steps;
 mod workers;
 
+pub use keep::{AllTurns, Keep, NoTurns};
 pub use sim::Sim;
 
 /// The turns of every schedule are lawful, and so are those of its first lines, also where memory ran out in the middle of

@@ -9,6 +9,7 @@ ghost use Rattle.kcl_sim.specs.Output.{Ran, command_output, raw_turn};
 ghost use Rattle.kcl_sim.specs.Standing.{ChangedAt, Employs, GoesOn, HasAsked, IsFree, MayHaveRun, RunsSo, StepsAt, TookAnswer, TurnRan, place_among};
 ghost use Rattle.kcl_sim.specs.Workers.{Employed, answered, stopped};
 
+use crate::keep::Keep;
 use crate::print::{print_answered, print_word, print_worker};
 use crate::sim::Sim;
 use crate::workers::{absorb, ask, call_all};
@@ -30,7 +31,7 @@ fn settings(from: Origin) -> Settings
     settings
 }
 
-impl<M: Machine> Sim<M> {
+impl<M: Machine, K: Keep> Sim<M, K> {
     /// One more worker, and the number of its actor as a line of output. After `Memory` nothing was done.
     pub(crate) fn hire(
         &mut self,

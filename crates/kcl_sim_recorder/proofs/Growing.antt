@@ -1,7 +1,7 @@
 -- How the history of a run and its journal grow along the lines of a schedule.
-use Rattle.std.proofs.Common.{◌≡◌, ℕ, ◌+◌, ◌≤◌, reverse, List, [], ◌∷◌, ◌++◌, length, Option, Some, None, Result, Ok, Err, refl, sym, ap, subst, ◌∙◌, inl, inr}
-use Rattle.std.proofs.lemmas.List.{append_assoc, append-nil, length-append, length-reverse}
-use Rattle.std.specs.Prelude.{OnErr}
+use Rattle.std.proofs.Common.{◌≡◌, ℕ, ◌+◌, ◌≤◌, List, [], ◌∷◌, ◌++◌, length, Option, Some, None, Result, Ok, Err, refl, sym, ap, subst, ◌∙◌, inl, inr}
+use Rattle.std.proofs.lemmas.List.{append_assoc, append-nil, length-append}
+use Rattle.std.specs.Prelude.{◌%◌, OnErr}
 use Rattle.kds_defs.specs.declared.command.Turn.{Turn}
 use Rattle.kds_lines.specs.Lines as input
 use Rattle.kds_lines.specs.Lines.{End}
@@ -47,16 +47,14 @@ last_line n (Some l) ls h = (l, refl)
 abbrev journal_of : List Turn → List ℕ
 journal_of h = entries_text (history_entries h)
 
--- how many turns a line made, told by how many ran before it and how many by now
+-- how many turns a line made, told by how many ran before it and how many by now, both modulo 4
 abbrev pub IsCount : ℕ → ℕ → ℕ → Type 0
-IsCount before now count = (more : ℕ) → more ≤ 3 → now ≡ more + before → count ≡ more
+IsCount before now count = (more n : ℕ) → more ≤ 3 → before ≡ n % 4 → now ≡ (more + n) % 4 → count ≡ more
 
-count_is : (hs ks h k : List Turn) (count : ℕ) → hs ≡ reverse h → ks ≡ reverse k → IsCount (length hs) (length ks) count
+count_is : (before now count : ℕ) (h k : List Turn) → before ≡ length h % 4 → now ≡ length k % 4 → IsCount before now count
     → (g : GrowsFew h k) → count ≡ length g.more
-count_is hs ks h k count old new counts g =
-    let before : length hs ≡ length h = ap length old ∙ length-reverse h in
-    let now : length ks ≡ length k = ap length new ∙ length-reverse k in
-    counts (length g.more) g.few (now ∙ ap length g.grows ∙ length-append g.more h ∙ ap (λ n. length g.more + n) (sym before))
+count_is before now count h k old new counts g =
+    counts (length g.more) (length h) g.few old (new ∙ ap (λ n. n % 4) (ap length g.grows ∙ length-append g.more h))
 
 module _ (judges : JudgesOn) (states : StatesOn) (lines_on : LinesOn) (text_on : TextOn) (few : FewTurns) where
   one_more : (texts : List (List ℕ)) (text : List ℕ) → (judged_texts texts).ending ≡ whole → (judged_texts (texts ++ text ∷ [])).ending ≡ whole
@@ -129,15 +127,15 @@ module _ (judges : JudgesOn) (states : StatesOn) (lines_on : LinesOn) (text_on :
   broke_off s t texts text old (inr (inr part)) = inr (inr part)
 
   -- the lines of its turns were written
-  pub told : (s t : SimValue) (hs ks : List Turn) (from to : List ℕ) (texts : List (List ℕ)) (text : List ℕ) (count : ℕ)
-      → Took s texts → Took t (texts ++ text ∷ []) → hs ≡ reverse s.history → ks ≡ reverse t.history → IsCount (length hs) (length ks) count
+  pub told : (s t : SimValue) (before now : ℕ) (from to : List ℕ) (texts : List (List ℕ)) (text : List ℕ) (count : ℕ)
+      → Took s texts → Took t (texts ++ text ∷ []) → before ≡ length s.history % 4 → now ≡ length t.history % 4 → IsCount before now count
       → to ≡ from ++ newest_texts count t.history → Goes (λ l. Took t l) texts_journal texts text from to
-  told s t hs ks from to texts text count old new before now counts wrote =
+  told s t before now from to texts text count old new was is counts wrote =
       let g = grew s t texts text old new in
-      let is = count_is hs ks s.history t.history count before now counts g in
+      let same = count_is before now count s.history t.history was is counts g in
       record {
         taken = new;
         added = newest_texts (length g.more) t.history;
         grows = texts_grow s t texts text old new g;
-        wrote = wrote ∙ ap (λ n. from ++ newest_texts n t.history) is;
+        wrote = wrote ∙ ap (λ n. from ++ newest_texts n t.history) same;
       }

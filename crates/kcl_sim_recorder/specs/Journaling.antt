@@ -1,16 +1,17 @@
 -- A machine whose turns are told as lines of the journal.
-use Rattle.std.specs.Prelude.{◌≡◌, ℕ, zero, suc, List, [], ◌∷◌, ◌++◌, drop, Option, Some, None}
+use Rattle.std.specs.Prelude.{◌≡◌, ℕ, zero, suc, ◌%◌, List, [], ◌∷◌, ◌++◌, length, drop, Option, Some, None}
 use Rattle.kds_defs.specs.declared.command.Turn.{Turn}
 use Rattle.kcl_sim_recorder.specs.declared.recent.Recent.{Recent}
 use Rattle.kcl_sim_scribe.specs.Added.{added_entries, entries_text}
 use Rattle.kcl_sim_scribe.specs.Known.{ScribeValue, StandsFor}
 
--- what contracts see of it: the machine, the scribe beside it, and the texts of the lines that the newest turns added,
--- unless memory for the journal ran out
+-- what contracts see of it: the machine, the scribe beside it, the texts of the lines that the newest turns added,
+-- unless memory for the journal ran out, and how many turns ran, modulo 4
 pub record JournaledValue (M : Type 0) : Type 0 where
   pub machine : M
   pub scribe : ScribeValue
   pub recent : Option Recent
+  pub phase : ℕ
 
 -- the text of the lines that the newest turn of a history added
 abbrev pub newest_text : List Turn → List ℕ
@@ -33,6 +34,6 @@ abbrev pub IsTold : ScribeValue → Option Recent → List Turn → Type 0
 IsTold scribe None h = Unit {0}
 IsTold scribe (Some recent) h = StandsFor scribe h × AreNewest recent h
 
--- the machine stands for the history, and its turns were told
+-- the machine stands for the history, and its turns were told and counted
 abbrev pub Journals : {M : Type 0} → (M → List Turn → Type 0) → JournaledValue M → List Turn → Type 0
-Journals stands j h = stands j.machine h × IsTold j.scribe j.recent h
+Journals stands j h = stands j.machine h × IsTold j.scribe j.recent h × (j.phase ≡ length h % 4)

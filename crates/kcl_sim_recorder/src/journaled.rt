@@ -1,5 +1,5 @@
 //! A machine whose turns are told as lines of the journal.
-ghost use Rattle.std.specs.Prelude.{◌≡◌, ◌≤◌, [], ◌∷◌, ◌++◌, List, IfOk, OnOk, OnErr};
+ghost use Rattle.std.specs.Prelude.{◌≡◌, ℕ, ◌+◌, ◌%◌, ◌≤◌, [], ◌∷◌, ◌++◌, List, length, IfOk, OnOk, OnErr};
 ghost use Rattle.kds_defs.specs.declared.command.Turn.{Turn};
 ghost use Rattle.kds_defs.specs.Histories.{answer as answer_after};
 ghost use Rattle.kds_defs.specs.Lawful.{IsLawful};
@@ -24,18 +24,20 @@ pub struct Journaled<M: Machine> {
     scribe: Scribe,
     /// The texts of the lines that the newest turns added.
     recent: Option<Recent>,
+    /// How many turns ran, modulo 4.
+    phase: u8,
 }
 
 impl<M: Machine> Model for Journaled<M> {
-    ghost use Rattle.std.specs.Prelude.{List};
+    ghost use Rattle.std.specs.Prelude.{◌≡◌, ◌%◌, List, length};
     ghost use Rattle.kds_defs.specs.declared.command.Turn.{Turn};
     ghost use Rattle.kcl_sim_recorder.specs.Journaling.{JournaledValue, IsTold};
 
     ghost Value = { JournaledValue M };
 
-    ghost view = { λ j. record { machine = j.machine; scribe = j.scribe; recent = j.recent } };
+    ghost view = { λ j. record { machine = j.machine; scribe = j.scribe; recent = j.recent; phase = j.phase } };
 
-    ghost invariant = { λ j. (h : List Turn) × (M.stands_for j.machine h × IsTold j.scribe j.recent h) };
+    ghost invariant = { λ j. (h : List Turn) × (M.stands_for j.machine h × IsTold j.scribe j.recent h × (j.phase ≡ length h % 4)) };
 }
 
 /// The text of lines, each with its line feed.
@@ -92,6 +94,13 @@ fn tell(
     }
 }
 
+/// The phase after one more turn.
+fn next_phase(phase: u8) -> u8
+    ensures { (n : ℕ) → phase ≡ n % 4 → result ≡ (n + 1) % 4 }
+{
+    if phase < 3 { phase + 1 } else { 0 }
+}
+
 impl<M: Machine> Journaled<M> {
     /// No turn ran. Condition: the machine stands for the empty history.
     pub fn new(alloc: Global, machine: M) -> Journaled<M>
@@ -103,7 +112,15 @@ impl<M: Machine> Journaled<M> {
             machine,
             scribe: Scribe::new(alloc),
             recent: Some(Recent::new(alloc)),
+            phase: 0,
         }
+    }
+
+    /// How many turns ran, modulo 4, which is more than a line makes.
+    pub fn phase(&self) -> u8
+        ensures { (h : List Turn) → Journals M.stands_for self.now h → result ≡ length h % 4 }
+    {
+        self.phase
     }
 
     /// Adds the lines that so many of the newest turns added, the oldest first. Condition: at most three. After `Memory`
@@ -131,6 +148,7 @@ impl<M: Machine> Machine for Journaled<M> {
         let answer = self.machine.apply(turn)?;
         let before = self.recent.take();
         self.recent = tell(self.alloc, &mut self.scribe, before, &copy, &answer);
+        self.phase = next_phase(self.phase);
         drop(copy);
         Ok(answer)
     }

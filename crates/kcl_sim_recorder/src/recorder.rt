@@ -1,11 +1,11 @@
 //! A run of a schedule whose journal takes the place of the answers.
-ghost use Rattle.std.specs.Prelude.{◌≡◌, ℕ, ◌+◌, ◌≤◌, [], reverse};
+ghost use Rattle.std.specs.Prelude.{◌≡◌, ℕ, ◌+◌, ◌%◌, ◌≤◌, [], reverse};
 ghost use Rattle.kds_defs.specs.Histories.{clock as clock_of};
 ghost use Rattle.kcl_sim.specs.Output.{fresh};
 ghost use Rattle.kcl_sim.specs.Standing.{RunsSo};
 
 use crate::journaled::Journaled;
-use kcl_sim::{Sim, few_turns, one_after_another};
+use kcl_sim::{AllTurns, Keep, Sim, few_turns, one_after_another};
 use kcl_sim_scribe::turn_by_turn;
 use kds_base::{Memory, Moment, Octets};
 use kds_defs::{Machine, Turn};
@@ -13,29 +13,29 @@ use kds_lines::Taker;
 use std::alloc::Global;
 use std::marker::Model;
 
-/// How many turns a line made, of which there are at most three, by how many ran before it and how many by now.
-fn made(before: usize, now: usize) -> usize
+/// How many turns a line made, of which there are at most three, by how many ran before it and by now, both modulo 4.
+fn made(before: u8, now: u8) -> usize
     ensures few { result ≤ 3 }
-    ensures is { (more : ℕ) → more ≤ 3 → now ≡ more + before → result ≡ more }
+    ensures is { (more n : ℕ) → more ≤ 3 → before ≡ n % 4 → now ≡ (more + n) % 4 → result ≡ more }
 {
-    if now <= before {
-        0
-    } else if now - before < 3 {
+    let more = if before <= now {
         now - before
     } else {
-        3
-    }
+        4u8.saturating_sub(before - now)
+    };
+    more.min(3) as usize
 }
 
-/// A run of a schedule that tells, in place of each line's answer, the lines that its turns add to the journal.
+/// A run of a schedule that tells, in place of each line's answer, the lines that its turns add to the journal. It keeps of the
+/// turns what a run keeps: all, unless it is made to keep less.
 #[derive(Drop)]
-pub struct Recorder<M: Machine> {
-    sim: Sim<Journaled<M>>,
+pub struct Recorder<M: Machine, K: Keep = AllTurns> {
+    sim: Sim<Journaled<M>, K>,
     /// Room for the answers of a line, which aren't told.
     answers: Octets,
 }
 
-impl<M: Machine> Model for Recorder<M> {
+impl<M: Machine, K: Keep> Model for Recorder<M, K> {
     ghost use Rattle.kcl_sim.specs.Standing.{SimValue};
 
     ghost Value = { SimValue };
@@ -61,6 +61,27 @@ impl<M: Machine> Recorder<M> {
     {
         self.sim.turns()
     }
+}
+
+impl<M: Machine, K: Keep> Recorder<M, K> {
+    /// No line ran, and this is to keep of the turns what it keeps. Condition: the machine stands for the empty history.
+    pub fn keeping(alloc: Global, machine: M, kept: K) -> Recorder<M, K>
+        requires machine { M.stands_for machine [] }
+        requires kept { K.keeps kept [] }
+        ensures { RunsSo result fresh }
+    {
+        Recorder {
+            sim: Sim::keeping(alloc, Journaled::new(alloc, machine), kept),
+            answers: Octets::new(alloc),
+        }
+    }
+
+    /// What is kept of the turns that ran.
+    pub fn kept(&self) -> &K
+        ensures { K.keeps result.now self.now.history }
+    {
+        self.sim.kept()
+    }
 
     /// The greatest moment of a turn that ran, or 0.
     pub fn clock(&self) -> Moment
@@ -71,7 +92,7 @@ impl<M: Machine> Recorder<M> {
 }
 
 /// It takes the lines of a schedule, and stops at a text that is none.
-impl<M: Machine> Taker for Recorder<M> {
+impl<M: Machine, K: Keep> Taker for Recorder<M, K> {
     ghost use Rattle.std.specs.Prelude.{refl};
     ghost use Rattle.kcl_sim.specs.Taking.{Broke, IsNoLine, Took};
     ghost use Rattle.kcl_sim_recorder.specs.Recording.{texts_journal};
@@ -91,11 +112,11 @@ impl<M: Machine> Taker for Recorder<M> {
         turn_by_turn();
         few_turns();
         self.answers.clear();
-        let before = self.sim.turns().len();
+        let before = self.sim.machine().phase();
         if !self.sim.take(alloc, text, &mut self.answers)? {
             return Ok(false);
         }
-        let count = made(before, self.sim.turns().len());
+        let count = made(before, self.sim.machine().phase());
         self.sim.machine().tell(count, to)?;
         Ok(true)
     }

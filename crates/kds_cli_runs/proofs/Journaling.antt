@@ -1,7 +1,6 @@
 -- What the writing of a journal tells, by its parts.
-use Rattle.std.proofs.Common.{◌≡◌, ◌≢◌, ◌<◌, ℕ, true, false, List, [], ◌∷◌, ◌++◌, length, reverse, Option, Some, None, refl, sym, ap, ◌∙◌, subst, inl, arith}
-use Rattle.std.proofs.lemmas.List.{append_assoc, append-nil, length-append, reverse-reverse}
-use mathlib.Core.List.{reverse_aux}
+use Rattle.std.proofs.Common.{◌≡◌, ◌≢◌, ◌<◌, ℕ, true, false, List, [], ◌∷◌, ◌++◌, length, Option, Some, None, refl, sym, ap, ◌∙◌, subst, inl, arith}
+use Rattle.std.proofs.lemmas.List.{append_assoc, append-nil, length-append}
 use Rattle.std.specs.Io.KnownBytes.{Appends}
 use Rattle.std.specs.Option.{IfSome}
 use Rattle.std.proofs.KnownBytes.{Appends-nil, Appends-trans}
@@ -129,20 +128,12 @@ not_done_by st h is = absurd (false_true (sym h ∙ ap is_done is))
 
 -- ---- the numbers of the turns
 
-onto : (xs ys : List Turn) → HaveBits xs → HaveBits ys → HaveBits (reverse_aux xs ys)
-onto [] ys a b = b
-onto (x ∷ xs) ys a b = onto xs (x ∷ ys) a.1 (a.0, b)
-
--- the turns in the order in which they ran are those of the history
-in_order : (turns h : List Turn) → turns ≡ reverse h → HaveBits turns → HaveBits h
-in_order turns h is a = subst (λ (z : List Turn). HaveBits z) (ap reverse is ∙ reverse-reverse h) (onto turns [] a tt)
-
--- and all of the schedule's turns ran
-pub bits_all : (entered : Status) (all b c : Option (List ℕ)) (s : SimValue) (turns : List Turn) → entered ≡ Done → turns ≡ reverse s.history → HaveBits turns
+-- all of the schedule's turns ran
+pub bits_all : (entered : Status) (all b c : Option (List ℕ)) (s : SimValue) → entered ≡ Done → HaveBits s.history
     → IfSome all (λ bytes. RanBy lines_journal entered bytes b c s) → IfSome all (λ bytes. HaveBits (history bytes))
-bits_all entered None b c s turns done is a r = tt
-bits_all entered (Some bytes) b c s turns done is a r =
-    subst (λ (z : List Turn). HaveBits z) (all_ran bytes b c s (subst (λ (x : Status). RanBy lines_journal x bytes b c s) done r)) (in_order turns s.history is a)
+bits_all entered None b c s done a r = tt
+bits_all entered (Some bytes) b c s done a r =
+    subst (λ (z : List Turn). HaveBits z) (all_ran bytes b c s (subst (λ (x : Status). RanBy lines_journal x bytes b c s) done r)) a
 
 -- such a history's journal is sound
 pub audited_all : (all : Option (List ℕ)) → ((bytes : List ℕ) → IsHistory (history bytes))

@@ -13,7 +13,7 @@ ghost use Rattle.kds_cli_runs.specs.Journal.{EndTells, IsAuditedSound, JournalTe
 ghost use Rattle.kds_cli_runs.specs.Told.{IsReplayStatus, TellsBy};
 
 use crate::schedule::status_of;
-use kcl_audit_sound::have_bits;
+use crate::typed::Typed;
 use kcl_journal::print_end;
 use kcl_sim_recorder::Recorder;
 use kds_base::{Memory, Moment, Octets};
@@ -49,7 +49,7 @@ fn write_last<K: Sink>(alloc: Global, clock: Moment, out: &mut K) -> Status
 /// Runs the lines of a schedule, and writes the entries of the journal that they make. Condition: no line ran before.
 fn write_entries<M: Machine, S: Source, K: Sink>(
     alloc: Global,
-    recorder: &mut Recorder<M>,
+    recorder: &mut Recorder<M, Typed>,
     input: &mut S,
     out: &mut K,
 ) -> Status
@@ -78,7 +78,7 @@ fn is_done(status: Status) -> bool
 /// line exactly where the schedule was read to its end. Condition: no line ran before.
 fn write_rest<M: Machine, S: Source, K: Sink>(
     alloc: Global,
-    recorder: &mut Recorder<M>,
+    recorder: &mut Recorder<M, Typed>,
     input: &mut S,
     out: &mut K,
 ) -> Status
@@ -94,17 +94,17 @@ fn write_rest<M: Machine, S: Source, K: Sink>(
 {
     let status = write_entries(alloc, recorder, input, out);
     if is_done(status) {
-        have_bits(recorder.turns());
+        let _ = recorder.kept();
         return write_last(alloc, recorder.clock(), out);
     }
     status
 }
 
-/// How the recording of a schedule ended, and the turns that it made.
+/// How the recording of a schedule ended, and the machine and the workers that it leaves.
 #[derive(Drop)]
 pub struct Recorded<M: Machine> {
     pub status: Status,
-    pub recorder: Recorder<M>,
+    pub recorder: Recorder<M, Typed>,
 }
 
 /// Runs a schedule on a machine, and writes its journal. Condition: the machine stands for the empty history.
@@ -131,7 +131,7 @@ pub fn record_schedule<M: Machine + Drop, S: Source, K: Sink>(
 {
     kcl_sim::lawful();
     kcl_audit_sound::sound_histories();
-    let mut recorder = Recorder::new(alloc, machine);
+    let mut recorder = Recorder::keeping(alloc, machine, Typed);
     match write_all(out, b"journal 2\n".as_slice()) {
         Ok(()) => Recorded {
             status: write_rest(alloc, &mut recorder, input, out),

@@ -4,17 +4,17 @@ ghost use Rattle.kds_ends.specs.Causes.{Rose};
 ghost use Rattle.kds_cli_runs.specs.Answered.{status_of as status_at, RanSo};
 ghost use Rattle.kds_cli_runs.specs.Told.{Tells, IsReplayStatus};
 
-use kcl_sim::Sim;
+use kcl_sim::{NoTurns, Sim};
 use kds_defs::Machine;
 use kds_ends::{Sink, Source, Status};
 use kds_lines::{Outcome, read_lines};
 use std::alloc::Global;
 
-/// How a run of a schedule ended, and the turns that it made.
+/// How a run of a schedule ended, and the machine and the workers that it leaves. Its turns aren't kept.
 #[derive(Drop)]
 pub struct Replay<M: Machine> {
     pub status: Status,
-    pub sim: Sim<M>,
+    pub sim: Sim<M, NoTurns>,
 }
 
 /// The end of a run by that of the reading of its input: what has no line feed is no line.
@@ -50,7 +50,7 @@ pub fn run_schedule<M: Machine + Drop, S: Source, K: Sink>(
     ensures kinds { IsReplayStatus result.status }
 {
     kcl_sim::one_after_another();
-    let mut sim = Sim::new(alloc, machine);
+    let mut sim = Sim::keeping(alloc, machine, NoTurns);
     let outcome = read_lines(alloc, &mut sim, input, out);
     let status = status_of(outcome);
     Replay { status, sim }

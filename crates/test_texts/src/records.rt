@@ -66,12 +66,12 @@ const HANDED_ENTRIES: &str = "1000 0 made 1 s 1
 3000 1000 freed 1 3
 ";
 
-/// What a recorder over a new machine writes for these lines, and its clock behind it.
+/// What a recorder over a new machine writes for these lines, its clock behind it, and how many turns it has kept.
 fn record<M: Machine + Drop>(
     alloc: Global,
     machine: M,
     lines: &[&str],
-) -> Result<(Octets, u64), Memory>
+) -> Result<(Octets, u64, usize), Memory>
     requires { M.stands_for machine [] }
 {
     let mut recorder = Recorder::new(alloc, machine);
@@ -81,21 +81,21 @@ fn record<M: Machine + Drop>(
             break;
         }
     }
-    Ok((out, recorder.clock().ms()))
+    Ok((out, recorder.clock().ms(), recorder.turns().len()))
 }
 
 #[test]
 fn records(rt: HostRuntime) -> Result<(), Fail> {
     let alloc = rt.alloc();
-    let (out, clock) = record(alloc, World::new(alloc), &ROBBED)?;
+    let (out, clock, turns) = record(alloc, World::new(alloc), &ROBBED)?;
     assert!(rt; out.as_slice() == ENTRIES.as_bytes());
-    assert!(rt; clock == 3000);
-    let (out, clock) = record(alloc, World::new(alloc), &HANDED)?;
+    assert!(rt; clock == 3000 && turns == ROBBED.len());
+    let (out, clock, _) = record(alloc, World::new(alloc), &HANDED)?;
     assert!(rt; out.as_slice() == HANDED_ENTRIES.as_bytes());
     assert!(rt; clock == 3000);
     let bad = ["1000 raw 1 make", "1000 raw 1 survey"];
-    let (out, clock) = record(alloc, World::new(alloc), &bad)?;
+    let (out, clock, turns) = record(alloc, World::new(alloc), &bad)?;
     assert!(rt; out.as_slice().is_empty());
-    assert!(rt; clock == 0);
+    assert!(rt; clock == 0 && turns == 0);
     Ok(())
 }

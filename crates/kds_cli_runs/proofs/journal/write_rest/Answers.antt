@@ -27,8 +27,8 @@ returns-clause-ran g c = λ start first.
 
 pub returns-then-is_done-clause-bits : goal.returns-then-is_done-clause-bits
 returns-then-is_done-clause-bits g c = λ done.
-    bits_all c.write_entries-status.result (g.S.Source.left c.args.input.now) _ _ c.write_entries-status.new.recorder c.turns.result.now
-    (done_by c.write_entries-status.result (sym c.is_done.ensures ∙ c.if-is_done.true)) c.turns.ensures c.have_bits.ensures c.write_entries-status.ensures.ran
+    bits_all c.write_entries-status.result (g.S.Source.left c.args.input.now) _ _ c.write_entries-status.new.recorder
+    (done_by c.write_entries-status.result (sym c.is_done.ensures ∙ c.if-is_done.true)) c.kept.ensures c.write_entries-status.ensures.ran
 
 pub returns-clause-bits : goal.returns-clause-bits
 returns-clause-bits g c = λ done. absurd (not_done_by c.write_entries-status.result (sym c.is_done.ensures ∙ c.if-is_done.false) done)

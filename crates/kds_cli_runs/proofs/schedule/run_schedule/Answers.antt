@@ -4,7 +4,7 @@ use Rattle.kds_cli_runs.proofs.Answering.{outputs_grow, tells_all, ran_all, repl
 use Rattle.kds_cli_runs.proofs.schedule.run_schedule.Goals as goal
 
 pub read_lines-outcome-requires : goal.read_lines-outcome-requires
-read_lines-outcome-requires g c = record { are_lines = refl; made = c.new-sim.ensures }
+read_lines-outcome-requires g c = record { are_lines = refl; made = c.keeping-sim.ensures }
 
 pub returns-clause-told : goal.returns-clause-told
 returns-clause-told g c =

@@ -1,4 +1,4 @@
-use Rattle.std.proofs.Common.{sym, subst}
+use Rattle.std.proofs.Common.{◌≡◌, ◌+◌, ◌%◌, ◌∷◌, length, sym, subst, arith}
 use Rattle.kcl_sim_recorder.specs.Journaling.{Journals}
 use Rattle.kcl_sim_recorder.proofs.Telling.{copy_answered, copy_lawful}
 use Rattle.kcl_sim_recorder.proofs.journaled.JournaledMachine.apply.Goals as goal
@@ -16,4 +16,6 @@ pub returns-clause-answered : goal.returns-clause-answered
 returns-clause-answered g c = λ h stood.
     let at = subst (λ j. Journals g.M.Machine.stands_for j h) (sym c.self.view_is) stood in
     let a = c.in_ok-answer.ensures.answered h at.0 in
-    (a.0, (a.1, c.tell.ensures h c.args.turn (rw c.take-before.ensures.value at.1) c.copy-copy.ensures a.0))
+    let one_more : length h + 1 ≡ length (c.args.turn ∷ h) = omega arith in
+    let phase = subst (λ n. c.next_phase-self-inside.result ≡ n % 4) one_more (c.next_phase-self-inside.ensures (length h) at.2) in
+    (a.0, (a.1, c.tell.ensures h c.args.turn (rw c.take-before.ensures.value at.1) c.copy-copy.ensures a.0, phase))

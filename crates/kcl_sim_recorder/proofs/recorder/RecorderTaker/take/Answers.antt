@@ -24,6 +24,7 @@ returns-clause-goes g c = λ more lines took.
     let old = subst (λ (v : SimValue). Took v lines) (sym c.self.view_is) took in
     let new = (c.in_ok-take.ensures.goes c.if-not-branch.false lines old).taken in
     told c.one_after_another.ensures.judged c.one_after_another.ensures.states c.turn_by_turn.ensures.lines c.turn_by_turn.ensures.text
-    c.few_turns.ensures.line c.self.inside.sim c.take.new.self c.turns-before.result.now c.turns.result.now
-    c.args.to.now c.tell.new.to lines c.args.text.now c.made-count.result old new c.turns-before.ensures c.turns.ensures c.made-count.ensures.is
-    (c.in_ok-tell.ensures.ok c.take.new.self.history c.machine.ensures)
+    c.few_turns.ensures.line c.self.inside.sim c.take.new.self c.phase-before.result c.phase.result
+    c.args.to.now c.tell.new.to lines c.args.text.now c.made-count.result old new
+    (c.phase-before.ensures c.self.inside.sim.history c.machine.ensures) (c.phase.ensures c.take.new.self.history c.machine-2.ensures)
+    c.made-count.ensures.is (c.in_ok-tell.ensures.ok c.take.new.self.history c.machine-3.ensures)
