@@ -123,7 +123,7 @@ module _ (log : Journal) (d by s : ℕ) (v : StreamValue) (order : last_clock lo
   pub split_step : (sh at n low high : ℕ) → n ≡ v.next → IsStream (entry_line d by (entry.Split s sh at n low high) ∷ log) s (with_split d sh at n v)
   split_step sh at n low high is =
       let line : Line = entry_line d by (entry.Split s sh at n low high) in
-      let closing : Closing = record { is_itself = n; clock = d } in
+      let closing : Closing = record { number = n; clock = d } in
       let start = next_number (line ∷ log) s in
       record {
         was = st.was;
@@ -144,7 +144,7 @@ module _ (log : Journal) (d by s : ℕ) (v : StreamValue) (order : last_clock lo
   pub merge_step : (sh other n child : ℕ) → n ≡ v.next → IsStream (entry_line d by (entry.Merged s sh other n child) ∷ log) s (with_merge d sh other n v)
   merge_step sh other n child is =
       let line : Line = entry_line d by (entry.Merged s sh other n child) in
-      let closing : Closing = record { is_itself = n; clock = d } in
+      let closing : Closing = record { number = n; clock = d } in
       let start = next_number (line ∷ log) s in
       record {
         was = st.was;

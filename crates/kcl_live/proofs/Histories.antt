@@ -6,7 +6,6 @@ use Rattle.kds_defs.specs.declared.command.Turn.{Turn}
 use Rattle.kds_defs.specs.Histories.{answer}
 use Rattle.kcl_defs.specs.Lives.{Deal, deals_of}
 use Rattle.kds_turn.specs.Known.{Continues, turns_by}
-use Rattle.kds_turn.proofs.Turns.{tail_of}
 
 no_fewer : (by : ℕ) (newer h : List Turn) → length (turns_by by h) ≤ length (turns_by by (newer ++ h))
 no_fewer by [] h = omega arith
@@ -28,9 +27,9 @@ same_deals by (t ∷ newer) h e = one (t.by == by) e (same_deals by newer h)
 
 -- the actor's turns before one of its own
 pub before_own : (t : Turn) (place own : List Turn) → turns_by t.by (t ∷ place) ≡ t ∷ own → turns_by t.by place ≡ own
-unfolding tail_of
 before_own t place own e =
-    ap tail_of (sym (ap (λ b. cond b (t ∷ turns_by t.by place) (turns_by t.by place)) (is_itself t.by)) ∙ e)
+    let same : t ∷ turns_by t.by place ≡ t ∷ own = sym (ap (λ b. cond b (t ∷ turns_by t.by place) (turns_by t.by place)) (is_itself t.by)) ∙ e in
+    cc (same)
 
 -- what was told of a place is told of each history that goes on with one more of the actor's turns there
 pub told_more : (t : Turn) (place own h : List Turn) (deals : List Deal) → turns_by t.by (t ∷ place) ≡ t ∷ own → Continues h (t ∷ place) → turns_by t.by h ≡ t ∷ own → deals_of t.by place ≡ deals
