@@ -1,7 +1,9 @@
 -- The machine after one line of a lease.
-use Rattle.std.proofs.Common.{◌≡◌, ◌≢◌, ℕ, zero, suc, ◌+◌, ◌-◌, ◌<◌, ◌≤◌, Bool, true, false, List, [], ◌∷◌, ◌++◌, length, map, slice_set, Option, Some, None, refl, sym, ap, subst, ◌∙◌, arith}
+use Rattle.std.proofs.Common.{◌≡◌, ◌≢◌, ℕ, ◌+◌, ◌-◌, ◌<◌, ◌≤◌, Bool, true, false, List, [], ◌∷◌, ◌++◌, length, map, slice_set, Option, Some, None, refl, sym}
+use Rattle.std.proofs.Common.{ap, subst, ◌∙◌, arith}
 use Rattle.std.specs.Prelude.{◌==◌, if◌then◌else◌, IfSome}
 use Rattle.std.specs.Option.{option_map}
+use Rattle.std.proofs.lemmas.List.{length-set, length_push}
 use Rattle.kds_base.specs.declared.lease_key.Checkpoint.TheVariants.{TrimHorizon, At}
 use Rattle.kds_base.specs.declared.lease_key.ShardRef.{ShardRef}
 use Rattle.kds_base.proofs.Facts.{equal_so}
@@ -140,11 +142,6 @@ given_if : (b : Bool) (g : TenureState → TenureState) (T : TenureState) (o : O
 given_if true g T o here new old = subst (λ p. IfSome (option_map g p) IsGiven) (sym (here refl)) new
 given_if false g T o here new old = old
 
-same_length : {A : Type 0} (xs : List A) (i : ℕ) (x : A) → length (slice_set xs i x) ≡ length xs
-same_length [] i x = refl
-same_length (y ∷ ys) zero x = refl
-same_length (y ∷ ys) (suc i) x = ap suc (same_length ys i x)
-
 pub tenure_goes_on : (log : Journal) (line : Line) (ts : List TenureValue) (t : ℕ) (g : TenureState → TenureState) (T : TenureState) (y : TenureValue)
     → ((n : ℕ) → taken_count_after line.what n ≡ n)
     → ((u : ℕ) (o : Option TenureState) → tenure_after log line line.what u o ≡ (if t == u then option_map g o else o))
@@ -154,8 +151,8 @@ tenure_goes_on log line ts t g T y count after at is new tenures =
     let here : (u : ℕ) → (t == u) ≡ true → tenure log u ≡ Some T = λ u e. ap (tenure log) (sym (equal_so t u e)) ∙ at in
     let there : tenure_at ts t ≡ Some (kept T) = sym (tenures.tenure_is t) ∙ ap (option_map kept) at in
     record {
-      count_is = count (taken_count log) ∙ tenures.count_is ∙ sym (same_length ts (t - 1) y);
-      few = subst (λ n. n ≤ last_number) (sym (same_length ts (t - 1) y)) tenures.few;
+      count_is = count (taken_count log) ∙ tenures.count_is ∙ sym (length-set ts (t - 1) y);
+      few = subst (λ n. n ≤ last_number) (sym (length-set ts (t - 1) y)) tenures.few;
       tenure_is = λ u.
           ap (option_map kept) (after u (tenure log u))
           ∙ map_if (t == u) g T (tenure log u) y (tenure_at ts u) (here u) is (tenures.tenure_is u)
@@ -171,18 +168,14 @@ begun_given : (b : Bool) (T : TenureState) (o : Option TenureState) → IsGiven 
 begun_given true T o new old = new
 begun_given false T o new old = old
 
-one_longer : {A : Type 0} (xs : List A) (x : A) → length (xs ++ (x ∷ [])) ≡ length xs + 1
-one_longer [] x = refl
-one_longer (y ∷ ys) x = let h = one_longer ys x in omega (arith, h)
-
 pub tenure_begins : (log : Journal) (line : Line) (ts : List TenureValue) (T : TenureState) (y : TenureValue)
     → ((n : ℕ) → taken_count_after line.what n ≡ n + 1)
     → ((u : ℕ) (o : Option TenureState) → tenure_after log line line.what u o ≡ (if u == taken_count log + 1 then Some T else o))
     → y ≡ kept T → IsGiven T → length ts < last_number
     → HasTenures log ts → HasTenures (line ∷ log) (ts ++ (y ∷ []))
 tenure_begins log line ts T y count after is new room tenures = record {
-  count_is = count (taken_count log) ∙ ap (λ n. n + 1) tenures.count_is ∙ sym (one_longer ts y);
-  few = let longer = one_longer ts y in omega (arith, longer, room);
+  count_is = count (taken_count log) ∙ ap (λ n. n + 1) tenures.count_is ∙ sym (length_push ts y);
+  few = let longer = length_push ts y in omega (arith, longer, room);
   tenure_is = λ u.
       ap (option_map kept) (after u (tenure log u))
       ∙ begin_if (u == taken_count log + 1) T (tenure log u) y (tenure_at ts u) is (tenures.tenure_is u)

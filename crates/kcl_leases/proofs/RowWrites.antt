@@ -2,12 +2,11 @@
 use Rattle.std.proofs.Common.{◌≡◌, ◌≢◌, ℕ, ◌+◌, ◌<◌, ◌≤◌, Bool, true, false, List, [], ◌∷◌, ◌++◌, length, Option, Some, None, refl, sym, ap, subst, ◌∙◌, arith}
 use Rattle.std.specs.Prelude.{◌==◌, ◌||◌, not, is_some, if◌then◌else◌, Result, Ok, Err}
 use Rattle.std.specs.Option.{option_map}
-use Rattle.std.proofs.lemmas.Bool.Decides.{nat_tests}
 use Rattle.std.proofs.lemmas.Bool.{or_parts}
 use Rattle.kds_base.specs.declared.lease_key.Checkpoint.{Checkpoint}
 use Rattle.kds_base.specs.declared.lease_key.Checkpoint.TheVariants.{At}
 use Rattle.kds_base.specs.declared.lease_key.ShardRef.{ShardRef}
-use Rattle.kds_base.proofs.Facts.{equal_unless}
+use Rattle.kds_base.proofs.Facts.{differ_so, equal_unless}
 use Rattle.kds_defs.specs.declared.command.Command.TheVariants as command
 use Rattle.kds_defs.specs.declared.command.Origin.{Origin}
 use Rattle.kds_defs.specs.declared.command.Origin.TheVariants as origin
@@ -33,16 +32,11 @@ use Rattle.kds_defs.proofs.Keys.{same_ref}
 use Rattle.kcl_book.specs.Tenures.{TenureValue, begun}
 use Rattle.kcl_table.specs.Rows.{changed, row_of, with_row, without_row}
 use Rattle.kcl_table.specs.Writes.{counted, cut_answer, take_answer}
+use Rattle.kcl_leases.proofs.Deciding.{err_same, if_ok, never, ok_same, refused_test}
 use Rattle.kcl_leases.proofs.LeaseSteps.{LeaseLines, changed_rows, made_rows, removed_rows, rows_of, same_tenures, stands_of, tenure_begins, tenures_of}
 use Rattle.kcl_leases.proofs.RowChanges.{keys_with, keys_without}
 use Rattle.kcl_leases.specs.Conditions.{counting_from, parent_reaches, start_answer}
 use Rattle.kcl_leases.specs.Standing.{Facing, Leads, Stands, leases, live_shard}
-
-err_same : {A : Type 0} (r q : Refusal) → ◌≡◌ {A = Result A Refusal} (Err r) (Err q) → r ≡ q
-err_same r q h = cc
-
-ok_same : {A : Type 0} (x y : A) → ◌≡◌ {A = Result A Refusal} (Ok x) (Ok y) → x ≡ y
-ok_same x y h = cc
 
 -- ---- a row is made
 
@@ -156,24 +150,13 @@ taking o counter spent next =
     refuse refusal.Spent if (r.counter == last_number) || spent else
     next r
 
-refused_test : {A : Type 0} (b : Bool) (r q : Refusal) (x : Result A Refusal) (d : Decision) → Err r ≡ (if b then Err q else x) → (b ≡ false → Err r ≡ x → d ≡ Refused r) → (refuse q if b else d) ≡ Refused r
-refused_test true r q x d h rest = refused_if _ _ _ refl ∙ ap Refused (sym (err_same r q h))
-refused_test false r q x d h rest = passed_if _ _ _ refl ∙ rest refl h
-
 taking_refused : (o : Option Row) (counter : ℕ) (spent : Bool) (r : Refusal) (next : Row → Decision) → Err r ≡ start_answer o counter spent → taking o counter spent next ≡ Refused r
 taking_refused None counter spent r next h = with_none _ _ _ refl ∙ ap Refused (sym (err_same r refusal.NoLease h))
 taking_refused (Some x) counter spent r next h =
     with_some _ _ _ x refl
     ∙ refused_test (not (x.counter == counter)) r _ (if is_end x.checkpoint then Err refusal.Ended else if (x.counter == last_number) || spent then Err refusal.Spent else Ok x.checkpoint) _ h (λ moved h.
     refused_test (is_end x.checkpoint) r _ (if (x.counter == last_number) || spent then Err refusal.Spent else Ok x.checkpoint) _ h (λ ended h.
-    refused_test ((x.counter == last_number) || spent) r _ (Ok x.checkpoint) _ h (λ full h. never h)))
-  where
-    never : {d : Decision} → ◌≡◌ {A = Result Checkpoint Refusal} (Err r) (Ok x.checkpoint) → d ≡ Refused r
-    never h = absurd cc
-
-if_ok : {A : Type 0} (b : Bool) (r : Refusal) (n : A) (x : Result A Refusal) → Ok n ≡ (if b then Err r else x) → (b ≡ false) × (Ok n ≡ x)
-if_ok true r n x h = absurd cc
-if_ok false r n x h = (refl, h)
+    refused_test ((x.counter == last_number) || spent) r _ (Ok x.checkpoint) _ h (λ full h. never r x.checkpoint _ h)))
 
 pub record IsTaken (o : Option Row) (counter : ℕ) (spent : Bool) (start : Checkpoint) : Type 0 where
   pub before : Row
@@ -207,13 +190,7 @@ is_taken (Some x) counter spent start h =
     }
 
 pub below_last : (n : ℕ) (b : Bool) → b ≡ (n == last_number) → b ≡ false → n ≤ last_number → n < last_number
-below_last n b is apart le = differ n (sym is ∙ apart) le
-  where
-    differ : (n : ℕ) → (n == last_number) ≡ false → n ≤ last_number → n < last_number
-    differ n e le = let apart : n ≢ last_number = unequal n last_number e in omega (arith, le, apart)
-      where
-        unequal : (n m : ℕ) → (n == m) ≡ false → n ≢ m
-        unequal n m e = grind (arith, nat_tests)
+below_last n b is apart le = let other : n ≢ last_number = differ_so n last_number (sym is ∙ apart) in omega (arith, le, other)
 
 module _ (s : Facing) (rs : List Row) (ts : List TenureValue) (by : ℕ) (key : ShardRef) (counter owner : ℕ) where
   taken_next : Journal → Row → Decision
@@ -270,10 +247,7 @@ cutting_refused None counter listed r next h = with_none _ _ _ refl ∙ ap Refus
 cutting_refused (Some x) counter listed r next h =
     with_some _ _ _ x refl
     ∙ refused_test (not (x.counter == counter)) r _ (if listed then Err refusal.ShardListed else Ok tt) _ h (λ moved h.
-    refused_test listed r _ (Ok tt) _ h (λ out h. never h))
-  where
-    never : {d : Decision} → ◌≡◌ {A = Result (Unit {0}) Refusal} (Err r) (Ok tt) → d ≡ Refused r
-    never h = absurd cc
+    refused_test listed r _ (Ok tt) _ h (λ out h. never r tt _ h))
 
 cutting_done : (o : Option Row) (counter : ℕ) (listed : Bool) (next : Decision) → Ok tt ≡ cut_answer o counter listed → cutting o counter listed next ≡ next
 cutting_done None counter listed next h = absurd cc

@@ -4,14 +4,14 @@ ghost use Rattle.kds_defs.specs.declared.command.Command.TheVariants as command;
 ghost use Rattle.kds_defs.specs.StreamCommands.{last_number};
 ghost use Rattle.kcl_book.specs.Tenures.{TenureValue};
 ghost use Rattle.kcl_table.specs.Rows.{row_of};
-ghost use Rattle.kcl_leases.specs.Conditions.{start_answer};
+ghost use Rattle.kcl_leases.specs.Conditions.{start_answer, write_command};
 ghost use Rattle.kcl_leases.specs.Standing.{AreBounded, LeadsOver};
 
 use crate::actors::own;
 use crate::origins::{counting, floor_from, start_from};
 use crate::shards::Shards;
 use kcl_book::Book;
-use kcl_table::Table;
+use kcl_table::{Change, Table};
 use kds_base::{Checkpoint, Memory, ShardRef, TenureNo, WorkerNo};
 use kds_defs::{Answer, Origin, Refusal, Reply};
 
@@ -103,6 +103,24 @@ pub fn take<L: Shards>(
     }
 }
 
+/// The tenure's row is changed so.
+fn write<L: Shards>(
+    shards: &L,
+    table: &mut Table,
+    book: &Book,
+    by: u32,
+    tenure: TenureNo,
+    counter: u64,
+    change: Change,
+) -> Answer
+    ensures { LeadsOver (L.clock shards.now) (L.shows shards.now) table.old book.now.tenures table.new book.now.tenures by (write_command change tenure counter) result }
+{
+    shards.lease_lines();
+    let own = own(book, by, tenure)?;
+    let next = table.write(own.key, tenure, counter, change)?;
+    Ok(Reply::Counter(next))
+}
+
 /// The tenure's row is renewed.
 pub fn renew<L: Shards>(
     shards: &L,
@@ -114,10 +132,7 @@ pub fn renew<L: Shards>(
 ) -> Answer
     ensures { LeadsOver (L.clock shards.now) (L.shows shards.now) table.old book.now.tenures table.new book.now.tenures by (command.Renew tenure counter) result }
 {
-    shards.lease_lines();
-    let own = own(book, by, tenure)?;
-    let next = table.renew(own.key, tenure, counter)?;
-    Ok(Reply::Counter(next))
+    write(shards, table, book, by, tenure, counter, Change::Renewed)
 }
 
 /// The tenure's row is freed.
@@ -131,10 +146,7 @@ pub fn free<L: Shards>(
 ) -> Answer
     ensures { LeadsOver (L.clock shards.now) (L.shows shards.now) table.old book.now.tenures table.new book.now.tenures by (command.Free tenure counter) result }
 {
-    shards.lease_lines();
-    let own = own(book, by, tenure)?;
-    let next = table.free(own.key, tenure, counter)?;
-    Ok(Reply::Counter(next))
+    write(shards, table, book, by, tenure, counter, Change::Freed)
 }
 
 /// Removes the row of a shard that isn't listed.

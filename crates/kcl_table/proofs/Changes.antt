@@ -4,26 +4,24 @@ use Rattle.std.specs.Prelude.{if◌then◌else◌}
 use Rattle.std.specs.List.{insert, remove}
 use Rattle.std.proofs.lemmas.Bool.Decides.{nat_tests}
 use Rattle.kds_base.specs.declared.lease_key.ShardRef.{ShardRef}
+use Rattle.kds_base.proofs.Facts.{apart, same_some}
 use Rattle.kds_defs.specs.declared.reply.Row.{Row}
 use Rattle.kds_defs.specs.Keys.{is_before, same_key}
 use Rattle.kds_defs.specs.Leases.{is_other, taken_row}
 use Rattle.kds_defs.proofs.Keys.{same_ref}
+use Rattle.kcl_table.specs.declared.writes.Change.{Change}
+use Rattle.kcl_table.specs.declared.writes.Change.TheVariants.{Renewed, Freed}
 use Rattle.kcl_table.specs.Rows.{AreCounted, AreInOrder, IsBeforeAll, IsTable, changed, place_of, row_of, with_row, without_row}
+use Rattle.kcl_table.specs.Writes.{written_row}
 use Rattle.kcl_table.proofs.Keys.{after_else, before_all, not_same}
 use Rattle.kcl_table.proofs.Places.{absent}
-
-same_some : (r x : Row) → Some x ≡ Some r → x ≡ r
-same_some r x h = cc
-
-apart : true ≡ false → ⊥
-apart h = cc
 
 -- ---- the row of a key
 
 found_here : (key : ShardRef) (x r : Row) (rs : List Row) (d : Bool) → same_key x.key key ≡ d → (if d then Some x else row_of rs key) ≡ Some r → AreCounted (x ∷ rs)
     → (row_of rs key ≡ Some r → AreCounted rs → (r.key ≡ key) × (r.switches ≤ r.counter)) → (r.key ≡ key) × (r.switches ≤ r.counter)
 found_here key x r rs true same h counted rest =
-    let e = same_some r x h in
+    let e = same_some x r h in
     subst (λ (y : Row). (y.key ≡ key) × (y.switches ≤ y.counter)) e (same_ref x.key key same, counted.0)
 found_here key x r rs false same h counted rest = rest h counted.1
 
@@ -40,12 +38,21 @@ switches_if false n m h = omega (arith, h)
 pub switches_taken : (tenure owner : ℕ) (r : Row) → r.switches ≤ r.counter → (taken_row tenure owner r).switches ≤ (taken_row tenure owner r).counter
 switches_taken tenure owner r h = switches_if (is_other r.owner owner) r.switches r.counter h
 
+-- and so does a renewal, and a freeing; the key stays
+pub switches_written : (change : Change) (r : Row) → r.switches ≤ r.counter → (written_row change r).switches ≤ (written_row change r).counter
+switches_written Renewed r h = omega (arith, h)
+switches_written Freed r h = omega (arith, h)
+
+pub key_written : (change : Change) (r : Row) → (written_row change r).key ≡ r.key
+key_written Renewed r = refl
+key_written Freed r = refl
+
 -- ---- a row in the place of another
 
 changed_here : (f : Row → Row) (key : ShardRef) (x r : Row) (rs : List Row) (d : Bool) → same_key x.key key ≡ d → (if d then Some x else row_of rs key) ≡ Some r
     → (row_of rs key ≡ Some r → changed (λ _. f r) key rs ≡ changed f key rs)
     → (if d then f r ∷ rs else x ∷ changed (λ _. f r) key rs) ≡ (if d then f x ∷ rs else x ∷ changed f key rs)
-changed_here f key x r rs true same h rest = ap (λ y. f y ∷ rs) (sym (same_some r x h))
+changed_here f key x r rs true same h rest = ap (λ y. f y ∷ rs) (sym (same_some x r h))
 changed_here f key x r rs false same h rest = ap (λ ys. x ∷ ys) (rest h)
 
 changed_by : (f : Row → Row) (key : ShardRef) (r : Row) (rs : List Row) → row_of rs key ≡ Some r → changed (λ _. f r) key rs ≡ changed f key rs
@@ -71,7 +78,7 @@ puts f key r row rs counted h is keeps =
 set_here : (row x : Row) (rs : List Row) (b d : Bool) → is_before x.key row.key ≡ b → same_key x.key row.key ≡ d → AreInOrder (x ∷ rs) → ((if d then Some x else row_of rs row.key) ≡ None → ⊥)
     → ((row_of rs row.key ≡ None → ⊥) → (place_of row.key rs < length rs) × (slice_set rs (place_of row.key rs) row ≡ changed (λ _. row) row.key rs))
     → ((if b then suc (place_of row.key rs) else 0) < suc (length rs)) × (slice_set (x ∷ rs) (if b then suc (place_of row.key rs) else 0) row ≡ (if d then row ∷ rs else x ∷ changed (λ _. row) row.key rs))
-set_here row x rs true true before same order there rest = absurd (apart (sym same ∙ not_same x.key row.key before))
+set_here row x rs true true before same order there rest = absurd (apart (same_key x.key row.key) same (not_same x.key row.key before))
 set_here row x rs true false before same order there rest = let h = rest there in (omega (arith, h.0), ap (λ ys. x ∷ ys) h.1)
 set_here row x rs false true before same order there rest = (omega arith, refl)
 set_here row x rs false false before same order there rest =
@@ -147,7 +154,7 @@ table_with new (x ∷ rs) h counted table =
 remove_here : (key : ShardRef) (x r : Row) (rs : List Row) (b d : Bool) → is_before x.key key ≡ b → same_key x.key key ≡ d → AreInOrder (x ∷ rs) → (if d then Some x else row_of rs key) ≡ Some r
     → (row_of rs key ≡ Some r → (place_of key rs < length rs) × (remove rs (place_of key rs) ≡ without_row key rs))
     → ((if b then suc (place_of key rs) else 0) < suc (length rs)) × (remove (x ∷ rs) (if b then suc (place_of key rs) else 0) ≡ (if d then rs else x ∷ without_row key rs))
-remove_here key x r rs true true before same order h rest = absurd (apart (sym same ∙ not_same x.key key before))
+remove_here key x r rs true true before same order h rest = absurd (apart (same_key x.key key) same (not_same x.key key before))
 remove_here key x r rs true false before same order h rest = let g = rest h in (omega (arith, g.0), ap (λ ys. x ∷ ys) g.1)
 remove_here key x r rs false true before same order h rest = (omega arith, refl)
 remove_here key x r rs false false before same order h rest =

@@ -18,9 +18,6 @@ not_same_after a b h = grind (arith, nat_tests)
 pub after_else : (a b : ShardRef) → is_before a b ≡ false → same_key a b ≡ false → is_before b a ≡ true
 after_else a b h g = grind (arith, nat_tests)
 
-pub not_before_same : (a b : ShardRef) → same_key a b ≡ true → is_before a b ≡ false
-not_before_same a b h = grind (arith, nat_tests)
-
 pub before_all : (a b : ShardRef) (rs : List Row) → is_before a b ≡ true → IsBeforeAll b rs → IsBeforeAll a rs
 before_all a b [] h all = tt
 before_all a b (r ∷ rs) h all = (before_both a b r.key h all.0, before_all a b rs h all.1)

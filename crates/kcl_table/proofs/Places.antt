@@ -3,6 +3,7 @@ use Rattle.std.proofs.Common.{◌≡◌, ℕ, zero, suc, ◌<◌, ◌≤◌, Boo
 use Rattle.std.specs.Prelude.{slice_get, slice_index_or, if◌then◌else◌}
 use Rattle.std.specs.List.Sorted.{IsPartitionedBy, IsPartitionPoint}
 use Rattle.kds_base.specs.declared.lease_key.ShardRef.{ShardRef}
+use Rattle.kds_base.proofs.Facts.{apart}
 use Rattle.kds_defs.specs.declared.reply.Row.{Row}
 use Rattle.kds_defs.specs.Keys.{is_before, same_key}
 use Rattle.kcl_table.specs.Rows.{AreInOrder, IsBeforeAll, if_key, place_of, row_of}
@@ -39,10 +40,7 @@ absent key (r ∷ rs) all = ap (λ b. if b then Some r else row_of rs key) (not_
 row_here : (key : ShardRef) (r : Row) (rs : List Row) (b d : Bool) → is_before r.key key ≡ b → same_key r.key key ≡ d → AreInOrder (r ∷ rs)
     → row_of rs key ≡ if_key key (slice_get rs (place_of key rs))
     → (if d then Some r else row_of rs key) ≡ if_key key (slice_get (r ∷ rs) (if b then suc (place_of key rs) else 0))
-row_here key r rs true true before same order rest = absurd (both (sym same ∙ not_same r.key key before))
-  where
-    both : true ≡ false → ⊥
-    both h = cc
+row_here key r rs true true before same order rest = absurd (apart (same_key r.key key) same (not_same r.key key before))
 row_here key r rs true false before same order rest = rest
 row_here key r rs false true before same order rest = ap (λ d. if d then Some r else None) (sym same)
 row_here key r rs false false before same order rest =

@@ -4,9 +4,11 @@ use Rattle.kds_defs.specs.declared.command.Target.{Target}
 use Rattle.kds_defs.specs.declared.reply.Refusal.{Refusal}
 use Rattle.kds_defs.specs.declared.reply.Refusal.TheVariants as refusal
 use Rattle.kds_defs.specs.declared.reply.Row.{Row}
-use Rattle.kds_defs.specs.Leases.{counter_in}
+use Rattle.kds_defs.specs.Leases.{counter_in, freed_row, renewed_row}
 use Rattle.kds_defs.specs.RowWrites.{results, past_checkpoint, past_cut, past_held, past_mark, past_renewal, past_take}
 use Rattle.kds_defs.specs.StreamCommands.{last_number}
+use Rattle.kcl_table.specs.declared.writes.Change.{Change}
+use Rattle.kcl_table.specs.declared.writes.Change.TheVariants as change
 
 -- the counter after one more write
 abbrev pub counted : ℕ → Result ℕ Refusal
@@ -23,6 +25,11 @@ held_answer o tenure counter next = past_held results o tenure counter next
 -- the tenure renews its row, or frees it
 abbrev pub renew_answer : Option Row → ℕ → ℕ → Result ℕ Refusal
 renew_answer o tenure counter = past_renewal results o tenure counter (Ok (counter_in o + 1))
+
+-- the row after it was renewed, or freed
+abbrev pub written_row : Change → Row → Row
+written_row change.Renewed = renewed_row
+written_row change.Freed = freed_row
 
 -- the tenure sets the checkpoint, where records below `delivered` were given, and `at_end` tells whether the
 -- last read that was given ended the shard

@@ -6,3 +6,4 @@ mod table;
 mod writes;
 
 pub use table::Table;
+pub use writes::Change;

@@ -2,13 +2,13 @@
 ghost use Rattle.std.specs.Prelude.{◌≡◌, ◌≢◌, ◌≤◌, [], is_some, if◌then◌else◌, None, Err, Ok, IfOk, OnErr, OnOk};
 ghost use Rattle.std.specs.Option.{option_map};
 ghost use Rattle.kds_defs.specs.declared.reply.Refusal.TheVariants as refusal;
-ghost use Rattle.kds_defs.specs.Leases.{freed_row, marked_row, new_row, renewed_row, taken_row};
+ghost use Rattle.kds_defs.specs.Leases.{marked_row, new_row, taken_row};
 ghost use Rattle.kcl_table.specs.Rows.{changed, row_of, with_row, without_row};
-ghost use Rattle.kcl_table.specs.Writes.{cut_answer, mark_answer, renew_answer, take_answer};
+ghost use Rattle.kcl_table.specs.Writes.{cut_answer, mark_answer, renew_answer, take_answer, written_row};
 
 use crate::place::{place_of, row_of};
 use crate::writes::{
-    freed, held, marked, next_counter, renewed, take_counter, taken, target_counter,
+    Change, held, marked, next_counter, take_counter, taken, target_counter, written,
 };
 use kds_base::{Checkpoint, Items, Memory, Seq, ShardNo, ShardRef, TenureNo, WorkerNo};
 use kds_defs::{Refusal, Row, Target};
@@ -121,30 +121,23 @@ impl Table {
         Ok(next)
     }
 
-    /// The tenure renews its row at its counter. `Lost` where the row's tenure is another, or none, `Moved` where
-    /// the counter differs, `Spent` where it is the greatest of a `u64`.
-    pub fn renew(&mut self, key: ShardRef, tenure: TenureNo, counter: u64) -> Result<u64, Refusal>
+    /// The tenure renews its row at its counter, or frees it so that nobody owns it. `Lost` where the row's tenure is
+    /// another, or none, `Moved` where the counter differs, `Spent` where it is the greatest of a `u64`.
+    pub fn write(
+        &mut self,
+        key: ShardRef,
+        tenure: TenureNo,
+        counter: u64,
+        change: Change,
+    ) -> Result<u64, Refusal>
         requires { tenure ≢ 0 }
         ensures value { result ≡ renew_answer (row_of self.old key) tenure counter }
-        ensures renewed { OnOk result (self.new ≡ changed renewed_row key self.old) }
+        ensures written { OnOk result (self.new ≡ changed (written_row change) key self.old) }
         ensures refused { OnErr result (self.new ≡ self.old) }
     {
         let row = held(&self.rows, &key, tenure, counter)?;
         let next = next_counter(&row)?;
-        self.put(renewed(&row));
-        Ok(next)
-    }
-
-    /// The tenure frees its row at its counter, so that nobody owns it. The refusals are those of a renewal.
-    pub fn free(&mut self, key: ShardRef, tenure: TenureNo, counter: u64) -> Result<u64, Refusal>
-        requires { tenure ≢ 0 }
-        ensures value { result ≡ renew_answer (row_of self.old key) tenure counter }
-        ensures freed { OnOk result (self.new ≡ changed freed_row key self.old) }
-        ensures refused { OnErr result (self.new ≡ self.old) }
-    {
-        let row = held(&self.rows, &key, tenure, counter)?;
-        let next = next_counter(&row)?;
-        self.put(freed(&row));
+        self.put(written(&row, change));
         Ok(next)
     }
 

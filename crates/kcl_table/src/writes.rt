@@ -2,13 +2,20 @@
 ghost use Rattle.std.specs.Prelude.{◌≡◌, ◌≢◌, ◌<◌, ◌≤◌, ◌-◌, ◌^◌, ℕ, Some, IfErr, IfOk, Result, Err};
 ghost use Rattle.kds_defs.specs.declared.reply.Refusal.{Refusal};
 ghost use Rattle.kds_defs.specs.RowWrites.{least};
-ghost use Rattle.kds_defs.specs.Leases.{checkpoint_at, freed_row, marked_row, renewed_row, taken_row};
+ghost use Rattle.kds_defs.specs.Leases.{checkpoint_at, marked_row, taken_row};
 ghost use Rattle.kcl_table.specs.Rows.{AreInOrder, row_of};
-ghost use Rattle.kcl_table.specs.Writes.{counted, held_answer, take_answer, target_answer};
+ghost use Rattle.kcl_table.specs.Writes.{counted, held_answer, take_answer, target_answer, written_row};
 
 use crate::place::row_of;
 use kds_base::{Checkpoint, Seq, ShardRef, TenureNo, WorkerNo};
 use kds_defs::{Refusal, Row, Target};
+
+/// What a tenure makes of its row at its counter: it is renewed, or freed so that nobody owns it.
+#[derive(Clone, Copy, Debug, PartialEq, Eq)]
+pub enum Change {
+    Renewed,
+    Freed,
+}
 
 /// The counter after one more write.
 fn counted(counter: u64) -> Result<u64, Refusal>
@@ -120,27 +127,22 @@ pub fn taken(row: &Row, tenure: TenureNo, owner: WorkerNo) -> Row
     }
 }
 
-/// The row after it was renewed.
-pub fn renewed(row: &Row) -> Row
+/// The row after such a change.
+pub fn written(row: &Row, change: Change) -> Row
     requires { row.now.counter < 2 ^ 64 - 1 }
-    ensures { result ≡ renewed_row row.now }
+    ensures { result ≡ written_row change row.now }
 {
-    Row {
-        counter: row.counter + 1,
-        ..*row
-    }
-}
-
-/// The row after it was freed.
-pub fn freed(row: &Row) -> Row
-    requires { row.now.counter < 2 ^ 64 - 1 }
-    ensures { result ≡ freed_row row.now }
-{
-    Row {
-        owner: None,
-        counter: row.counter + 1,
-        tenure: TenureNo(0),
-        ..*row
+    match change {
+        Change::Renewed => Row {
+            counter: row.counter + 1,
+            ..*row
+        },
+        Change::Freed => Row {
+            owner: None,
+            counter: row.counter + 1,
+            tenure: TenureNo(0),
+            ..*row
+        },
     }
 }
 
