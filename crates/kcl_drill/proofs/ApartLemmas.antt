@@ -4,6 +4,7 @@ use Rattle.std.specs.Prelude.{Result, ◌==◌, ◌&&◌, ◌||◌, not, nat_le,
 use Rattle.std.specs.List.{filter, AllByRecursion}
 use Rattle.std.proofs.lemmas.List.{length-map}
 use Rattle.kds_base.specs.Span.{is_inside, are_adjacent}
+use Rattle.kds_base.proofs.Facts.{all_filter}
 use Rattle.kds_defs.specs.declared.command.Command.{Command}
 use Rattle.kds_defs.specs.declared.command.Command.TheVariants as command
 use Rattle.kds_defs.specs.declared.command.NewItem.{NewItem}
@@ -17,7 +18,7 @@ use Rattle.kds_defs.specs.Decision.{Decision, Accepted, refuse◌if◌else◌, w
 use Rattle.kds_defs.specs.Histories.{decide, decision, lines_of, journal, clock, with_stream}
 use Rattle.kds_defs.specs.Journal.{Line, Journal, with_lines, plain_line}
 use Rattle.kds_defs.specs.Kinds.{is_query, is_service}
-use Rattle.kds_defs.specs.Lawful.{IsHistory, item_bytes}
+use Rattle.kds_defs.specs.Lawful.{IsHistory, IsLawful, item_bytes}
 use Rattle.kds_defs.specs.Legal.{IsReached}
 use Rattle.kds_defs.specs.Listings.{more}
 use Rattle.kds_defs.specs.Records.{next_number}
@@ -30,11 +31,6 @@ use Rattle.kds_defs.proofs.Walk.{Outcome, IsAdded, Alone, Refuses, Answers, Adds
 use Rattle.kcl_drill.specs.Apart.{AreBasic, LEAST_RETENTION, is_basic, is_stream_entry, stream_lines, service_turns}
 use Rattle.kcl_drill.proofs.Inner.{lease_basic}
 use Rattle.kcl_drill.proofs.Readings.{enforced_same, forget, kept, made_count_same, hours_same, next_number_same, home_same, length_same, range_same, open_same, live_same, named_same, open_count_same, IsYoung, young_if_legal, listed_same}
-
--- the line turns limits on throughput on or off
-abbrev is_limit : Entry → Bool
-is_limit (entry.Enforced stream on) = true
-is_limit _ = false
 
 -- ---- two decisions that add the same lines, clocks aside
 
@@ -85,10 +81,6 @@ IsCalm log = (s : ℕ) → is_enforced log s ≡ false
 not_held : (log : Journal) (c s : ℕ) (item : NewItem) → IsCalm log → is_held_back log c s item ≡ false
 not_held log c s item calm = ap (λ b. b && is_throttled (puts log s (home log s item.hash)) c (item_bytes item)) (calm s)
 
-unlimited : (e : Entry) (s : ℕ) (b : Bool) → is_limit e ≡ false → enforced_after e s b ≡ b
-unlimited (entry.Enforced stream on) s b is = absurd cc
-unlimited _ s b is = refl
-
 calm_kept : (f : ℕ → ℕ) (log : Journal) → IsCalm log → IsCalm (kept f log)
 calm_kept f log calm = λ s. sym (enforced_same f log s) ∙ calm s
 
@@ -96,6 +88,16 @@ calm_kept f log calm = λ s. sym (enforced_same f log s) ∙ calm s
 
 abbrev put_next : Journal → ℕ → ℕ → ℕ → NewItem → Line
 put_next log c by s item = put_line log c by s (next_number log s) item
+
+-- the line of a put at clock 0
+abbrev bare_put : ℕ → ℕ → ℕ → ℕ → NewItem → Line
+bare_put by s sh n item = record {
+  clock = 0;
+  by = by;
+  what = entry.Put s sh n item.hash (length item.payload) (length item.key);
+  key = item.key;
+  payload = item.payload;
+}
 
 -- the lines of an item that isn't held back, and of those that follow
 taken : (log : Journal) (c by s : ℕ) (item : NewItem) (items : List NewItem) → IsCalm log
@@ -105,59 +107,19 @@ taken log c by s item items calm =
     (not_held log c s item calm)
 
 module _ (f : ℕ → ℕ) (c by by' : ℕ) (alike : f by ≡ by') (again : f by ≡ f by') where
+  -- the line that a put adds, with what is kept of its actor
+  line_by : (log : Journal) (s n : ℕ) (item : NewItem) → f by ≡ n
+      → forget f (put_next log c by s item) ≡ bare_put n s (home (kept f log) s item.hash) (next_number (kept f log) s) item
+  line_by log s n item is =
+      ap (λ sh. bare_put (f by) s sh (next_number log s) item) (home_same f log s item.hash)
+      ∙ ap (λ m. bare_put (f by) s (home (kept f log) s item.hash) m item) (next_number_same f log s)
+      ∙ ap (λ k. bare_put k s (home (kept f log) s item.hash) (next_number (kept f log) s) item) is
+
   line_same : (log : Journal) (s : ℕ) (item : NewItem) → forget f (put_next log c by s item) ≡ put_next (kept f log) 0 by' s item
-  line_same log s item =
-      ap (λ sh. record {
-        clock = 0;
-        by = f by;
-        what = entry.Put s sh (next_number log s) item.hash (length item.payload)
-            (length item.key);
-        key = item.key;
-        payload = item.payload;
-      }) (home_same f log s item.hash)
-      ∙ ap (λ n. record {
-        clock = 0;
-        by = f by;
-        what = entry.Put s (home (kept f log) s item.hash) n item.hash (length item.payload)
-            (length item.key);
-        key = item.key;
-        payload = item.payload;
-      }) (next_number_same f log s)
-      ∙ ap (λ n. record {
-        clock = 0;
-        by = n;
-        what = entry.Put s (home (kept f log) s item.hash) (next_number (kept f log) s) item.hash (length item.payload)
-            (length item.key);
-        key = item.key;
-        payload = item.payload;
-      }) alike
+  line_same log s item = line_by log s by' item alike
 
   line_same_twice : (log : Journal) (s : ℕ) (item : NewItem) → forget f (put_next log c by s item) ≡ forget f (put_next (kept f log) 0 by' s item)
-  line_same_twice log s item =
-      ap (λ sh. record {
-        clock = 0;
-        by = f by;
-        what = entry.Put s sh (next_number log s) item.hash (length item.payload)
-            (length item.key);
-        key = item.key;
-        payload = item.payload;
-      }) (home_same f log s item.hash)
-      ∙ ap (λ n. record {
-        clock = 0;
-        by = f by;
-        what = entry.Put s (home (kept f log) s item.hash) n item.hash (length item.payload)
-            (length item.key);
-        key = item.key;
-        payload = item.payload;
-      }) (next_number_same f log s)
-      ∙ ap (λ n. record {
-        clock = 0;
-        by = n;
-        what = entry.Put s (home (kept f log) s item.hash) (next_number (kept f log) s) item.hash (length item.payload)
-            (length item.key);
-        key = item.key;
-        payload = item.payload;
-      }) again
+  line_same_twice log s item = line_by log s (f by') item again
 
   pub put_lines_same : (items : List NewItem) (log : Journal) (s : ℕ) → IsCalm log
       → map (forget f) (put_lines log c by s items) ≡ map (forget f) (put_lines (kept f log) 0 by' s items)
@@ -259,26 +221,25 @@ module _ (f : ℕ → ℕ) (log : Journal) (c by by' : ℕ) (young : IsYoung log
   decide_same (command.Split name sh at) is basic = in_stream_same name _ _ (λ s. split_same s sh at)
   decide_same (command.Merge name sh other) is basic = in_stream_same name _ _ (λ s. merge_same s sh other)
   decide_same (command.Keep name wanted raise) is basic = in_stream_same name _ _ (λ s. keep_same s wanted raise)
-  decide_same (command.Scale name target) is basic = absurd cc
-  decide_same (command.Enforce name on) is basic = absurd cc
   decide_same what is basic = queries_same f log (kept f log) c 0 by by' what cc
 
 -- ---- the kind of the lines that a command adds
 
--- these lines are of streams, or none of them is; and none turns limits on or off
-abbrev AreOf : Bool → List Line → Type 0
-AreOf b ls = AllByRecursion (λ l. (is_stream_entry l.what ≡ b) × (is_limit l.what ≡ false)) ls
+-- the line is of a stream, or is not; and it turns no limits on or off
+abbrev IsOf : Bool → Line → Type 0
+IsOf b l = (is_stream_entry l.what ≡ b) × ((s : ℕ) (on : Bool) → enforced_after l.what s on ≡ on)
 
-kind : (log : Journal) (c by : ℕ) (what : Command) (line : Line) → IsAdded log c by what line → is_basic what ≡ true
-    → (is_stream_entry line.what ≡ is_service what) × (is_limit line.what ≡ false)
-kind log c by _ _ (Alone _ _ _ (Creates name count fits)) basic = (refl, refl)
-kind log c by _ _ (Alone _ _ _ (Enforces name on s named)) basic = absurd cc
-kind log c by _ _ _ basic = (refl, refl)
+abbrev AreOf : Bool → List Line → Type 0
+AreOf b ls = AllByRecursion (IsOf b) ls
+
+kind : (log : Journal) (c by : ℕ) (what : Command) (line : Line) → IsAdded log c by what line → is_basic what ≡ true → IsOf (is_service what) line
+kind log c by _ _ (Alone _ _ _ (Creates name count fits)) basic = (refl, λ s on. refl)
+kind log c by _ _ (Alone _ _ _ (Enforces name is s named)) basic = absurd cc
+kind log c by _ _ _ basic = (refl, λ s on. refl)
 
 -- a basic command adds lines of its own kind
 adds_kind : (log : Journal) (c by : ℕ) (what : Command) → is_basic what ≡ true → AreOf (is_service what) (lines_of (decide log c by what))
-adds_kind log c by what basic =
-    each_line (λ l. (is_stream_entry l.what ≡ is_service what) × (is_limit l.what ≡ false)) log c by what (λ line added. kind log c by what line added basic)
+adds_kind log c by what basic = each_line (IsOf (is_service what)) log c by what (λ line added. kind log c by what line added basic)
 
 service_adds : (log : Journal) (c by : ℕ) (what : Command) → is_service what ≡ true → is_basic what ≡ true → AreOf true (lines_of (decide log c by what))
 service_adds log c by what is basic = subst (λ b. AreOf b (lines_of (decide log c by what))) is (adds_kind log c by what basic)
@@ -301,7 +262,7 @@ adds_none f (line ∷ ls) log are =
 
 calm_lines : (b : Bool) (ls : List Line) (log : Journal) → AreOf b ls → IsCalm log → IsCalm (with_lines ls log)
 calm_lines b [] log are calm = calm
-calm_lines b (line ∷ ls) log are calm = calm_lines b ls (line ∷ log) are.1 (λ s. unlimited line.what s (is_enforced log s) are.0.1 ∙ calm s)
+calm_lines b (line ∷ ls) log are calm = calm_lines b ls (line ∷ log) are.1 (λ s. are.0.1 s (is_enforced log s) ∙ calm s)
 
 -- ---- all turns
 
@@ -379,20 +340,10 @@ module _ (reaches : Reaches) (f : ℕ → ℕ) (once : (n : ℕ) → f n ≡ f (
 -- ---- the turns of the service alone
 
 pub lawful_service : (h : List Turn) → IsHistory h → IsHistory (service_turns h)
-lawful_service [] lawful = tt
-lawful_service (turn ∷ h) lawful = either (is_service turn.what) (lawful_service h lawful.1)
-  where
-    either : (b : Bool) → IsHistory (service_turns h) → IsHistory (cond b (turn ∷ service_turns h) (service_turns h))
-    either true so = (lawful.0, so)
-    either false so = so
+lawful_service h lawful = all_filter IsLawful (λ turn. is_service turn.what) h lawful
 
 pub basic_service : (h : List Turn) → AreBasic h → AreBasic (service_turns h)
-basic_service [] basic = tt
-basic_service (turn ∷ h) basic = either (is_service turn.what) (basic_service h basic.1)
-  where
-    either : (b : Bool) → AreBasic (service_turns h) → AreBasic (cond b (turn ∷ service_turns h) (service_turns h))
-    either true so = (basic.0, so)
-    either false so = so
+basic_service h basic = all_filter (λ turn. is_basic turn.what ≡ true) (λ turn. is_service turn.what) h basic
 
 not_later : (h : List Turn) → clock (service_turns h) ≤ clock h
 not_later [] = omega arith

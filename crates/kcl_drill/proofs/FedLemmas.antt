@@ -1,10 +1,10 @@
 -- The turns of a drill ask the stream service what its generator gives, in that order.
-use Rattle.std.proofs.Common.{◌≡◌, ℕ, suc, Bool, true, false, List, [], ◌∷◌, ◌++◌, length, refl, sym, ap, subst, ◌∙◌, arith}
+use Rattle.std.proofs.Common.{◌≡◌, ℕ, suc, ◌+◌, Bool, true, false, List, [], ◌∷◌, ◌++◌, length, refl, sym, ap, subst, ◌∙◌, arith}
 use Rattle.std.specs.Prelude.{◌==◌, cond, reverse}
 use Rattle.std.specs.List.{filter, AllByRecursion}
-use Rattle.std.proofs.lemmas.Bool.Decides.{nat_tests}
 use Rattle.std.proofs.lemmas.List.Elements.{filter-append}
-use Rattle.std.proofs.lemmas.List.{append-nil, map-append, reverse-append}
+use Rattle.std.proofs.lemmas.List.{append-nil, length-append, length-map, map-append, nil_from_length, reverse-append}
+use Rattle.kds_base.proofs.Facts.{is_equal}
 use Rattle.kds_defs.specs.declared.command.Command.{Command}
 use Rattle.kds_defs.specs.declared.command.Command.TheVariants as command
 use Rattle.kds_defs.specs.declared.command.Turn.{Turn}
@@ -17,21 +17,11 @@ use Rattle.kcl_drill.proofs.Inner.{IsInner, all_reverse, generated_inner}
 
 -- ---- filtered lists
 
-length_commands : (ts : List Turn) → length (commands_in ts) ≡ length ts
-length_commands [] = refl
-length_commands (turn ∷ ts) = ap suc (length_commands ts)
-
 -- of one element in a list of one, nothing stands around it
-none_before : (xs : List Turn) (x : Turn) (ys : List Turn) → length (xs ++ x ∷ ys) ≡ 1 → xs ≡ []
-none_before [] x ys is = refl
-none_before (y ∷ []) x ys is = absurd (omega (arith, is))
-none_before (y ∷ z ∷ xs) x ys is = absurd (omega (arith, is))
-
-none_after : (xs : List Turn) (x : Turn) (ys : List Turn) → length (xs ++ x ∷ ys) ≡ 1 → ys ≡ []
-none_after [] x [] is = refl
-none_after [] x (y ∷ ys) is = absurd (omega (arith, is))
-none_after (y ∷ []) x ys is = absurd (omega (arith, is))
-none_after (y ∷ z ∷ xs) x ys is = absurd (omega (arith, is))
+none_around : (xs : List Turn) (x : Turn) (ys : List Turn) → length (xs ++ x ∷ ys) ≡ 1 → (xs ≡ []) × (ys ≡ [])
+none_around xs x ys is =
+    let n : length (xs ++ x ∷ ys) ≡ length xs + suc (length ys) = length-append xs (x ∷ ys) in
+    (nil_from_length xs (omega (arith, n, is)), nil_from_length ys (omega (arith, n, is)))
 
 none_by : (b : Bool) (p : Turn → Bool) (x : Turn) (xs : List Turn) → p x ≡ b → cond b (x ∷ filter p xs) (filter p xs) ≡ [] → (p x ≡ false) × (filter p xs ≡ [])
 none_by true p x xs is none = absurd cc
@@ -83,23 +73,26 @@ same_head a b is = cc (is)
 
 ordered : (number records root feeder : ℕ) (newer older : List Turn) (first : Turn) → first.by ≡ root → commands_in (turns_by root (newer ++ first ∷ older)) ≡ command.Create drill_name FIRST_SHARDS ∷ [] → commands_in (turns_by feeder (newer ++ first ∷ older)) ≡ reverse (from_record 0 records number first_open) → turns_by feeder older ≡ [] → (root == feeder) ≡ false → AllByRecursion (OnLeases root feeder) (newer ++ first ∷ older) → commands_in (service_turns (newer ++ first ∷ older)) ≡ reverse (generated number records)
 ordered number records root feeder newer older first of_root made fed after apart others =
-    let mine : (first.by == root) ≡ true = same first.by root of_root in
+    let mine : (first.by == root) ≡ true = is_equal first.by root of_root in
     let not_fed : (first.by == feeder) ≡ false = ap (λ n. n == feeder) of_root ∙ apart in
     let cut : turns_by root (newer ++ first ∷ older) ≡ turns_by root newer ++ first ∷ turns_by root older =
     filter-append (is_by root) newer (first ∷ older) ∙ ap (λ b. turns_by root newer ++ cond b (first ∷ turns_by root older) (turns_by root older)) mine in
-    let one : length (turns_by root newer ++ first ∷ turns_by root older) ≡ 1 = ap length (sym cut) ∙ sym (length_commands (turns_by root (newer ++ first ∷ older))) ∙ ap length made in
-    let before = none_before (turns_by root newer) first (turns_by root older) one in
-    let behind = none_after (turns_by root newer) first (turns_by root older) one in
+    let one : length (turns_by root newer ++ first ∷ turns_by root older) ≡ 1 =
+    ap length (sym cut) ∙ sym (length-map (turns_by root (newer ++ first ∷ older)) (λ turn. turn.what)) ∙ ap length made in
+    let around = none_around (turns_by root newer) first (turns_by root older) one in
     let what : first.what ∷ [] ≡ command.Create drill_name FIRST_SHARDS ∷ [] =
-    ap (λ xs. commands_in (xs ++ first ∷ [])) (sym before) ∙ ap (λ ys. commands_in (turns_by root newer ++ first ∷ ys)) (sym behind) ∙ ap commands_in (sym cut) ∙ made in
+    ap (λ xs. commands_in (xs ++ first ∷ [])) (sym around.0) ∙ ap (λ ys. commands_in (turns_by root newer ++ first ∷ ys)) (sym around.1)
+    ∙ ap commands_in (sym cut) ∙ made in
     let fed_cut : turns_by feeder (newer ++ first ∷ older) ≡ turns_by feeder newer =
     filter-append (is_by feeder) newer (first ∷ older)
     ∙ ap (λ b. turns_by feeder newer ++ cond b (first ∷ turns_by feeder older) (turns_by feeder older)) not_fed
     ∙ ap (λ ys. turns_by feeder newer ++ ys) after ∙ append-nil (turns_by feeder newer) in
     let commands : commands_in (turns_by feeder newer) ≡ reverse (from_record 0 records number first_open) = ap commands_in (sym fed_cut) ∙ fed in
     let services = services_of (turns_by feeder newer) _ commands (all_reverse (from_record 0 records number first_open) (generated_inner 0 records number first_open)) in
-    let new = fed_alone root feeder newer before (all_left (OnLeases root feeder) newer (first ∷ older) others) services in
-    let old = fed_alone root feeder older behind (all_right (OnLeases root feeder) newer (first ∷ older) others).1 (subst (AllByRecursion (λ turn. is_service turn.what ≡ true)) (sym after) tt) ∙ after in
+    let new = fed_alone root feeder newer around.0 (all_left (OnLeases root feeder) newer (first ∷ older) others) services in
+    let old =
+    fed_alone root feeder older around.1 (all_right (OnLeases root feeder) newer (first ∷ older) others).1
+    (subst (AllByRecursion (λ turn. is_service turn.what ≡ true)) (sym after) tt) ∙ after in
     let first_service : is_service first.what ≡ true = ap is_service (same_head first.what (command.Create drill_name FIRST_SHARDS) what) in
     ap commands_in (filter-append (λ t. is_service t.what) newer (first ∷ older)
     ∙ ap (λ b. service_turns newer ++ cond b (first ∷ service_turns older) (service_turns older)) first_service
@@ -109,9 +102,6 @@ ordered number records root feeder newer older first of_root made fed after apar
     ∙ ap (λ xs. xs ++ first.what ∷ []) commands
     ∙ ap (λ xs. reverse (from_record 0 records number first_open) ++ xs) what
     ∙ sym (reverse-append (command.Create drill_name FIRST_SHARDS ∷ []) (from_record 0 records number first_open))
-  where
-    same : (a b : ℕ) → a ≡ b → (a == b) ≡ true
-    same a b is = grind (arith, nat_tests)
 
 pub in_order : (number records root feeder : ℕ) (h : List Turn) → (root == feeder) ≡ false → IsFed number records root feeder h → commands_in (service_turns h) ≡ reverse (generated number records)
 in_order number records root feeder h apart is =

@@ -1,8 +1,9 @@
 -- A generator's commands after the first put, split and merge; all of them are basic.
-use Rattle.std.proofs.Common.{◌≡◌, ℕ, zero, suc, ◌+◌, Bool, true, false, List, [], ◌∷◌, ◌++◌, Option, Some, None, refl, sym, subst}
+use Rattle.std.proofs.Common.{◌≡◌, ℕ, zero, suc, ◌+◌, Bool, true, false, List, [], ◌∷◌, Option, Some, None, refl, sym, subst}
 use Rattle.std.specs.Prelude.{map, cond, reverse}
 use Rattle.std.specs.List.{AllByRecursion}
 use Rattle.std.proofs.lemmas.List.{reverse-append}
+use Rattle.kds_base.proofs.Facts.{all_append, all_weaker}
 use Rattle.kds_defs.specs.declared.command.Command.{Command}
 use Rattle.kds_defs.specs.declared.command.Command.TheVariants as command
 use Rattle.kds_defs.specs.declared.command.Turn.{Turn}
@@ -30,13 +31,11 @@ generated_inner i zero x opens = tt
 generated_inner i (suc left) x opens =
     (tt, plan_inner (plan (i + 1) (draw x) opens) _ (generated_inner (i + 1) left (draw x) (opens_then opens (plan (i + 1) (draw x) opens))))
 
-all_last : (xs : List Command) (x : Command) → AllByRecursion IsInner xs → IsInner x → AllByRecursion IsInner (xs ++ x ∷ [])
-all_last [] x are is = (is, tt)
-all_last (y ∷ xs) x are is = (are.0, all_last xs x are.1 is)
-
 pub all_reverse : (xs : List Command) → AllByRecursion IsInner xs → AllByRecursion IsInner (reverse xs)
 all_reverse [] are = tt
-all_reverse (x ∷ xs) are = subst (AllByRecursion IsInner) (sym (reverse-append (x ∷ []) xs)) (all_last (reverse xs) x (all_reverse xs are.1) are.0)
+all_reverse (x ∷ xs) are =
+    subst (AllByRecursion IsInner) (sym (reverse-append (x ∷ []) xs))
+    (all_append IsInner (reverse xs) (x ∷ []) (all_reverse xs are.1) (are.0, tt))
 
 -- ---- a history in which the service is asked what a generator gives
 
@@ -49,20 +48,13 @@ inner_basic _ is = absurd is
 abbrev AreBasicCommands : List Command → Type 0
 AreBasicCommands cs = AllByRecursion (λ what. is_basic what ≡ true) cs
 
-basic_all : (cs : List Command) → AllByRecursion IsInner cs → AreBasicCommands cs
-basic_all [] are = tt
-basic_all (c ∷ cs) are = (inner_basic c are.0, basic_all cs are.1)
-
-basic_last : (xs : List Command) (x : Command) → AreBasicCommands xs → is_basic x ≡ true → AreBasicCommands (xs ++ x ∷ [])
-basic_last [] x are is = (is, tt)
-basic_last (y ∷ xs) x are is = (are.0, basic_last xs x are.1 is)
-
 generated_basic : (number records : ℕ) → AreBasicCommands (reverse (generated number records))
 generated_basic number records =
     let rest = from_record 0 records number first_open in
     subst AreBasicCommands (sym (reverse-append (command.Create drill_name FIRST_SHARDS ∷ []) rest))
-    (basic_last (reverse rest) (command.Create drill_name FIRST_SHARDS)
-    (basic_all (reverse rest) (all_reverse rest (generated_inner 0 records number first_open))) refl)
+    (all_append (λ what. is_basic what ≡ true) (reverse rest) (command.Create drill_name FIRST_SHARDS ∷ [])
+    (all_weaker IsInner (λ what. is_basic what ≡ true) inner_basic (reverse rest) (all_reverse rest (generated_inner 0 records number first_open)))
+    (refl, tt))
 
 turns_basic : (ts : List Turn) → AreBasicCommands (map (λ turn. turn.what) ts) → AreBasic ts
 turns_basic [] are = tt
@@ -70,9 +62,8 @@ turns_basic (turn ∷ ts) are = (are.0, turns_basic ts are.1)
 
 -- a command that does not ask the service is basic
 pub lease_basic : (what : Command) → is_service what ≡ false → is_basic what ≡ true
-lease_basic (command.Scale name target) is = absurd cc
-lease_basic (command.Enforce name on) is = absurd cc
-lease_basic _ is = refl
+lease_basic (command.Scale name target) is = cc
+lease_basic _ is = cc
 
 all_basic : (h : List Turn) → AreBasic (service_turns h) → AreBasic h
 all_basic [] are = tt

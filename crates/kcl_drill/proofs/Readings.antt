@@ -85,17 +85,13 @@ pub young_if_legal : (log : Journal) → IsLegal log → last_clock log < LEAST_
 young_if_legal [] legal below = tt
 young_if_legal (line ∷ log) legal below = (below, legal.0.in_range, young_if_legal log legal.1 (omega (arith, legal.0.in_order, below)))
 
+least_either : (b : Bool) (n m : ℕ) → 24 ≤ n → 24 ≤ m → 24 ≤ (if b then n else m)
+least_either true n m h g = h
+least_either false n m h g = g
+
 least_by : (e : Entry) (s n : ℕ) → IsInRange e → 24 ≤ n → 24 ≤ hours_after e s n
-least_by (entry.Made stream name shards) s n range so = either (stream == s) FIRST_HOURS n (omega arith) so
-  where
-    either : (b : Bool) (n m : ℕ) → 24 ≤ n → 24 ≤ m → 24 ≤ (if b then n else m)
-    either true n m h g = h
-    either false n m h g = g
-least_by (entry.Kept stream wanted) s n range so = either (stream == s) wanted n range.0 so
-  where
-    either : (b : Bool) (n m : ℕ) → 24 ≤ n → 24 ≤ m → 24 ≤ (if b then n else m)
-    either true n m h g = h
-    either false n m h g = g
+least_by (entry.Made stream name shards) s n range so = least_either (stream == s) FIRST_HOURS n (omega arith) so
+least_by (entry.Kept stream wanted) s n range so = least_either (stream == s) wanted n range.0 so
 least_by _ s n range so = so
 
 least_hours : (log : Journal) (s : ℕ) → IsYoung log → 24 ≤ hours log s
@@ -115,18 +111,15 @@ floor_line log line s young =
     none true false n m h g = omega (arith, h, g)
     none false d n m h g = refl
 
+pub both_none : (n m : ℕ) → n ≡ 0 → m ≡ 0 → max n m ≡ 0
+both_none n m h g = omega (arith, h, g)
+
 floor_lines : (log : Journal) (s : ℕ) → IsYoung log → floor_of_lines log s ≡ 0
 floor_lines [] s young = refl
-floor_lines (line ∷ log) s young = both _ _ (floor_line log line s young) (floor_lines log s young.2)
-  where
-    both : (n m : ℕ) → n ≡ 0 → m ≡ 0 → max n m ≡ 0
-    both n m h g = omega (arith, h, g)
+floor_lines (line ∷ log) s young = both_none _ _ (floor_line log line s young) (floor_lines log s young.2)
 
 pub untrimmed : (log : Journal) (c s : ℕ) → IsYoung log → c < LEAST_RETENTION → trim_floor log c s ≡ 0
-untrimmed log c s young below = both _ _ (no_floor c (hours log s) below (least_hours log s young)) (floor_lines log s young)
-  where
-    both : (n m : ℕ) → n ≡ 0 → m ≡ 0 → max n m ≡ 0
-    both n m h g = omega (arith, h, g)
+untrimmed log c s young below = both_none _ _ (no_floor c (hours log s) below (least_hours log s young)) (floor_lines log s young)
 
 listed_by : (log : Journal) (c s : ℕ) (o : Option ShardState) → trim_floor log c s ≡ 0 → is_listed_state log c s o ≡ listed_at (is_live log s) o
 listed_by log c s None none = refl

@@ -1,9 +1,10 @@
 -- The summary of a drill depends on what the stream service was asked.
-use Rattle.std.proofs.Common.{◌≡◌, ℕ, suc, ◌+◌, ◌<◌, max, Bool, true, false, List, [], ◌∷◌, ◌++◌, length, Option, Some, None, refl, sym, ap, ◌∙◌, arith}
+use Rattle.std.proofs.Common.{◌≡◌, ℕ, ◌+◌, ◌<◌, Bool, true, false, List, [], ◌∷◌, length, Option, Some, None, refl, sym, ap, ◌∙◌, arith}
 use Rattle.std.specs.Prelude.{◌==◌, ◌&&◌, not, map, reverse, cond, if◌then◌else◌}
 use Rattle.std.specs.List.{AllByRecursion}
 use Rattle.std.specs.Option.{option_map}
 use Rattle.std.proofs.lemmas.Bool.Decides.{nat_tests}
+use Rattle.std.proofs.lemmas.List.{length-map, map-append}
 use Rattle.kds_base.specs.declared.lease_key.Checkpoint.{Checkpoint}
 use Rattle.kds_base.specs.declared.lease_key.Checkpoint.TheVariants as checkpoint
 use Rattle.kds_defs.proofs.Elsewhere as elsewhere
@@ -27,7 +28,7 @@ use Rattle.kcl_drill.specs.Summed.{Summed, summed, summed_at, summary_of, summar
 use Rattle.kcl_drill.specs.Summed.{final_of, turns_of, drill_text, text_of, IsDrained, AreDrained}
 use Rattle.kcl_drill.proofs.ApartLemmas.{Reaches, Asked, asked, same_left, basic_service, lawful_service, services_twice}
 use Rattle.kcl_drill.proofs.Inner.{basic_if_generated}
-use Rattle.kcl_drill.proofs.Readings.{forget, kept, no_stream, reads_same, named_same, shards_same, untrimmed, young_if_legal}
+use Rattle.kcl_drill.proofs.Readings.{both_none, forget, kept, no_stream, reads_same, named_same, shards_same, untrimmed, young_if_legal}
 use Rattle.kcl_drill.proofs.Undated.{undated_shard, undated_all, open_undated}
 
 -- ---- records, of which the moments of their arrivals are left aside
@@ -38,10 +39,6 @@ undated_record r = record r { arrival = 0 }
 abbrev undated_records : List Logged → List Logged
 undated_records rs = map undated_record rs
 
-put_last : (rs : List Logged) (r : Logged) → undated_records (rs ++ r ∷ []) ≡ undated_records rs ++ undated_record r ∷ []
-put_last [] r = refl
-put_last (q ∷ rs) r = ap (λ xs. undated_record q ∷ xs) (put_last rs r)
-
 chosen_records : (b : Bool) (xs ys xs' ys' : List Logged) → undated_records xs ≡ xs' → undated_records ys ≡ ys'
     → undated_records (if b then xs else ys) ≡ (if b then xs' else ys')
 chosen_records true xs ys xs' ys' h g = h
@@ -51,17 +48,13 @@ records_undated : (f : ℕ → ℕ) (line : Line) (e : Entry) (s sh : ℕ) (rs :
     → undated_records (records_after line e s sh rs) ≡ records_after (forget f line) e s sh (undated_records rs)
 records_undated f line (entry.Put stream shard seq hash bytes key_bytes) s sh rs =
     chosen_records ((stream == s) && (shard == sh)) _ rs _ (undated_records rs)
-    (put_last rs (record { seq = seq; arrival = line.clock; bytes = bytes + key_bytes; key = line.key; payload = line.payload })) refl
+    (map-append undated_record rs (record { seq = seq; arrival = line.clock; bytes = bytes + key_bytes; key = line.key; payload = line.payload } ∷ [])) refl
 records_undated f line _ s sh rs = refl
 
 records_same : (f : ℕ → ℕ) (log : Journal) (s sh : ℕ) → undated_records (records log s sh) ≡ records (kept f log) s sh
 records_same f log s sh =
     reads_same f (λ l. records l s sh) (λ line rs. records_after line line.what s sh rs) undated_records (λ line log. refl) refl
     (λ line rs is. elsewhere.records_same line line.what s sh rs (no_stream line.what s is)) (λ line rs. records_undated f line line.what s sh rs) log
-
-length_records : (rs : List Logged) → length (undated_records rs) ≡ length rs
-length_records [] = refl
-length_records (r ∷ rs) = ap suc (length_records rs)
 
 bytes_records : (rs : List Logged) → bytes_of (undated_records rs) ≡ bytes_of rs
 bytes_records [] = refl
@@ -81,7 +74,7 @@ final_undated : (x : ShardState) (rs : List Logged) → final (undated_shard x) 
 unfolding final
 final_undated x rs =
     ap (λ n. record { no = x.no; count = n; bytes = bytes_of (undated_records rs); checkpoint = final_checkpoint (undated_shard x) (undated_records rs) })
-    (length_records rs)
+    (length-map rs undated_record)
     ∙ ap (λ n. record { no = x.no; count = length rs; bytes = n; checkpoint = final_checkpoint (undated_shard x) (undated_records rs) }) (bytes_records rs)
     ∙ ap (λ at. record { no = x.no; count = length rs; bytes = bytes_of rs; checkpoint = if is_open (undated_shard x) then at else checkpoint.ShardEnd })
     (last_records rs)
@@ -155,10 +148,7 @@ bare_basic (turn ∷ h) are = (are.0, bare_basic h are.1)
 
 bare_clock : (h : List Turn) → clock (map bare h) ≡ 0
 bare_clock [] = refl
-bare_clock (turn ∷ h) = both _ (bare_clock h)
-  where
-    both : (n : ℕ) → n ≡ 0 → max n 0 ≡ 0
-    both n is = omega (arith, is)
+bare_clock (turn ∷ h) = both_none _ 0 (bare_clock h) refl
 
 bare_services : (h : List Turn) → service_turns (map bare h) ≡ map bare (service_turns h)
 bare_services [] = refl
