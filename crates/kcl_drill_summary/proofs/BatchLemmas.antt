@@ -1,9 +1,9 @@
 -- What is left of rising records after a batch.
-use Rattle.std.proofs.Common.{◌≡◌, ℕ, zero, suc, ◌+◌, ◌-◌, ◌<◌, ◌≤◌, Bool, true, false, List, [], ◌∷◌, ◌++◌, length, map, refl, sym, ap, ◌∙◌, arith}
+use Rattle.std.proofs.Common.{◌≡◌, ℕ, zero, suc, ◌+◌, ◌-◌, ◌<◌, ◌≤◌, Bool, true, false, List, [], ◌∷◌, ◌++◌, map, refl, sym, ap, ◌∙◌, arith}
 use Rattle.std.specs.Prelude.{not, nat_le, nat_lt, ◌&&◌, cond, if◌then◌else◌}
 use Rattle.std.specs.List.{AllByRecursion, filter}
 use Rattle.std.proofs.lemmas.Bool.Decides.{nat_tests}
-use Rattle.kds_base.proofs.Facts.{le_so, is_le, is_above, above_so}
+use Rattle.kds_base.proofs.Facts.{all_filter, le_so, is_le, is_above, above_so}
 use Rattle.kds_defs.specs.Records.{Logged, beginning, left_among, logged, numbers_of, place_after, stored}
 use Rattle.kcl_laws.specs.Recorded.{IsSized}
 use Rattle.kcl_drill_summary.specs.Counting.{AreAbove}
@@ -25,7 +25,7 @@ pub up_weaker : (p m : ℕ) (rs : List Logged) → p ≤ m → IsUp m rs → IsU
 up_weaker p m [] le up = tt
 up_weaker p m (r ∷ rs) le up = (omega (arith, le, up.0), up.1)
 
-up_kept : (p m : ℕ) (rs : List Logged) → IsUp m rs → IsUp m (from p rs)
+pub up_kept : (p m : ℕ) (rs : List Logged) → IsUp m rs → IsUp m (from p rs)
 up_kept p m [] up = tt
 up_kept p m (r ∷ rs) up = either (nat_le p r.seq) (up_kept p (r.seq + 1) rs up.1)
   where
@@ -93,12 +93,7 @@ left_all floor p (r ∷ rs) are =
 -- ---- where a read comes no further, nothing is left
 
 pub sized_from : (p : ℕ) (rs : List Logged) → AreSized rs → AreSized (from p rs)
-sized_from p [] are = tt
-sized_from p (r ∷ rs) are = either (nat_le p r.seq) (sized_from p rs are.1)
-  where
-    either : (b : Bool) → AreSized (from p rs) → AreSized (cond b (r ∷ from p rs) (from p rs))
-    either true rest = (are.0, rest)
-    either false rest = rest
+sized_from p rs are = all_filter IsSized (λ (r : Logged). nat_le p r.seq) rs are
 
 pub stuck : (limit p : ℕ) (rs : List Logged) → IsUp p rs → AreSized rs → nat_lt p (place_after p (numbers_of (beginning (suc limit) 10485760 rs))) ≡ false → rs ≡ []
 stuck limit p [] up are is = refl
@@ -116,10 +111,6 @@ stuck limit p (r ∷ rs) up are is = absurd (either (nat_le r.bytes 10485760) (i
 pub bytes_append : (xs ys : List Logged) → bytes_of (xs ++ ys) ≡ bytes_of xs + bytes_of ys
 bytes_append [] ys = omega arith
 bytes_append (x ∷ xs) ys = let n = bytes_append xs ys in omega (arith, n)
-
-pub length_append : (xs ys : List Logged) → length (xs ++ ys) ≡ length xs + length ys
-length_append [] ys = omega arith
-length_append (x ∷ xs) ys = let n = length_append xs ys in omega (arith, n)
 
 pub bytes_stored : (rs : List Logged) → bytes_of (map logged (map stored rs)) ≡ bytes_of rs
 bytes_stored [] = refl

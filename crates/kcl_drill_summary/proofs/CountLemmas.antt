@@ -3,6 +3,7 @@ use Rattle.std.proofs.Common.{◌≡◌, ℕ, ◌+◌, ◌*◌, ◌<◌, ◌≤�
 use Rattle.std.specs.Prelude.{not, nat_lt, if◌then◌else◌, Result, Ok}
 use Rattle.std.proofs.lemmas.Bool.Decides.{nat_tests}
 use Rattle.std.proofs.lemmas.Bool.{and_parts}
+use Rattle.std.proofs.lemmas.List.{length-append}
 use Rattle.kds_defs.specs.declared.command.Command.TheVariants as command
 use Rattle.kds_defs.specs.declared.limits.TheConstants.{BATCH_BYTES}
 use Rattle.kds_defs.specs.declared.reply.Iter.{Iter}
@@ -22,11 +23,12 @@ use Rattle.kcl_laws.specs.Recorded.{AreDrawn, RiseBetween}
 use Rattle.kcl_drill_summary.specs.Counting.{CanCount, CountsTo, GoesOn, next_above}
 use Rattle.kcl_drill.specs.Summed.{bytes_of}
 use Rattle.kcl_drill_summary.specs.Summing.{Absorbs}
-use Rattle.kcl_drill_summary.proofs.BatchLemmas.{AreSized, IsUp, from, up_from, parts, place_up, from_twice, left_all, sized_from, stuck, up_weaker, all_from, bytes_append, length_append, bytes_stored}
+use Rattle.kcl_drill_summary.proofs.BatchLemmas.{AreSized, IsUp, from, up_from, parts, place_up, from_twice, left_all, sized_from, stuck, up_weaker, all_from}
+use Rattle.kcl_drill_summary.proofs.BatchLemmas.{bytes_append, bytes_stored}
 
 -- ---- what holds of the records of each shard
 
-up_rising : (p : ℕ) (rs : List Logged) (q : ℕ) → RiseBetween p rs q → IsUp p rs
+pub up_rising : (p : ℕ) (rs : List Logged) (q : ℕ) → RiseBetween p rs q → IsUp p rs
 up_rising p [] q is = tt
 up_rising p (r ∷ rs) q is = (is.0, up_rising (r.seq + 1) rs q is.1)
 
@@ -83,7 +85,8 @@ total bound old more rest all new is few adds =
 pub counts_on : (count bytes count' bytes' : ℕ) (ls bs rest all : List Logged) → CountsTo count bytes ls all → ls ≡ bs ++ rest → length all < 2 ^ 64 → bytes_of all < 2 ^ 128
     → Adds (2 ^ 64) count (length (map stored bs)) count' → Adds (2 ^ 128) bytes (bytes_of (map logged (map stored bs))) bytes' → CountsTo count' bytes' rest all
 counts_on count bytes count' bytes' ls bs rest all counts are few few_bytes adds adds_bytes = record {
-  records = total (2 ^ 64) count (length bs) (length rest) (length all) count' (ap (λ n. count + n) (sym (ap length are ∙ length_append bs rest)) ∙ counts.records) few
+  records = total (2 ^ 64) count (length bs) (length rest) (length all) count'
+      (ap (λ n. count + n) (sym (ap length are ∙ length-append bs rest)) ∙ counts.records) few
       (subst (λ n. Adds (2 ^ 64) count n count') (length_stored bs) adds);
   payload = total (2 ^ 128) bytes (bytes_of bs) (bytes_of rest) (bytes_of all) bytes' (ap (λ n. bytes + n) (sym (ap bytes_of are ∙ bytes_append bs rest)) ∙ counts.payload) few_bytes
       (subst (λ n. Adds (2 ^ 128) bytes n bytes') (bytes_stored bs) adds_bytes);
@@ -161,10 +164,3 @@ begins log c s sh iter can is =
   where
     plus : (n m : ℕ) → n ≡ m → 0 + n ≡ m
     plus n m is = omega (arith, is)
-
--- what holds of an iterator's shard holds of the shard that it reads
-pub of_shard : (P : ℕ → ℕ → Type 0) (c s sh : ℕ) (iter : Iter) → iter ≡ iterator_at c s sh iter.position → P iter.stream iter.shard → P s sh
-of_shard P c s sh iter is p = subst (λ n. P s n) (ap (λ (i : Iter). i.shard) is) (subst (λ n. P n iter.shard) (ap (λ (i : Iter). i.stream) is) p)
-
-pub to_shard : (P : ℕ → ℕ → Type 0) (c s sh : ℕ) (iter : Iter) → iter ≡ iterator_at c s sh iter.position → P s sh → P iter.stream iter.shard
-to_shard P c s sh iter is p = subst (λ n. P iter.stream n) (sym (ap (λ (i : Iter). i.shard) is)) (subst (λ n. P n sh) (sym (ap (λ (i : Iter). i.stream) is)) p)

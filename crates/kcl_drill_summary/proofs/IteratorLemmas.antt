@@ -9,6 +9,7 @@ use Rattle.kds_defs.specs.declared.reply.Refusal.TheVariants as refusal
 use Rattle.kds_defs.specs.declared.reply.Reply.{Reply}
 use Rattle.kds_defs.specs.declared.reply.Reply.TheVariants as reply
 use Rattle.kds_base.specs.declared.lease_key.ShardRef.{ShardRef}
+use Rattle.kds_base.proofs.Facts.{same_some}
 use Rattle.kds_defs.specs.Decision.{Decision, Accepted, refuse◌if◌else◌, with◌or◌then◌}
 use Rattle.kds_defs.specs.Histories.{answer_of, decide}
 use Rattle.kds_defs.specs.Records.{records}
@@ -77,8 +78,8 @@ here log c by s k sh name a is named same can told =
     ap (λ x. iterator_in x k) (iterated log c by s sh name a is named can told)
     ∙ ap (λ b. if b then Some (iterator_at c s sh 0) else None) (turned k s true same)
 
-same_some : (x y : Iter) → Some x ≡ Some y → x ≡ y
-same_some x y h = cc
+none_some : (i : Iter) → None ≡ Some i → ⊥
+none_some i h = cc
 
 -- none is found where the key is of another stream, and only there
 pub not_counted : (log : Journal) (c by s : ℕ) (key : ShardRef) (name : List ℕ) (a : Result Reply Refusal) → name ≡ drill_name → stream_named log drill_name ≡ Some s → ((key.stream == s) ≡ true → CanCount log c s key.shard)
@@ -87,10 +88,7 @@ not_counted log c by s key name a is named can told none = either (key.stream ==
   where
     either : (b : Bool) → (key.stream == s) ≡ b → (key.stream == s) ≡ false
     either false other = other
-    either true same = absurd (no (iterator_at c s key.shard 0) (sym none ∙ here log c by s key.stream key.shard name a is named same (can same) told))
-      where
-        no : (i : Iter) → None ≡ Some i → ⊥
-        no i h = cc
+    either true same = absurd (none_some (iterator_at c s key.shard 0) (sym none ∙ here log c by s key.stream key.shard name a is named same (can same) told))
 
 -- one that is found is that of the key's shard, and what is counted from it is
 pub counted : (log : Journal) (c by s : ℕ) (key : ShardRef) (name : List ℕ) (a : Result Reply Refusal) (iter : Iter) (n : Count) → name ≡ drill_name → stream_named log drill_name ≡ Some s → ((key.stream == s) ≡ true → CanCount log c s key.shard)
@@ -100,10 +98,7 @@ pub counted : (log : Journal) (c by s : ℕ) (key : ShardRef) (name : List ℕ) 
 counted log c by s key name a iter n is named can told found so = either (key.stream == s) refl
   where
     either : (b : Bool) → (key.stream == s) ≡ b → CountsKey log s key (Some n)
-    either false other = absurd (no iter (sym (elsewhere log c by s key.stream key.shard name a is named other told) ∙ found))
-      where
-        no : (i : Iter) → None ≡ Some i → ⊥
-        no i h = cc
+    either false other = absurd (none_some iter (sym (elsewhere log c by s key.stream key.shard name a is named other told) ∙ found))
     either true same =
         let e = same_some iter (iterator_at c s key.shard 0) (sym found ∙ here log c by s key.stream key.shard name a is named same (can same) told) in
         let n_is = subst (λ (i : Iter). (CanCount log c i.stream i.shard → i ≡ iterator_at c i.stream i.shard 0 → (n.count ≡ length (records log i.stream i.shard)) × (n.bytes ≡ bytes_of (records log i.stream i.shard)))) e so (can same) refl in

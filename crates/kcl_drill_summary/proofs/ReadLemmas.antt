@@ -1,55 +1,26 @@
 -- Turns that only read leave the journal, and are answered as if nothing were read before them.
-use Rattle.std.proofs.Common.{◌≡◌, ℕ, Bool, true, false, List, [], ◌∷◌, ◌++◌, Option, Some, None, refl, ap, ◌∙◌, arith}
+use Rattle.std.proofs.Common.{◌≡◌, ℕ, true, List, [], ◌∷◌, ◌++◌, refl, ap, ◌∙◌, arith}
 use Rattle.std.specs.Prelude.{max, Result, Ok, Err, IfOk, OnErr}
 use Rattle.kds_defs.specs.declared.command.Command.{Command}
 use Rattle.kds_defs.specs.declared.command.Command.TheVariants as command
 use Rattle.kds_defs.specs.declared.command.Turn.{Turn}
-use Rattle.kds_defs.specs.declared.command.Start.{Start}
-use Rattle.kds_defs.specs.declared.reply.Iter.{Iter}
 use Rattle.kds_defs.specs.declared.reply.Refusal.{Refusal}
-use Rattle.kds_defs.specs.Decision.{Decision, Accepted, refuse◌if◌else◌, with◌or◌then◌}
-use Rattle.kds_defs.specs.Listings.{get_iterator, get_records}
 use Rattle.kds_defs.specs.declared.reply.Reply.{Reply}
 use Rattle.kds_defs.specs.Histories.{answer, answer_of, clock, decide, journal, lines_of}
-use Rattle.kds_defs.specs.Journal.{Journal, with_lines}
+use Rattle.kds_defs.specs.Journal.{Journal, Line, with_lines}
+use Rattle.kds_defs.proofs.Walk.{Outcome, Refuses, Answers, Adds, Creates, walk}
 use Rattle.kcl_drill_summary.specs.Reading.{AreReads, HasRead, is_reading}
 
--- nothing is added
-IsIdle : Decision → Type 0
-IsIdle d = lines_of d ≡ []
-
-idle : (r : Reply) → IsIdle (Accepted [] r)
-unfolding IsIdle
-idle r = refl
-
-idle_lines : (d : Decision) → IsIdle d → lines_of d ≡ []
-unfolding IsIdle
-idle_lines d is = is
-
-idle_if : (r : Refusal) (b : Bool) (d : Decision) → IsIdle d → IsIdle (refuse r if b else d)
-unfolding refuse◌if◌else◌ IsIdle
-idle_if r true d so = refl
-idle_if r false d so = so
-
-idle_with : {A : Type 0} (o : Option A) (r : Refusal) (d : A → Decision) → ((x : A) → IsIdle (d x)) → IsIdle (with o or r then d)
-unfolding with◌or◌then◌ IsIdle
-idle_with None r d so = refl
-idle_with (Some x) r d so = so x
-
-iterator_idle : (log : Journal) (c s sh : ℕ) (from : Start) → IsIdle (get_iterator log c s sh from)
-iterator_idle log c s sh from = idle_if _ _ _ (idle_with _ _ _ (λ x. idle_if _ _ _ (idle _)))
-
-records_idle : (log : Journal) (c : ℕ) (iter : Iter) (limit : ℕ) → IsIdle (get_records log c iter limit)
-records_idle log c iter limit = idle_if _ _ _ (idle_if _ _ _ (idle_if _ _ _ (idle _)))
-
-reads_idle : (log : Journal) (c by : ℕ) (what : Command) → is_reading what ≡ true → IsIdle (decide log c by what)
-reads_idle log c by command.Survey is = idle _
-reads_idle log c by (command.GetIterator name sh from) is = idle_with _ _ _ (λ s. iterator_idle log c s sh from)
-reads_idle log c by (command.Records iter limit) is = records_idle log c iter limit
-reads_idle log c by _ is = absurd cc
+-- such a turn adds no line
+none_by : (log : Journal) (c by : ℕ) (what : Command) (lines : List Line) (answer : Result Reply Refusal) → Outcome log c by what lines answer
+    → is_reading what ≡ true → lines ≡ []
+none_by log c by _ _ _ (Refuses what r may) is = refl
+none_by log c by _ _ _ (Answers what r shows) is = refl
+none_by log c by _ _ _ (Adds _ _ _ (Creates name count fits)) is = absurd cc
+none_by log c by _ _ _ _ is = absurd cc
 
 no_lines : (log : Journal) (c by : ℕ) (what : Command) → is_reading what ≡ true → lines_of (decide log c by what) ≡ []
-no_lines log c by what is = idle_lines (decide log c by what) (reads_idle log c by what is)
+no_lines log c by what is = none_by log c by what _ _ (walk log c by what) is
 
 clocks : (m c at now : ℕ) → at ≡ now → max c now ≡ max m now → max (max c at) now ≡ max m now
 clocks m c at now is so = omega (arith, is, so)

@@ -50,10 +50,6 @@ abbrev is_in : ShardRef → List ShardRef → Bool
 is_in key [] = false
 is_in key (k ∷ ks) = same_key k key || is_in key ks
 
-or_true : (b : Bool) → (b || true) ≡ true
-or_true true = refl
-or_true false = refl
-
 in_with : (key k : ShardRef) (ks : List ShardRef) → is_in key (with_key k ks) ≡ (same_key k key || is_in key ks)
 in_with key k [] = refl
 in_with key k (j ∷ ks) = either (is_before k j) (in_with key k ks)

@@ -4,10 +4,13 @@ use Rattle.std.specs.Prelude.{◌==◌, ◌||◌, cond, not, slice_get, if◌the
 use Rattle.std.specs.List.{AllByRecursion, filter, find}
 use Rattle.std.proofs.lemmas.Bool.Decides.{nat_tests}
 use Rattle.kds_base.specs.declared.lease_key.ShardRef.{ShardRef}
+use Rattle.kds_base.proofs.Facts.{equal_so, is_itself}
+use Rattle.kds_defs.proofs.Rising.{lower}
 use Rattle.kds_defs.specs.Journal.{Journal}
 use Rattle.kds_defs.specs.Keys.{ref}
 use Rattle.kds_defs.specs.Listings.{listed_in, refs_of}
 use Rattle.kds_defs.specs.Records.{next_number, records}
+use Rattle.kds_defs.specs.Scaling.{RiseFrom}
 use Rattle.kds_defs.specs.Shards.{ShardState, is_closed_below, is_listed, is_listed_state, listed_among, listed_shards, shard_at, shards}
 use Rattle.kds_defs.specs.StreamCommands.{last_number}
 use Rattle.kds_defs.specs.Streams.{is_live, live_streams, made_count, name_of, numbers_from, same_name, stream_named, trim_floor}
@@ -16,16 +19,13 @@ use Rattle.kcl_laws.specs.Recorded.{AreDrawn, IsSized}
 use Rattle.kcl_drill.specs.Generated.{drill_name}
 use Rattle.kcl_drill.specs.Summed.{Summed, bytes_of, sum_of, summary_of, summary_text, summed_at, text_of}
 use Rattle.kcl_drill_summary.specs.Counting.{AreAbove, AreCountable, AreFew, CanCount, of_stream, summed_key}
-use Rattle.kcl_drill_summary.proofs.Totals.{RiseFrom, bytes_in, few_bytes_in, few_in, records_in}
+use Rattle.kcl_drill_summary.proofs.Totals.{bytes_in, few_bytes_in, few_in, records_in}
 
 -- ---- a listed shard stands at its number
 
 -- it was not closed below the floor, and stands there
 abbrev Stands : Journal → ℕ → ℕ → ShardState → Type 0
 Stands log c s x = (shard_at log s x.no ≡ Some x) × (not (is_closed_below (trim_floor log c s) x) ≡ true)
-
-same_at : (n m : ℕ) (x : ShardState) (xs : List ShardState) → m ≡ 0 → slice_get (x ∷ xs) m ≡ Some x
-same_at n m x xs is = ap (slice_get (x ∷ xs)) is
 
 stand_at : (all xs : List ShardState) (n : ℕ) → AreNumbered n xs → ((i : ℕ) → slice_get xs i ≡ slice_get all (n + i)) → AllByRecursion (λ (x : ShardState). slice_get all x.no ≡ Some x) xs
 stand_at all [] n numbers at = tt
@@ -74,13 +74,10 @@ module _ (log : Journal) (facts : Facts log) (c s : ℕ) (whole : (sh : ℕ) →
   of_shards t [] rest live are more = more
   of_shards t (x ∷ xs) rest live are more = (
     λ same.
-        let e = same_number t s same in
+        let e = equal_so t s same in
         counts_at x (ap (is_live log) (sym e) ∙ live) (subst (λ n. Stands log c n x) e are.0),
     of_shards t xs rest live are.1 more,
   )
-    where
-      same_number : (a b : ℕ) → (a == b) ≡ true → a ≡ b
-      same_number a b h = grind (arith, nat_tests)
 
   all_countable : (p : ℕ → Bool) (ns : List ℕ) → ((n : ℕ) → p n ≡ is_live log n) → AreCountable log c s (listed_in log c (filter p ns))
   all_countable p [] is = tt
@@ -104,10 +101,9 @@ none_of s t (x ∷ xs) rest other = ap (λ b. cond b (ref t x.no ∷ of_stream s
 
 all_of : (s : ℕ) (xs : List ShardState) (rest : List ShardRef) → of_stream s rest ≡ [] → of_stream s (refs_of s xs ++ rest) ≡ refs_of s xs
 all_of s [] rest none = none
-all_of s (x ∷ xs) rest none = ap (λ b. cond b (ref s x.no ∷ of_stream s (refs_of s xs ++ rest)) (of_stream s (refs_of s xs ++ rest))) (self s) ∙ ap (λ ks. ref s x.no ∷ ks) (all_of s xs rest none)
-  where
-    self : (n : ℕ) → (n == n) ≡ true
-    self n = grind (arith, nat_tests)
+all_of s (x ∷ xs) rest none =
+    ap (λ b. cond b (ref s x.no ∷ of_stream s (refs_of s xs ++ rest)) (of_stream s (refs_of s xs ++ rest))) (is_itself s)
+    ∙ ap (λ ks. ref s x.no ∷ ks) (all_of s xs rest none)
 
 apart_below : (t s : ℕ) → s < t → (t == s) ≡ false
 apart_below t s h = grind (arith, nat_tests)
@@ -165,13 +161,9 @@ rise_listed : (n : ℕ) (floor : ℕ) (xs : List ShardState) → AreNumbered n x
 rise_listed n floor [] numbers = tt
 rise_listed n floor (x ∷ xs) numbers = either (not (is_closed_below floor x)) (rise_listed (n + 1) floor xs numbers.1)
   where
-    weaker : (m k : ℕ) (ns : List ℕ) → m ≤ k → RiseFrom k ns → RiseFrom m ns
-    weaker m k [] le rise = tt
-    weaker m k (y ∷ ys) le rise = (omega (arith, le, rise.0), rise.1)
-
     either : (b : Bool) → RiseFrom (n + 1) (map (λ (x : ShardState). x.no) (listed_among floor xs)) → RiseFrom n (map (λ (x : ShardState). x.no) (cond b (x ∷ listed_among floor xs) (listed_among floor xs)))
-    either true rest = (omega (arith, numbers.0), weaker (x.no + 1) (n + 1) _ (omega (arith, numbers.0)) rest)
-    either false rest = weaker n (n + 1) _ (omega arith) rest
+    either true rest = (omega (arith, numbers.0), lower (x.no + 1) (n + 1) _ (omega (arith, numbers.0)) rest)
+    either false rest = lower n (n + 1) _ (omega arith) rest
 
 abbrev numbers_in : List ShardState → List ℕ
 numbers_in xs = map (λ (x : ShardState). x.no) xs

@@ -2,19 +2,16 @@
 use Rattle.std.proofs.Common.{◌≡◌, ℕ, ◌+◌, ◌*◌, ◌<◌, ◌≤◌, ◌^◌, Bool, true, false, List, [], ◌∷◌, ◌++◌, length, refl, ap, arith}
 use Rattle.std.specs.Prelude.{◌==◌, ◌&&◌, if◌then◌else◌}
 use Rattle.std.proofs.lemmas.Bool.Decides.{nat_tests}
+use Rattle.std.proofs.lemmas.List.{length-append}
 use Rattle.kds_defs.specs.declared.entry.Entry.{Entry}
 use Rattle.kds_defs.specs.declared.entry.Entry.TheVariants as entry
 use Rattle.kds_defs.specs.Journal.{Line, Journal}
 use Rattle.kds_defs.specs.Records.{Logged, draws, next_number, records, records_after}
+use Rattle.kds_defs.specs.Scaling.{RiseFrom}
 use Rattle.kds_defs.specs.StreamCommands.{last_number}
 use Rattle.kcl_drill.specs.Summed.{bytes_of}
-use Rattle.kcl_drill_summary.proofs.BatchLemmas.{AreSized, length_append}
+use Rattle.kcl_drill_summary.proofs.BatchLemmas.{AreSized}
 use Rattle.kcl_drill_summary.proofs.CountLemmas.{bytes_few}
-
--- numbers that rise from n on
-abbrev pub RiseFrom : ℕ → List ℕ → Type 0
-RiseFrom n [] = Unit {0}
-RiseFrom n (x ∷ xs) = (n ≤ x) × RiseFrom (x + 1) xs
 
 -- how many records these shards have
 abbrev pub records_in : Journal → ℕ → List ℕ → ℕ
@@ -68,7 +65,7 @@ one_more f g sh m (x ∷ xs) rise is = either (sh == x) refl (one_more f g sh (x
         omega (arith, is x, none, later)
 
 lengths_if : (b : Bool) (before : List Logged) (r : Logged) → length (if b then before ++ (r ∷ []) else before) ≡ length before + bit b
-lengths_if true before r = length_append before (r ∷ [])
+lengths_if true before r = length-append before (r ∷ [])
 lengths_if false before r = omega arith
 
 more_by : (line : Line) (log : Journal) (e : Entry) (s m : ℕ) (shs : List ℕ) → RiseFrom m shs → sums (λ sh. length (records_after line e s sh (records log s sh))) shs ≤ draws e s + sums (λ sh. length (records log s sh)) shs
