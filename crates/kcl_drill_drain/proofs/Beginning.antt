@@ -1,5 +1,5 @@
 -- A row is taken, and its shard opened.
-use Rattle.std.proofs.Common.{◌≡◌, ℕ, ◌+◌, ◌-◌, ◌<◌, ◌≤◌, ◌^◌, max, true, false, List, [], ◌∷◌, ◌++◌, length, Some, None, refl, sym, ap, subst, ◌∙◌, arith, inl, inr}
+use Rattle.std.proofs.Common.{◌≡◌, ℕ, ◌+◌, ◌-◌, ◌<◌, ◌≤◌, ◌^◌, max, true, false, List, [], ◌∷◌, ◌++◌, length, Some, refl, sym, ap, subst, ◌∙◌, arith, inl, inr}
 use Rattle.std.specs.Prelude.{◌==◌, min, slice_get, if◌then◌else◌, Result, Ok}
 use Rattle.std.specs.Option.{option_map}
 use Rattle.std.proofs.lemmas.Bool.Decides.{nat_tests}
@@ -29,6 +29,7 @@ use Rattle.kcl_drill.specs.Summed.{last_checkpoint}
 use Rattle.kcl_laws.specs.Recorded.{HasFrom, RiseBetween}
 use Rattle.kcl_drill_summary.specs.Counting.{row_in}
 use Rattle.kcl_drill_summary.proofs.BatchLemmas.{IsUp, from, left_all}
+use Rattle.kcl_drill_summary.proofs.CountLemmas.{up_rising}
 use Rattle.kcl_drill_laws.specs.Holding.{Holding, Holds, IsOpenedSo, IsTakenSo, MayOpen, MayTake, begun_from, opened_line, taken_line}
 use Rattle.kcl_drill_drain.specs.declared.held.DrainTenure.{DrainTenure}
 use Rattle.kcl_drill_drain.specs.Draining.{IsDone, IsFresh, IsStart, final_of, left_of, records_of, shard_of}
@@ -37,7 +38,7 @@ use Rattle.kcl_drill_drain.specs.Laws.{HasLaws}
 use Rattle.kcl_drill_drain.specs.Leased.{Leads, turn_of}
 use Rattle.kcl_drill_drain.specs.Standing.{IsDrainedHere, IsSpot, IsTaken, OthersWait, ReadsOn, Spot, Stands, clock_at}
 use Rattle.kcl_drill_drain.proofs.Leading.{Answered, IsOver, led, over, so_too}
-use Rattle.kcl_drill_drain.proofs.Settling.{fewer_from, rise_up, settled_at, settled_horizon}
+use Rattle.kcl_drill_drain.proofs.Settling.{fewer_from, settled_at, settled_horizon}
 use Rattle.kcl_drill_drain.proofs.Spots.{apart, key_is, listed, none_yet, one_more, past, whole_is}
 use Rattle.kds_defs.specs.Streams.{trim_floor}
 use Rattle.kds_defs.specs.Records.{left_among}
@@ -61,9 +62,6 @@ end_same (At q) = refl
 end_same ShardEnd = refl
 
 module _ (w : Spot) (at : ℕ) (spot : IsSpot w at) (laws : HasLaws w.history (clock_at w at)) where
-  pub rs : List Logged
-  rs = records_of (journal w.history) w.key
-
   -- what is left from a place on
   pub left_is : (p : ℕ) → left_of (journal w.history) (clock_at w at) w.key p ≡ from p (records_of (journal w.history) w.key)
   left_is p =
@@ -71,7 +69,7 @@ module _ (w : Spot) (at : ℕ) (spot : IsSpot w at) (laws : HasLaws w.history (c
       ∙ left_all (trim_floor (journal w.history) (clock_at w at) w.key.stream) p (records_of (journal w.history) w.key) ((whole_is w at spot laws).above w.key.shard)
 
   pub up : IsUp (start_of (shard_of (journal w.history) w.key)) (records_of (journal w.history) w.key)
-  up = rise_up _ _ _ (laws.drawn w.key.stream w.key.shard)
+  up = up_rising _ _ _ (laws.drawn w.key.stream w.key.shard)
 
   -- ---- taken
 
@@ -111,15 +109,6 @@ module _ (w : Spot) (at : ℕ) (spot : IsSpot w at) (laws : HasLaws w.history (c
           let f = seen_row now r drained seen in
           one_more w at spot laws now (none_yet w at spot laws now drained)
           (ap (option_map (λ (x : Row). x.checkpoint)) f.0 ∙ ap Some (sym (ends_so r.floor r.checkpoint ends f.1.start)))
-
-  -- no row is unseen
-  pub not_seen : (stands : List Turn → Type 0) (by : ℕ) → row_in w.among w.key ≡ None → Leads stands by at w.history (AreDrainedTo w.history w.keys w.among w.index) → ⊥
-  not_seen stands by none l =
-      let f = l.so.waits w.index w.key (omega arith) spot.here in
-      no f.now (sym none ∙ f.seen)
-    where
-      no : (r : Row) → None ≡ Some r → ⊥
-      no r h = cc
 
   -- ---- opened
 

@@ -5,10 +5,12 @@ use Rattle.std.specs.Prelude.{◌==◌, ◌&&◌, ◌⊎◌, cond, not, slice_ge
 use Rattle.std.specs.List.{AllByRecursion, filter}
 use Rattle.std.proofs.lemmas.Bool.Decides.{nat_tests}
 use Rattle.kds_base.specs.declared.lease_key.ShardRef.{ShardRef}
-use Rattle.kds_base.proofs.Facts.{same_some}
+use Rattle.kds_base.proofs.Facts.{equal_so, same_some}
+use Rattle.kds_defs.proofs.Rising.{lower}
 use Rattle.kds_defs.specs.Journal.{Journal}
 use Rattle.kds_defs.specs.Keys.{ref, same_key}
 use Rattle.kds_defs.specs.Listings.{listed_in, refs_of}
+use Rattle.kds_defs.specs.Scaling.{RiseFrom}
 use Rattle.kds_defs.specs.Shards.{ShardState, is_closed_below, listed_among, listed_shards, shard_at, shards}
 use Rattle.kds_defs.specs.Streams.{is_live, numbers_from, trim_floor}
 use Rattle.kds_defs.specs.Tiled.{AreNumbered}
@@ -65,10 +67,6 @@ at_ref s n i [] x numbers is = absurd cc
 at_ref s n zero (y ∷ xs) x numbers is = let e : y.no ≡ n + 0 = omega (arith, numbers.0) in ap (λ m. Some (ref s m)) e
 at_ref s n (suc i) (y ∷ xs) x numbers is = let e : n + 1 + i ≡ n + suc i = omega arith in at_ref s (n + 1) i xs x numbers.1 is ∙ ap (λ m. Some (ref s m)) e
 
-length_refs : (s : ℕ) (xs : List ShardState) → length (refs_of s xs) ≡ length xs
-length_refs s [] = refl
-length_refs s (x ∷ xs) = ap suc (length_refs s xs)
-
 below_there : (p i : ℕ) (xs : List ShardState) (x : ShardState) → p < i → slice_get xs i ≡ Some x → (y : ShardState) × (slice_get xs p ≡ Some y)
 below_there p i [] x below is = absurd cc
 below_there p zero (y ∷ xs) x below is = absurd (omega (arith, below))
@@ -107,23 +105,14 @@ filtered p (n ∷ ns) = either (p n) refl (filtered p ns)
     either false is rest = rest
 
 -- the numbers rise
-pub IsUp : ℕ → List ℕ → Type 0
-IsUp n [] = Unit {0}
-IsUp n (s ∷ ss) = (n ≤ s) × IsUp (s + 1) ss
-
-up_weaker : (n m : ℕ) (ss : List ℕ) → n ≤ m → IsUp m ss → IsUp n ss
-unfolding IsUp
-up_weaker n m [] le up = tt
-up_weaker n m (s ∷ ss) le up = (omega (arith, le, up.0), up.1)
-
-pub up_numbers : (p : ℕ → Bool) (n count : ℕ) → IsUp n (filter p (numbers_from n count))
-unfolding IsUp
+pub up_numbers : (p : ℕ → Bool) (n count : ℕ) → RiseFrom n (filter p (numbers_from n count))
 up_numbers p n zero = tt
 up_numbers p n (suc count) = either (p n) (up_numbers p (n + 1) count)
   where
-    either : (b : Bool) → IsUp (n + 1) (filter p (numbers_from (n + 1) count)) → IsUp n (cond b (n ∷ filter p (numbers_from (n + 1) count)) (filter p (numbers_from (n + 1) count)))
+    either : (b : Bool) → RiseFrom (n + 1) (filter p (numbers_from (n + 1) count))
+        → RiseFrom n (cond b (n ∷ filter p (numbers_from (n + 1) count)) (filter p (numbers_from (n + 1) count)))
     either true rest = (omega arith, rest)
-    either false rest = up_weaker n (n + 1) (filter p (numbers_from (n + 1) count)) (omega arith) rest
+    either false rest = lower n (n + 1) (filter p (numbers_from (n + 1) count)) (omega arith) rest
 
 -- ---- a key among them
 
@@ -151,8 +140,8 @@ module _ (log : Journal) (numbered : (s : ℕ) → AreNumbered 0 (shards log s))
       either later (inl at) = of_ref s i key live.0 (ref_at s 0 i (shards log s) key (numbered s) at.1)
       either later (inr at) = later at.0 at.2
 
-  from_streams : (ss : List ℕ) (n i : ℕ) (key : ShardRef) → IsUp n ss → slice_get (keys_in log ss) i ≡ Some key → n ≤ key.stream
-  unfolding IsUp Place
+  from_streams : (ss : List ℕ) (n i : ℕ) (key : ShardRef) → RiseFrom n ss → slice_get (keys_in log ss) i ≡ Some key → n ≤ key.stream
+  unfolding Place
   from_streams [] n i key up is = absurd cc
   from_streams (s ∷ ss) n i key up is = either up.0 (λ j there. from_streams ss (s + 1) j key up.1 there) (place (refs_of s (shards log s)) (keys_in log ss) i key is)
     where
@@ -180,8 +169,9 @@ module _ (log : Journal) (numbered : (s : ℕ) → AreNumbered 0 (shards log s))
           (here.0, omega (arith, here.1, at.1, rest.1), here.2)
 
   -- no key stands twice
-  pub unlike_in : (ss : List ℕ) (n i j : ℕ) (a b : ShardRef) → IsUp n ss → i < j → slice_get (keys_in log ss) i ≡ Some a → slice_get (keys_in log ss) j ≡ Some b → (same_key a b ≡ false) × (same_key b a ≡ false)
-  unfolding IsUp Place
+  pub unlike_in : (ss : List ℕ) (n i j : ℕ) (a b : ShardRef) → RiseFrom n ss → i < j → slice_get (keys_in log ss) i ≡ Some a
+      → slice_get (keys_in log ss) j ≡ Some b → (same_key a b ≡ false) × (same_key b a ≡ false)
+  unfolding Place
   unlike_in [] n i j a b up below is is' = absurd cc
   unlike_in (s ∷ ss) n i j a b up below is is' = either (λ p q lt there there'. unlike_in ss (s + 1) p q a b up.1 lt there there') (λ q there'. from_streams ss (s + 1) q b up.1 there') (place (refs_of s (shards log s)) (keys_in log ss) i a is) (place (refs_of s (shards log s)) (keys_in log ss) j b is')
     where
@@ -238,12 +228,9 @@ module _ (log : Journal) (numbered : (s : ℕ) → AreNumbered 0 (shards log s))
       skip true among = inr among
       skip false among = among
 
-      equal : (n == s) ≡ true → n ≡ s
-      equal h = grind (arith, nat_tests)
-
       above : (n == s) ≡ false → n + 1 ≤ s
       above h = grind (arith, nat_tests)
 
       either : (n + 1 ≤ s → IsIn s rest) → (b : Bool) → (n == s) ≡ b → IsIn s (cond (is_live log n) (n ∷ rest) rest)
-      either later true same = let e = equal same in subst (λ d. IsIn s (cond d (n ∷ rest) rest)) (sym (ap (is_live log) e ∙ live)) (inl e)
+      either later true same = let e = equal_so n s same in subst (λ d. IsIn s (cond d (n ∷ rest) rest)) (sym (ap (is_live log) e ∙ live)) (inl e)
       either later false other = skip (is_live log n) (later (above other))

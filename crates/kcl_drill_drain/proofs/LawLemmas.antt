@@ -1,10 +1,10 @@
 -- Rows at their shards' ends, and the numbers of streams.
 use Rattle.std.proofs.Common.{◌≡◌, ℕ, ◌+◌, ◌≤◌, Bool, true, false, [], ◌∷◌, Some, refl, subst, arith}
-use Rattle.std.specs.Prelude.{◌==◌, ◌||◌, ◌&&◌, not}
+use Rattle.std.specs.Prelude.{◌==◌, ◌||◌, not}
 use Rattle.kds_base.specs.declared.lease_key.Checkpoint.{Checkpoint}
 use Rattle.kds_base.specs.declared.lease_key.Checkpoint.TheVariants.{TrimHorizon, At, ShardEnd}
 use Rattle.kds_base.specs.declared.lease_key.ShardRef.{ShardRef}
-use Rattle.kds_base.proofs.Facts.{equal_so}
+use Rattle.kds_base.proofs.Facts.{both_right, equal_so}
 use Rattle.kds_defs.specs.declared.entry.Entry.{Entry}
 use Rattle.kds_defs.specs.declared.entry.Entry.TheVariants as entry
 use Rattle.kds_defs.specs.declared.reply.Reply.{Reply}
@@ -43,11 +43,7 @@ live_by log line (entry.Made stream name count) reply s is h before live = eithe
         let made = made_number log line stream count name reply is h in
         (omega (arith, n, made), omega (arith, n, made))
     either false d e m k = let b = k m in (b.0, omega (arith, b.1))
-live_by log line (entry.Gone stream) reply s is h before live = before (both (not (stream == s)) (is_live log s) live)
-  where
-    both : (a b : Bool) → (a && b) ≡ true → b ≡ true
-    both true b h = h
-    both false b h = absurd cc
+live_by log line (entry.Gone stream) reply s is h before live = before (both_right (not (stream == s)) (is_live log s) live)
 live_by log line _ reply s is h before live = before live
 
 pub live_numbers : (log : Journal) → IsLegal log → (s : ℕ) → is_live log s ≡ true → (1 ≤ s) × (s ≤ made_count log)

@@ -10,11 +10,12 @@ use Rattle.kds_defs.specs.Histories.{answer, answer_of, clock, decide, journal, 
 use Rattle.kds_defs.specs.Journal.{Journal, with_lines}
 use Rattle.kds_defs.specs.Kinds.{is_service}
 use Rattle.kds_defs.specs.Lawful.{IsLawful}
+use Rattle.kcl_drill_laws.specs.Closed.{AreLeased}
 use Rattle.kcl_drill_laws.specs.Leasing.{AreOnLeases, HasSameFloors, HasSameStreams}
 use Rattle.kcl_drill_drain.specs.Laws.{HasLaws}
-use Rattle.kcl_drill_drain.specs.Leased.{AreOwn, HasLeased, Leads, turn_of}
+use Rattle.kcl_drill_drain.specs.Leased.{HasLeased, Leads, turn_of}
 
-pub own_leases : (by at : ℕ) (more : List Turn) → AreOwn by at more → AreOnLeases more
+pub own_leases : (by at : ℕ) (more : List Turn) → AreLeased by at more → AreOnLeases more
 own_leases by at [] are = tt
 own_leases by at (turn ∷ more) are = (are.0.2, own_leases by at more are.1)
 
@@ -34,7 +35,8 @@ abbrev pub Answered : (List Turn → Type 0) → (List Turn → Type 0) → Turn
 Answered stands stands' turn a = (now : List Turn) → stands now → (a ≡ answer now turn) × stands' (turn ∷ now)
 
 led_from : (stands stands' : List Turn → Type 0) (by at : ℕ) (h more : List Turn) (what : Command) (a : Result Reply Refusal) (Q : Journal → Type 0) (d : Decision)
-    → is_service what ≡ false → IsLawful (turn_of by at what) → Answered stands stands' (turn_of by at what) a → stands (more ++ h) → AreOwn by at more → max (clock (more ++ h)) at ≡ max (clock h) at
+    → is_service what ≡ false → IsLawful (turn_of by at what) → Answered stands stands' (turn_of by at what) a → stands (more ++ h)
+    → AreLeased by at more → max (clock (more ++ h)) at ≡ max (clock h) at
     → decide (journal (more ++ h)) (max (clock h) at) by what ≡ d → Q (with_lines (lines_of d) (journal (more ++ h)))
     → (a ≡ answer_of d) × Leads stands' by at h Q
 led_from stands stands' by at h more what a Q d lease lawful answers now are late is so =

@@ -1,7 +1,6 @@
 -- A row is made, where there is none.
 use Rattle.std.proofs.Common.{◌≡◌, ℕ, ◌+◌, ◌<◌, ◌^◌, Bool, true, false, List, [], ◌∷◌, ◌++◌, length, zero, suc, Option, Some, None, refl, sym, ap, subst, ◌∙◌, arith, inl, inr}
-use Rattle.std.specs.Prelude.{◌⊎◌, ◌==◌, ◌&&◌, is_some, not, nat_lt, slice_get, if◌then◌else◌, Result}
-use Rattle.std.proofs.lemmas.Bool.Decides.{nat_tests}
+use Rattle.std.specs.Prelude.{◌⊎◌, is_some, not, slice_get, if◌then◌else◌, Result}
 use Rattle.kds_base.specs.declared.lease_key.ShardRef.{ShardRef}
 use Rattle.kds_defs.specs.declared.command.Command.TheVariants as command
 use Rattle.kds_defs.specs.declared.command.Origin.TheVariants as origin
@@ -16,20 +15,21 @@ use Rattle.kds_defs.specs.Decision.{Accepted, Refused}
 use Rattle.kds_defs.specs.Histories.{journal}
 use Rattle.kds_defs.specs.Journal.{Journal, Line, plain_line}
 use Rattle.kds_defs.specs.Keys.{is_listed_key, same_key}
-use Rattle.kds_defs.specs.LeaseCommands.{counting_origin, follows_parent, make_lease}
+use Rattle.kds_defs.specs.LeaseCommands.{counting_origin, make_lease}
 use Rattle.kds_defs.specs.Leases.{made_row, row, rows}
 use Rattle.kds_defs.specs.Shards.{start_of}
 use Rattle.kds_defs.proofs.Decisions.{passed_if, refused_if}
-use Rattle.kcl_drill_summary.specs.Counting.{row_in}
+use Rattle.kds_defs.proofs.Keys.{key_itself}
 use Rattle.kcl_drill_summary.proofs.RowLookups.{row_found}
+use Rattle.kcl_drill_laws.proofs.Origins.{counts_so}
 use Rattle.kcl_drill_drain.specs.Draining.{IsFresh}
 use Rattle.kcl_drill_drain.specs.Keys.{AreDrainedTo, AreMade, HasRow}
 use Rattle.kcl_drill_drain.specs.Laws.{HasLaws}
 use Rattle.kcl_drill_drain.specs.Leased.{Leads, turn_of}
 use Rattle.kcl_drill_drain.specs.Standing.{IsSpot, Spot, clock_at}
-use Rattle.kcl_drill_drain.proofs.Leading.{Answered, IsOver, led, over, so_too}
+use Rattle.kcl_drill_drain.proofs.Leading.{Answered, IsOver, led, over}
 use Rattle.kcl_drill_drain.proofs.Overs.{same_shard}
-use Rattle.kcl_drill_drain.proofs.Spots.{listed}
+use Rattle.kcl_drill_drain.proofs.Spots.{listed, same_here, up_to}
 
 -- ---- at the start
 
@@ -60,31 +60,11 @@ all_wait h keys among log made = record {
 
 module _ (w : Spot) (at : ℕ) (spot : IsSpot w at) (laws : HasLaws w.history (clock_at w at)) where
   origin_is : (log : Journal) (key : ShardRef) → counting_origin log key origin.TrimHorizon ≡ origin.TrimHorizon
-  origin_is log key = either (follows_parent log key)
-    where
-      either : (b : Bool) → (if b then origin.TrimHorizon else origin.TrimHorizon) ≡ origin.TrimHorizon
-      either true = refl
-      either false = refl
-
-  same_here : (j : ℕ) (key : ShardRef) → j ≡ w.index → slice_get w.keys j ≡ Some key → key ≡ w.key
-  same_here j key e is = let a : Some key ≡ Some w.key = sym is ∙ ap (slice_get w.keys) e ∙ spot.here in cc (a)
-
-  up_to : (j i : ℕ) → j < i + 1 → (j < i) ⊎ (j ≡ i)
-  up_to j i below = either (nat_lt j i) refl
-    where
-      lt : nat_lt j i ≡ true → j < i
-      lt h = grind (arith, nat_tests)
-
-      eq : nat_lt j i ≡ false → j ≡ i
-      eq h = grind (arith, nat_tests)
-
-      either : (b : Bool) → nat_lt j i ≡ b → (j < i) ⊎ (j ≡ i)
-      either true is = inl (lt is)
-      either false is = inr (eq is)
+  origin_is log key = counts_so log key origin.TrimHorizon refl
 
   made_by : (log : Journal) → ((j : ℕ) (key : ShardRef) → j < w.index → slice_get w.keys j ≡ Some key → HasRow log key) → HasRow log w.key → (j : ℕ) (key : ShardRef) → slice_get w.keys j ≡ Some key → (j < w.index) ⊎ (j ≡ w.index) → HasRow log key
   made_by log before here j key is (inl below) = before j key below is
-  made_by log before here j key is (inr same) = subst (HasRow log) (sym (same_here j key same is)) here
+  made_by log before here j key is (inr same) = subst (HasRow log) (sym (same_here w at spot laws j key same is)) here
 
   -- where its row is there, one more is
   pub one_made : (log : Journal) → AreMade w.history w.keys w.among w.index log → HasRow log w.key → AreMade w.history w.keys w.among (w.index + 1) log
@@ -103,12 +83,6 @@ module _ (w : Spot) (at : ℕ) (spot : IsSpot w at) (laws : HasLaws w.history (c
   fresh_by true x key o new old r is = let e : x ≡ r = cc in subst (IsFresh w.history key) e new
   fresh_by false x key o new old r is = old r is
 
-  same_self : (k : ShardRef) → same_key k k ≡ true
-  same_self k = ap (λ b. b && (k.shard == k.shard)) (same_is k.stream) ∙ same_is k.shard
-    where
-      same_is : (a : ℕ) → (a == a) ≡ true
-      same_is a = grind (arith, nat_tests)
-
   new_line : ℕ → ℕ → Line
   new_line c by = plain_line c by (entry.LeaseMade w.key origin.TrimHorizon)
 
@@ -124,7 +98,9 @@ module _ (w : Spot) (at : ℕ) (spot : IsSpot w at) (laws : HasLaws w.history (c
 
   new_row_there : (log : Journal) (by : ℕ) → HasRow (new_line (clock_at w at) by ∷ log) w.key
   unfolding new_line
-  new_row_there log by = (made_row log (clock_at w at) w.key origin.TrimHorizon, ap (λ b. if b then Some (made_row log (clock_at w at) w.key origin.TrimHorizon) else row log w.key) (same_self w.key))
+  new_row_there log by =
+      let new = made_row log (clock_at w at) w.key origin.TrimHorizon in
+      (new, ap (λ b. if b then Some new else row log w.key) (key_itself w.key))
 
   made_led : (stands stands' : List Turn → Type 0) (by : ℕ) (a : Result Reply Refusal) (o : Option Row) → at < 2 ^ 62
       → (l : Leads stands by at w.history (AreMade w.history w.keys w.among w.index)) → row (journal (l.more ++ w.history)) w.key ≡ o
@@ -158,7 +134,3 @@ module _ (w : Spot) (at : ℕ) (spot : IsSpot w at) (laws : HasLaws w.history (c
   makes stands stands' by key a below same l answers =
       made_led stands stands' by a (row (journal (l.more ++ w.history)) w.key) below l refl
       (subst (λ k. Answered stands stands' (turn_of by at (command.MakeLease k origin.TrimHorizon)) a) (sym same) answers)
-
-  -- one that was seen is there
-  pub seen_made : (stands : List Turn → Type 0) (by : ℕ) (r : Row) → row_in w.among w.key ≡ Some r → Leads stands by at w.history (AreMade w.history w.keys w.among w.index) → Leads stands by at w.history (AreMade w.history w.keys w.among (w.index + 1))
-  seen_made stands by r seen l = so_too stands by at w.history (AreMade w.history w.keys w.among w.index) (AreMade w.history w.keys w.among (w.index + 1)) l (λ made. one_made (journal (l.more ++ w.history)) made (made.kept w.key r seen))

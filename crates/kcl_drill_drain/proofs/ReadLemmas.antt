@@ -5,6 +5,7 @@ use Rattle.std.specs.Option.{option_map}
 use Rattle.std.proofs.lemmas.Bool.Decides.{nat_tests}
 use Rattle.kds_base.specs.declared.lease_key.Checkpoint.TheVariants.{ShardEnd}
 use Rattle.kds_base.specs.declared.lease_key.ShardRef.{ShardRef}
+use Rattle.kds_base.proofs.Facts.{apart, both_left, same_some}
 use Rattle.kds_defs.specs.declared.command.Command.TheVariants as command
 use Rattle.kds_defs.specs.declared.command.Target.{Target}
 use Rattle.kds_defs.specs.declared.command.Target.TheVariants as target
@@ -225,18 +226,13 @@ module _ (w : Spot) (at : ℕ) (spot : IsSpot w at) (laws : HasLaws w.history (c
   drained_at stands by x l is = so_too stands by at w.history (Stands w by x) (AreDrainedTo w.history w.keys w.among (w.index + 1)) l
       (λ s. one_more w at spot laws (journal (l.more ++ w.history)) s.others (done_at (journal (l.more ++ w.history)) by x s is))
 
-  both_hold : (a b : Bool) → (a && b) ≡ true → a ≡ true
-  both_hold true b h = refl
-  both_hold false b h = absurd cc
-
   pub ended_final : (x : Holding) → ended_at w at x ≡ true → final_of (journal w.history) w.key ≡ ShardEnd
-  ended_final x is = ap (λ b. if b then ShardEnd else last_checkpoint (records_of (journal w.history) w.key)) (both_hold (is_closed_at (shard_of (journal w.history) w.key)) _ is)
+  ended_final x is =
+      ap (λ b. if b then ShardEnd else last_checkpoint (records_of (journal w.history) w.key))
+      (both_left (is_closed_at (shard_of (journal w.history) w.key)) _ is)
 
   none_closed : (a b : Bool) → b ≡ true → (a && b) ≡ false → a ≡ false
-  none_closed true b e h = absurd (no b e h)
-    where
-      no : (b : Bool) → b ≡ true → b ≡ false → ⊥
-      no b e h = cc
+  none_closed true b e h = absurd (apart b e h)
   none_closed false b e h = refl
 
   -- where a read brought nothing and didn't end the shard, the shard is open, and its row reads its end
@@ -253,14 +249,8 @@ module _ (w : Spot) (at : ℕ) (spot : IsSpot w at) (laws : HasLaws w.history (c
       (w : Spot) (x : Holding) → IsSpot w at → MayMark x to → (x.counter == last_number) ≡ false → x.tenure ≡ held.tenure → x.counter ≡ held.counter
       → Leads stands by at w.history (Stands w by x) → (n ≡ x.counter + 1) × Leads stands' by at w.history (Stands w by (after_mark x to))
 
-  same_number : (p q : ℕ) → Some p ≡ Some q → p ≡ q
-  same_number p q h = cc
-
   no_number : (q : ℕ) → Some q ≡ None → ⊥
   no_number q h = cc
-
-  none_number : (q : ℕ) → None ≡ Some q → ⊥
-  none_number q h = cc
 
   tenure_kept : (o : Option ℕ) (x : Holding) → (marked_at o x).tenure ≡ x.tenure
   tenure_kept None x = refl
@@ -283,15 +273,9 @@ module _ (w : Spot) (at : ℕ) (spot : IsSpot w at) (laws : HasLaws w.history (c
       by_brought : Brought x → IfOk result (λ n. (n ≡ (marked_then w at x).counter) × Leads stands' by at w.history (Stands w by (marked_then w at x)))
       by_brought (Nothing left none reach) = absurd (no_number q (last ∙ none))
       by_brought (Records p at_p next may beyond) =
-          let e = same_number p q (sym at_p ∙ sym last) in
+          let e = same_some p q (sym at_p ∙ sym last) in
           subst (λ o. IfOk result (λ n. (n ≡ (marked_at o (given_then w at x)).counter) × Leads stands' by at w.history (Stands w by (marked_at o (given_then w at x))))) last
           (marks w (given_then w at x) spot (subst (λ n. MayMark (given_then w at x) (target.At n)) e may) (some_left x ready) is.tenure is.counter l)
-
-  pub marks_none : (stands : List Turn → Type 0) (by : ℕ) (held : DrainTenure) (x : Holding) → IsHeld x held → None ≡ last_at w at x
-      → Leads stands by at w.history (Stands w by (given_then w at x))
-      → (held.counter ≡ (marked_then w at x).counter) × Leads stands by at w.history (Stands w by (marked_then w at x))
-  marks_none stands by held x is last l =
-      subst (λ o. (held.counter ≡ (marked_at o (given_then w at x)).counter) × Leads stands by at w.history (Stands w by (marked_at o (given_then w at x)))) last (sym is.counter, l)
 
   marked_left : (x : Holding) → IsReady w at x → Brought x → ((marked_then w at x).counter == last_number) ≡ false
   marked_left x ready (Nothing left none reach) = subst (λ o. ((marked_at o (given_then w at x)).counter == last_number) ≡ false) (sym none) (some_left x ready)

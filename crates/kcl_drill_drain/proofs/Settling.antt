@@ -3,6 +3,7 @@
 use Rattle.std.proofs.Common.{◌≡◌, ℕ, zero, suc, ◌+◌, ◌-◌, ◌<◌, ◌≤◌, max, Bool, true, false, List, [], ◌∷◌, ◌++◌, length, map, Option, Some, refl, sym, ap, subst, ◌∙◌, arith, inl, inr}
 use Rattle.std.specs.Prelude.{nat_le, cond, slice_get, if◌then◌else◌}
 use Rattle.std.specs.Option.{option_map}
+use Rattle.std.proofs.lemmas.List.{append-nil, length-append}
 use Rattle.kds_base.specs.declared.lease_key.Checkpoint.TheVariants.{TrimHorizon, At}
 use Rattle.kds_base.proofs.Facts.{le_so, above_so}
 use Rattle.kds_defs.specs.Records.{Logged, beginning, numbers_of, place_after, stored}
@@ -10,12 +11,8 @@ use Rattle.kds_defs.specs.declared.reply.Stored.{Stored}
 use Rattle.kds_defs.proofs.Counted.{length_stored}
 use Rattle.kcl_defs.specs.Consumers.{last_number_in}
 use Rattle.kcl_drill.specs.Summed.{last_checkpoint}
-use Rattle.kcl_laws.specs.Recorded.{HasFrom, RiseBetween}
-use Rattle.kcl_drill_summary.proofs.BatchLemmas.{IsUp, from, all_from, up_weaker, up_from, parts, place_up, from_twice, length_append}
-
-pub rise_up : (p : ℕ) (rs : List Logged) (q : ℕ) → RiseBetween p rs q → IsUp p rs
-rise_up p [] q is = tt
-rise_up p (r ∷ rs) q is = (is.0, rise_up (r.seq + 1) rs q is.1)
+use Rattle.kcl_laws.specs.Recorded.{HasFrom}
+use Rattle.kcl_drill_summary.proofs.BatchLemmas.{IsUp, from, all_from, up_weaker, up_from, up_kept, parts, place_up, from_twice}
 
 -- ---- at the start
 
@@ -23,23 +20,20 @@ none_first : (p : ℕ) (r : Logged) (rs : List Logged) (b : Bool) → nat_le p r
 none_first p r rs true is none = absurd cc
 none_first p r rs false is none = (above_so p r.seq is, none)
 
-at_last : (q p : ℕ) (rs : List Logged) → IsUp p rs → HasFrom q rs → from (q + 1) rs ≡ [] → At q ≡ last_checkpoint rs
-at_last q p [] up has none = absurd has
-at_last q p (r ∷ []) up (inl le) none =
+pub settled_at : (q p : ℕ) (rs : List Logged) → IsUp p rs → HasFrom q rs → from (q + 1) rs ≡ [] → At q ≡ last_checkpoint rs
+settled_at q p [] up has none = absurd has
+settled_at q p (r ∷ []) up (inl le) none =
     let below = (none_first (q + 1) r [] (nat_le (q + 1) r.seq) refl none).0 in
     ap At (equal q r.seq le below)
   where
     equal : (a b : ℕ) → a ≤ b → b < a + 1 → a ≡ b
     equal a b le below = omega (arith, le, below)
-at_last q p (r ∷ []) up (inr has) none = absurd has
-at_last q p (r ∷ s ∷ rs) up (inl le) none =
+settled_at q p (r ∷ []) up (inr has) none = absurd has
+settled_at q p (r ∷ s ∷ rs) up (inl le) none =
     let rest = (none_first (q + 1) r (s ∷ rs) (nat_le (q + 1) r.seq) refl none).1 in
     absurd (omega (arith, le, up.1.0, (none_first (q + 1) s rs (nat_le (q + 1) s.seq) refl rest).0))
-at_last q p (r ∷ s ∷ rs) up (inr has) none =
-    at_last q (r.seq + 1) (s ∷ rs) up.1 has (none_first (q + 1) r (s ∷ rs) (nat_le (q + 1) r.seq) refl none).1
-
-pub settled_at : (q p : ℕ) (rs : List Logged) → IsUp p rs → HasFrom q rs → from (q + 1) rs ≡ [] → At q ≡ last_checkpoint rs
-settled_at q p rs up has none = at_last q p rs up has none
+settled_at q p (r ∷ s ∷ rs) up (inr has) none =
+    settled_at q (r.seq + 1) (s ∷ rs) up.1 has (none_first (q + 1) r (s ∷ rs) (nat_le (q + 1) r.seq) refl none).1
 
 pub settled_horizon : (p : ℕ) (rs : List Logged) → IsUp p rs → from 0 rs ≡ [] → TrimHorizon ≡ last_checkpoint rs
 settled_horizon p rs up none = ap last_checkpoint (sym none ∙ all_from 0 rs (up_weaker 0 p rs (omega arith) up))
@@ -58,10 +52,6 @@ last_from p m [] x xs up are = absurd cc
 last_from p m (r ∷ rs) x xs up are =
     from_head p r rs x xs (nat_le p r.seq) refl up.1 (λ so. last_from p (r.seq + 1) rs x xs up.1 so) (λ none. ap (from p) none) are
 
-append_none : (xs : List Logged) → xs ++ [] ≡ xs
-append_none [] = refl
-append_none (x ∷ xs) = ap (λ ys. x ∷ ys) (append_none xs)
-
 -- a batch that is not empty, marked at its last record
 settled_batch : (limit room place m : ℕ) (rs : List Logged) (x : Logged) (xs : List Logged) → IsUp m rs → beginning limit room (from place rs) ≡ x ∷ xs
     → from (place_after place (numbers_of (beginning limit room (from place rs)))) rs ≡ [] → last_checkpoint (beginning limit room (from place rs)) ≡ last_checkpoint rs
@@ -71,7 +61,7 @@ settled_batch limit room place m rs x xs up is none =
     let next = place_after place (numbers_of bs) in
     let up' = up_from place m rs up in
     let rest : from next ls ≡ [] = from_twice place next rs (place_up limit room place ls up') ∙ none in
-    let all : ls ≡ bs = parts limit room place ls up' ∙ ap (λ ys. bs ++ ys) rest ∙ append_none bs in
+    let all : ls ≡ bs = parts limit room place ls up' ∙ ap (λ ys. bs ++ ys) rest ∙ append-nil bs in
     ap last_checkpoint is ∙ sym (last_from place m rs x xs up (all ∙ is))
 
 -- ---- the last record of a batch
@@ -120,14 +110,6 @@ up_beginning (suc limit) room p (r ∷ rs) up = either (nat_le r.bytes room) (up
     either true rest = (up.0, rest)
     either false rest = tt
 
-up_kept : (p m : ℕ) (rs : List Logged) → IsUp m rs → IsUp m (from p rs)
-up_kept p m [] up = tt
-up_kept p m (r ∷ rs) up = either (nat_le p r.seq) (up_kept p (r.seq + 1) rs up.1)
-  where
-    either : (b : Bool) → IsUp (r.seq + 1) (from p rs) → IsUp m (cond b (r ∷ from p rs) (from p rs))
-    either true rest = (up.0, rest)
-    either false rest = up_weaker m (r.seq + 1) (from p rs) (omega (arith, up.0)) rest
-
 pub record IsBatchTo (start place : ℕ) (rs bs : List Logged) (q : ℕ) : Type 0 where
   pub number : last_number_in (map stored bs) ≡ Some q
   pub reach : place_after place (numbers_of bs) ≡ q + 1
@@ -137,7 +119,7 @@ pub record IsBatchTo (start place : ℕ) (rs bs : List Logged) (q : ℕ) : Type 
 
 fewer_by : (ls bs rest : List Logged) (x : Logged) (xs : List Logged) → ls ≡ bs ++ rest → bs ≡ x ∷ xs → length rest + 1 ≤ length ls
 fewer_by ls bs rest x xs are is =
-    let n : length ls ≡ length bs + length rest = ap length are ∙ length_append bs rest in
+    let n : length ls ≡ length bs + length rest = ap length are ∙ length-append bs rest in
     let m : length bs ≡ suc (length xs) = ap length is in
     omega (arith, n, m)
 

@@ -70,13 +70,21 @@ key_there h at s sh x whole laws live there =
     let found = all_in log laws.numbered (live_streams log) s sh x among there in
     (found.0, ap (λ ks. slice_get ks found.0) (keys_are h at whole) ∙ found.1)
 
+-- what is below the next is below this one, or is it
+pub up_to : (j i : ℕ) → j < i + 1 → (j < i) ⊎ (j ≡ i)
+up_to j i below = either (nat_lt j i) refl
+  where
+    lt : nat_lt j i ≡ true → j < i
+    lt h = grind (arith, nat_tests)
+
+    eq : nat_lt j i ≡ false → j ≡ i
+    eq h = grind (arith, nat_tests)
+
+    either : (b : Bool) → nat_lt j i ≡ b → (j < i) ⊎ (j ≡ i)
+    either true is = inl (lt is)
+    either false is = inr (eq is)
+
 module _ (w : Spot) (at : ℕ) (spot : IsSpot w at) (laws : HasLaws w.history (clock_at w at)) where
-  log : Journal
-  log = journal w.history
-
-  c : ℕ
-  c = clock_at w at
-
   all_keys : w.keys ≡ keys_in (journal w.history) (live_streams (journal w.history))
   all_keys = spot.listed ∙ keys_are w.history at spot.can.whole
 
@@ -158,21 +166,8 @@ module _ (w : Spot) (at : ℕ) (spot : IsSpot w at) (laws : HasLaws w.history (c
     few = subst (λ n. n ≤ length w.history + (w.index + 1)) (sym count) others.few;
   }
 
-  same_here : (j : ℕ) (key : ShardRef) → j ≡ w.index → slice_get w.keys j ≡ Some key → key ≡ w.key
+  pub same_here : (j : ℕ) (key : ShardRef) → j ≡ w.index → slice_get w.keys j ≡ Some key → key ≡ w.key
   same_here j key e is = let a : Some key ≡ Some w.key = sym is ∙ ap (slice_get w.keys) e ∙ spot.here in cc (a)
-
-  up_to : (j i : ℕ) → j < i + 1 → (j < i) ⊎ (j ≡ i)
-  up_to j i below = either (nat_lt j i) refl
-    where
-      either : (b : Bool) → nat_lt j i ≡ b → (j < i) ⊎ (j ≡ i)
-      either true is = inl (lt is)
-        where
-          lt : nat_lt j i ≡ true → j < i
-          lt h = grind (arith, nat_tests)
-      either false is = inr (eq is)
-        where
-          eq : nat_lt j i ≡ false → j ≡ i
-          eq h = grind (arith, nat_tests)
 
   done_by : (now : Journal) → ((j : ℕ) (key : ShardRef) → j < w.index → slice_get w.keys j ≡ Some key → IsDone w.history key (row now key)) → IsDone w.history w.key (row now w.key)
       → (j : ℕ) (key : ShardRef) → slice_get w.keys j ≡ Some key → (j < w.index) ⊎ (j ≡ w.index) → IsDone w.history key (row now key)

@@ -1,31 +1,25 @@
 -- A machine that has answered further turns, which are on leases.
-use Rattle.std.specs.Prelude.{ℕ, ◌≡◌, max, false, List, ◌∷◌, ◌++◌, Result, IfOk}
-use Rattle.std.specs.List.{AllByRecursion}
+use Rattle.std.specs.Prelude.{ℕ, ◌≡◌, max, List, ◌∷◌, ◌++◌, Result, IfOk}
 use Rattle.kds_defs.specs.declared.command.Command.{Command}
 use Rattle.kds_defs.specs.declared.command.Turn.{Turn}
 use Rattle.kds_defs.specs.declared.reply.Refusal.{Refusal}
 use Rattle.kds_defs.specs.declared.reply.Reply.{Reply}
 use Rattle.kds_defs.specs.Histories.{answer, clock, journal}
 use Rattle.kds_defs.specs.Journal.{Journal}
-use Rattle.kds_defs.specs.Kinds.{is_service}
-use Rattle.kds_defs.specs.Lawful.{IsLawful}
 use Rattle.kcl_drill.specs.Summed.{AreDrained}
-
--- they are an actor's at a moment, lawful, and on leases
-abbrev pub AreOwn : ℕ → ℕ → List Turn → Type 0
-AreOwn by at more = AllByRecursion (λ turn. (turn.by ≡ by) × (turn.at ≡ at) × (is_service turn.what ≡ false) × IsLawful turn) more
+use Rattle.kcl_drill_laws.specs.Closed.{AreLeased}
 
 -- a machine stands for a history and such turns after it
 pub record HasLeased (stands : List Turn → Type 0) (by at : ℕ) (h : List Turn) : Type 0 where
   pub more : List Turn
   pub stands_now : stands (more ++ h)
-  pub are : AreOwn by at more
+  pub are : AreLeased by at more
 
 -- it stands for a history and one or more such turns after it, which leave such a journal
 pub record Leads (stands : List Turn → Type 0) (by at : ℕ) (h : List Turn) (P : Journal → Type 0) : Type 0 where
   pub more : List Turn
   pub stands_now : stands (more ++ h)
-  pub are : AreOwn by at more
+  pub are : AreLeased by at more
   pub late : clock (more ++ h) ≡ max (clock h) at
   pub so : P (journal (more ++ h))
 
@@ -33,7 +27,7 @@ pub record Leads (stands : List Turn → Type 0) (by at : ℕ) (h : List Turn) (
 pub record HasDrained (stands : List Turn → Type 0) (by at : ℕ) (h : List Turn) : Type 0 where
   pub more : List Turn
   pub stands_now : stands (more ++ h)
-  pub are : AreOwn by at more
+  pub are : AreLeased by at more
   pub drained : AreDrained (journal (more ++ h)) (clock (more ++ h))
 
 abbrev pub turn_of : ℕ → ℕ → Command → Turn

@@ -1,8 +1,9 @@
 -- What a tenure that is held alone is answered.
-use Rattle.std.proofs.Common.{◌≡◌, ℕ, ◌+◌, ◌-◌, ◌<◌, true, false, List, [], ◌∷◌, drop, length, zero, suc, Some, refl, sym, ap, ◌∙◌, arith}
+use Rattle.std.proofs.Common.{◌≡◌, ℕ, ◌+◌, ◌-◌, ◌<◌, true, false, List, [], ◌∷◌, length, suc, Some, refl, sym, ap, ◌∙◌, arith}
 use Rattle.std.specs.Prelude.{◌==◌, ◌||◌, not, nat_le, nat_lt}
 use Rattle.std.proofs.lemmas.Bool.Decides.{nat_tests}
 use Rattle.std.proofs.lemmas.Bool.{or_from}
+use Rattle.std.proofs.lemmas.List.{length-drop}
 use Rattle.kds_base.specs.declared.lease_key.ShardRef.{ShardRef}
 use Rattle.kds_defs.specs.declared.command.Target.{Target}
 use Rattle.kds_defs.specs.declared.command.Target.TheVariants as target
@@ -33,13 +34,8 @@ few_wait n below = grind (arith, nat_tests)
 some_wait : (n m : ℕ) → n ≡ suc m → (n == 0) ≡ false
 some_wait n m is = grind (arith, nat_tests)
 
-length_drop : {A : Type 0} (n : ℕ) (xs : List A) → length (drop n xs) ≡ length xs - n
-length_drop zero xs = omega arith
-length_drop (suc n) [] = omega arith
-length_drop (suc n) (x ∷ xs) = let e = length_drop n xs in omega (arith, e)
-
 waiting_is : (log : Journal) (x : Holding) → (has : HasCome log x) → pending has.state ≡ length x.waiting
-waiting_is log x has = sym (length_drop has.state.given has.state.reads) ∙ ap length has.waits
+waiting_is log x has = sym (length-drop has.state.given has.state.reads) ∙ ap length has.waits
 
 -- ---- what follows for an own tenure, and where the row is its own too
 

@@ -2,6 +2,7 @@
 use Rattle.std.proofs.Common.{◌≡◌, ℕ, ◌+◌, ◌≤◌, List, [], ◌∷◌, ◌++◌, drop, length, take, zero, suc, Option, Some, refl, ap, ◌∙◌, arith}
 use Rattle.std.specs.Prelude.{◌==◌, if◌then◌else◌}
 use Rattle.std.specs.Option.{option_map}
+use Rattle.std.proofs.lemmas.List.{drop-append-le, length_push, take-append-le}
 use Rattle.kds_base.specs.declared.lease_key.ShardRef.{ShardRef}
 use Rattle.kds_base.proofs.Facts.{is_itself}
 use Rattle.kds_defs.specs.declared.command.Target.{Target}
@@ -18,49 +19,21 @@ places_append : (p : ℕ) (rs : List ReadDone) (r : ReadDone) → place_after_re
 places_append p [] r = refl
 places_append p (q ∷ rs) r = places_append (place_after p q.numbers) rs r
 
-one_longer : (rs : List ReadDone) (r : ReadDone) → length (rs ++ r ∷ []) ≡ length rs + 1
-one_longer [] r = refl
-one_longer (q ∷ rs) r = let n = one_longer rs r in omega (arith, n)
-
 last_one : (rs : List ReadDone) (r : ReadDone) → last_ended (rs ++ r ∷ []) ≡ r.ended
 last_one [] r = refl
 last_one (q ∷ []) r = refl
 last_one (q ∷ s ∷ rs) r = last_one (s ∷ rs) r
 
--- the first of so many stay the first, and those after them gain one
-take_stays : (n : ℕ) (rs : List ReadDone) (r : ReadDone) → n ≤ length rs → take n (rs ++ r ∷ []) ≡ take n rs
-take_stays zero [] r le = refl
-take_stays zero (q ∷ rs) r le = refl
-take_stays (suc n) [] r le = absurd (omega (arith, le))
-take_stays (suc n) (q ∷ rs) r le = ap (λ qs. q ∷ qs) (take_stays n rs r (omega (arith, le)))
-
-drop_gains : (n : ℕ) (rs : List ReadDone) (r : ReadDone) → n ≤ length rs → drop n (rs ++ r ∷ []) ≡ drop n rs ++ r ∷ []
-drop_gains zero [] r le = refl
-drop_gains zero (q ∷ rs) r le = refl
-drop_gains (suc n) [] r le = absurd (omega (arith, le))
-drop_gains (suc n) (q ∷ rs) r le = drop_gains n rs r (omega (arith, le))
-
 -- one more of them is the first of those after
 take_more : (n : ℕ) (rs : List ReadDone) (r : ReadDone) (rest : List ReadDone) → drop n rs ≡ r ∷ rest → take (suc n) rs ≡ take n rs ++ r ∷ []
 take_more zero [] r rest is = absurd cc
-take_more zero (q ∷ rs) r rest is = let e : q ≡ r = cc in first q r rs e
-  where
-    none : (rs : List ReadDone) → take 0 rs ≡ []
-    none [] = refl
-    none (x ∷ rs) = refl
-
-    first : (q r : ReadDone) (rs : List ReadDone) → q ≡ r → take 1 (q ∷ rs) ≡ take 0 (q ∷ rs) ++ r ∷ []
-    first q r rs e = ap (λ xs. q ∷ xs) (none rs) ∙ ap (λ x. x ∷ []) e
+take_more zero (q ∷ rs) r rest is = let e : q ≡ r = cc in ap (λ x. x ∷ []) e
 take_more (suc n) [] r rest is = absurd cc
 take_more (suc n) (q ∷ rs) r rest is = ap (λ qs. q ∷ qs) (take_more n rs r rest is)
 
 drop_more : (n : ℕ) (rs : List ReadDone) (r : ReadDone) (rest : List ReadDone) → drop n rs ≡ r ∷ rest → drop (suc n) rs ≡ rest
 drop_more zero [] r rest is = absurd cc
-drop_more zero (q ∷ rs) r rest is = let e : rs ≡ rest = cc in none rs ∙ e
-  where
-    none : (rs : List ReadDone) → drop 0 rs ≡ rs
-    none [] = refl
-    none (x ∷ rs) = refl
+drop_more zero (q ∷ rs) r rest is = let e : rs ≡ rest = cc in e
 drop_more (suc n) [] r rest is = absurd cc
 drop_more (suc n) (q ∷ rs) r rest is = drop_more n rs r rest is
 
@@ -94,10 +67,6 @@ begun_row log c by owner key r there =
 
 told : (t : ℕ) (o : Option TenureState) (T : TenureState) (f : TenureState → TenureState) → o ≡ Some T → (if t == t then option_map f o else o) ≡ Some (f T)
 told t o T f is = ap (λ b. if b then option_map f o else o) (is_itself t) ∙ ap (option_map f) is
-
-none_dropped : (rs : List ReadDone) → rs ≡ [] → drop 0 rs ≡ []
-none_dropped [] is = refl
-none_dropped (r ∷ rs) is = absurd cc
 
 pub begun_holds : (log : Journal) (c d by owner : ℕ) (key : ShardRef) (r : Row) → row log key ≡ Some r → Holds (opened_line log d by ∷ taken_line log c by key r owner ∷ log) (begun_from log by key r)
 begun_holds log c d by owner key r there =
@@ -143,10 +112,10 @@ read_holds log c limit x r holds =
         of_key = has.of_key;
         opened = has.opened;
         up_to = places_append (place_of T.start) T.reads r ∙ ap (λ p. place_after p r.numbers) has.up_to;
-        given_to = ap (place_after_reads (place_of T.start)) (take_stays T.given T.reads r has.some) ∙ has.given_to;
-        some = omega (arith, has.some, one_longer T.reads r);
-        waits = drop_gains T.given T.reads r has.some ∙ ap (λ qs. qs ++ r ∷ []) has.waits;
-        last = ap last_ended (take_stays T.given T.reads r has.some) ∙ has.last;
+        given_to = ap (place_after_reads (place_of T.start)) (take-append-le T.given T.reads (r ∷ []) has.some) ∙ has.given_to;
+        some = omega (arith, has.some, length_push T.reads r);
+        waits = drop-append-le T.given T.reads (r ∷ []) has.some ∙ ap (λ qs. qs ++ r ∷ []) has.waits;
+        last = ap last_ended (take-append-le T.given T.reads (r ∷ []) has.some) ∙ has.last;
       };
       row = record { now = held.now; there = held.there; of_tenure = held.of_tenure; counted = held.counted; checkpoint = held.checkpoint; floor = held.floor };
     }

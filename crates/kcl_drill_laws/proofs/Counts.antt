@@ -11,25 +11,19 @@ use Rattle.kds_defs.specs.declared.entry.Entry.TheVariants as entry
 use Rattle.kds_defs.specs.declared.reply.Refusal.{Refusal}
 use Rattle.kds_defs.specs.declared.reply.Reply.{Reply}
 use Rattle.kds_defs.specs.declared.reply.Row.{Row}
-use Rattle.kds_defs.specs.Decision.{refuse◌if◌else◌, with◌or◌then◌}
+use Rattle.kds_defs.specs.Decision.{with◌or◌then◌}
 use Rattle.kds_defs.specs.Histories.{clock, decide, decision, journal, lines_of}
 use Rattle.kds_defs.specs.Journal.{Line, Journal, with_lines}
 use Rattle.kds_defs.specs.Keys.{same_key}
 use Rattle.kds_defs.specs.Leases.{counter_in, freed_row, is_key, key_of, made_row, marked_row, renewed_row, row, row_after, taken_count, taken_count_after, taken_row}
 use Rattle.kds_defs.specs.ScaleCommands.{steps_to}
 use Rattle.kds_defs.proofs.Walk.{Outcome, Refuses, Answers, Adds, Stores, Scales, each_put, each_step, walk}
+use Rattle.kcl_drill.specs.Apart.{is_stream_entry}
 use Rattle.kcl_drill_laws.specs.Parents.{AreCounted}
 
 -- 1 for a line of a lease
 abbrev weight : Entry → ℕ
-weight (entry.Made stream name shards) = 0
-weight (entry.Gone stream) = 0
-weight (entry.Put stream shard number hash bytes key_bytes) = 0
-weight (entry.Split stream shard at number low high) = 0
-weight (entry.Merged stream shard other number child) = 0
-weight (entry.Kept stream wanted) = 0
-weight (entry.Enforced stream on) = 0
-weight _ = 1
+weight e = if is_stream_entry e then 0 else 1
 
 abbrev leases : List Line → ℕ
 leases [] = 0
@@ -95,13 +89,6 @@ counter_by log line (entry.Taken k tenure counter owner) key o n le = raised (ta
 counter_by log line (entry.Renewed tenure counter) key o n le = raised renewed_row (is_key (key_of log tenure) key) o n (λ x. refl) le
 counter_by log line (entry.Freed tenure counter) key o n le = raised freed_row (is_key (key_of log tenure) key) o n (λ x. refl) le
 counter_by log line (entry.Marked tenure counter to) key o n le = raised (marked_row to) (is_key (key_of log tenure) key) o n (λ x. refl) le
-counter_by log line (entry.Made stream name shards) key o n le = omega (arith, le)
-counter_by log line (entry.Gone stream) key o n le = omega (arith, le)
-counter_by log line (entry.Put stream shard number hash bytes key_bytes) key o n le = omega (arith, le)
-counter_by log line (entry.Split stream shard at number low high) key o n le = omega (arith, le)
-counter_by log line (entry.Merged stream shard other number child) key o n le = omega (arith, le)
-counter_by log line (entry.Kept stream wanted) key o n le = omega (arith, le)
-counter_by log line (entry.Enforced stream on) key o n le = omega (arith, le)
 counter_by log line _ key o n le = omega (arith, le)
 
 counter_few : (log : Journal) (key : ShardRef) → counter_in (row log key) ≤ leases log
@@ -110,13 +97,6 @@ counter_few (line ∷ log) key = counter_by log line line.what key (row log key)
 
 taken_by : (e : Entry) (n m : ℕ) → n ≤ m → taken_count_after e n ≤ weight e + m
 taken_by (entry.Taken key tenure counter owner) n m le = omega (arith, le)
-taken_by (entry.Made stream name shards) n m le = omega (arith, le)
-taken_by (entry.Gone stream) n m le = omega (arith, le)
-taken_by (entry.Put stream shard number hash bytes key_bytes) n m le = omega (arith, le)
-taken_by (entry.Split stream shard at number low high) n m le = omega (arith, le)
-taken_by (entry.Merged stream shard other number child) n m le = omega (arith, le)
-taken_by (entry.Kept stream wanted) n m le = omega (arith, le)
-taken_by (entry.Enforced stream on) n m le = omega (arith, le)
 taken_by _ n m le = omega (arith, le)
 
 taken_few : (log : Journal) → taken_count log ≤ leases log

@@ -6,6 +6,6 @@ mod Counts
 pub mod Drills
 mod Horizons
 mod Leased
-mod Origins
+pub mod Origins
 mod Parents
 mod Puts

@@ -31,7 +31,7 @@ AreSoMade ls = AllByRecursion (λ line. IsSoMade line.what) ls
 
 -- ---- what a command adds
 
-counts_so : (log : Journal) (key : ShardRef) (from : Origin) → from ≡ origin.TrimHorizon → counting_origin log key from ≡ origin.TrimHorizon
+pub counts_so : (log : Journal) (key : ShardRef) (from : Origin) → from ≡ origin.TrimHorizon → counting_origin log key from ≡ origin.TrimHorizon
 counts_so log key from is = either (follows_parent log key)
   where
     either : (b : Bool) → (if b then origin.TrimHorizon else from) ≡ origin.TrimHorizon

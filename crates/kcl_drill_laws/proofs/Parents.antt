@@ -4,7 +4,7 @@ use Rattle.std.specs.Prelude.{◌==◌, slice_get, if◌then◌else◌}
 use Rattle.std.specs.List.{AllByRecursion}
 use Rattle.std.proofs.lemmas.Bool.{and_parts}
 use Rattle.kds_base.specs.Span.{Span, joined, lower_part, upper_part, uniform}
-use Rattle.kds_base.proofs.Facts.{equal_so}
+use Rattle.kds_base.proofs.Facts.{all_append, all_weaker, equal_so}
 use Rattle.kds_defs.specs.declared.entry.Entry.{Entry}
 use Rattle.kds_defs.specs.declared.entry.Entry.TheVariants as entry
 use Rattle.kds_defs.specs.declared.reply.Reply.{Reply}
@@ -50,21 +50,21 @@ parent_in : (xs ys : List ShardState) (n : ℕ) (o : Option ℕ) → ((p : ℕ) 
 parent_in xs ys n None keeps is = tt
 parent_in xs ys n (Some p) keeps is = (is.0, keeps p is.1)
 
-abbrev AreIn : List ShardState → List ShardState → Type 0
-AreIn all xs = AllByRecursion (λ (x : ShardState). IsParentClosed all x.no x.parent × IsParentClosed all x.no x.adjacent) xs
+abbrev IsIn : List ShardState → ShardState → Type 0
+IsIn all x = IsParentClosed all x.no x.parent × IsParentClosed all x.no x.adjacent
 
-all_in : (all all' xs : List ShardState) → ((p : ℕ) → is_closed_at (slice_get all p) ≡ true → is_closed_at (slice_get all' p) ≡ true) → AreIn all xs → AreIn all' xs
-all_in all all' [] keeps are = tt
-all_in all all' (x ∷ xs) keeps are = ((parent_in all all' x.no x.parent keeps are.0.0, parent_in all all' x.no x.adjacent keeps are.0.1), all_in all all' xs keeps are.1)
+abbrev AreIn : List ShardState → List ShardState → Type 0
+AreIn all xs = AllByRecursion (IsIn all) xs
+
+all_in : (all all' xs : List ShardState) → ((p : ℕ) → is_closed_at (slice_get all p) ≡ true → is_closed_at (slice_get all' p) ≡ true)
+    → AreIn all xs → AreIn all' xs
+all_in all all' xs keeps are =
+    all_weaker (IsIn all) (IsIn all') (λ x is. (parent_in all all' x.no x.parent keeps is.0, parent_in all all' x.no x.adjacent keeps is.1)) xs are
 
 all_closed : (all : List ShardState) (n : ℕ) (closing : Closing) (xs : List ShardState) → AreIn all xs → AreIn all (with_closed n closing xs)
 all_closed all n closing [] are = tt
 all_closed all zero closing (x ∷ xs) are = (are.0, are.1)
 all_closed all (suc n) closing (x ∷ xs) are = (are.0, all_closed all n closing xs are.1)
-
-all_more : (all xs ys : List ShardState) → AreIn all xs → AreIn all ys → AreIn all (xs ++ ys)
-all_more all [] ys are more = more
-all_more all (x ∷ xs) ys are more = (are.0, all_more all xs ys are.1 more)
 
 all_first : (all : List ShardState) (n start : ℕ) (ranges : List Span) → AreIn all (first_shards n start ranges)
 all_first all n start [] = tt
@@ -76,7 +76,7 @@ split_closed xs sh at start closing below are =
     let old = with_closed sh closing xs in
     let new = new_shard (length xs) (lower_part (range_of (slice_get xs sh)) at) (Some sh) None start ∷ new_shard (length xs + 1) (upper_part (range_of (slice_get xs sh)) at) (Some sh) None start ∷ [] in
     let closed = closed_more old new sh (closed_now sh closing xs below) in
-    all_more (old ++ new) old new
+    all_append (IsIn (old ++ new)) old new
     (all_in xs (old ++ new) old (λ p is. closed_more old new p (closed_stays sh p closing xs is)) (all_closed xs sh closing xs are))
     (((below, closed), tt), (((omega (arith, below), closed), tt), tt))
 
@@ -88,7 +88,7 @@ merged_closed xs sh other start closing below below' are =
     let new = new_shard (length xs) (joined (range_of (slice_get xs sh)) (range_of (slice_get xs other))) (Some sh) (Some other) start ∷ [] in
     let one = closed_more old new sh (closed_stays other sh closing first (closed_now sh closing xs below)) in
     let two = closed_more old new other (closed_now other closing first (omega (arith, below', length-closed sh closing xs))) in
-    all_more (old ++ new) old new
+    all_append (IsIn (old ++ new)) old new
     (all_in xs (old ++ new) old (λ p is. closed_more old new p (closed_stays other p closing first (closed_stays sh p closing xs is))) (all_closed xs other closing first (all_closed xs sh closing xs are)))
     (((below, one), (below', two)), tt)
 

@@ -2,6 +2,7 @@
 use Rattle.std.proofs.Common.{◌≡◌, ℕ, ◌+◌, ◌≤◌, Bool, true, false, List, [], ◌∷◌, ◌++◌, length, refl, arith, ◌*◌, suc}
 use Rattle.std.specs.List.{AllByRecursion}
 use Rattle.std.specs.Prelude.{Result, if◌then◌else◌, ◌==◌, ◌&&◌}
+use Rattle.std.proofs.lemmas.List.{length_push}
 use Rattle.kds_defs.specs.declared.command.Command.{Command}
 use Rattle.kds_defs.specs.declared.command.NewItem.{NewItem}
 use Rattle.kds_defs.specs.declared.command.Turn.{Turn}
@@ -9,7 +10,7 @@ use Rattle.kds_defs.specs.declared.entry.Entry.{Entry}
 use Rattle.kds_defs.specs.declared.entry.Entry.TheVariants as entry
 use Rattle.kds_defs.specs.declared.reply.Refusal.{Refusal}
 use Rattle.kds_defs.specs.declared.reply.Reply.{Reply}
-use Rattle.kds_defs.specs.Decision.{refuse◌if◌else◌, with◌or◌then◌}
+use Rattle.kds_defs.specs.Decision.{with◌or◌then◌}
 use Rattle.kds_defs.specs.Histories.{clock, decide, decision, journal, lines_of}
 use Rattle.kds_defs.specs.Journal.{Line, Journal, with_lines}
 use Rattle.kds_defs.specs.Lawful.{IsHistory, IsLawfulCommand}
@@ -78,10 +79,6 @@ turns_few (turn ∷ h) lawful =
 
 -- ---- the records of a shard
 
-one_longer : {A : Type 0} (xs : List A) (x : A) → length (xs ++ x ∷ []) ≡ 1 + length xs
-one_longer [] x = refl
-one_longer (y ∷ xs) x = let n = one_longer xs x in omega (arith, n)
-
 records_by : (l : Line) (e : Entry) (s sh n : ℕ) (rs : List Logged) → length rs ≤ n → length (records_after l e s sh rs) ≤ weight e + n
 records_by l (entry.Put stream shard number hash bytes key_bytes) s sh n rs le = either ((stream == s) && (shard == sh))
   where
@@ -89,7 +86,7 @@ records_by l (entry.Put stream shard number hash bytes key_bytes) s sh n rs le =
     r = record { seq = number; arrival = l.clock; bytes = bytes + key_bytes; key = l.key; payload = l.payload }
 
     either : (b : Bool) → length (if b then rs ++ r ∷ [] else rs) ≤ 1 + n
-    either true = omega (arith, one_longer rs r, le)
+    either true = omega (arith, length_push rs r, le)
     either false = omega (arith, le)
 records_by l _ s sh n rs le = omega (arith, le)
 
