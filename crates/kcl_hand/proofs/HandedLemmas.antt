@@ -1,12 +1,12 @@
 -- What was given in a tenure whose row was freed by a hand-off is marked.
-use Rattle.std.proofs.Common.{◌≡◌, ℕ, zero, suc, ◌+◌, ◌≤◌, true, List, [], ◌∷◌, ◌++◌, take, drop, Option, Some, None, refl, sym, ap, subst, ◌∙◌, arith, inl, inr, append_assoc}
+use Rattle.std.proofs.Common.{◌≡◌, ℕ, ◌+◌, ◌≤◌, true, List, [], ◌∷◌, ◌++◌, take, drop, Option, Some, None, refl, sym, ap, subst, ◌∙◌, arith, inl, inr}
+use Rattle.std.proofs.Common.{append_assoc}
 use Rattle.std.specs.Prelude.{◌==◌, map}
 use Rattle.std.specs.List.{AllByRecursion}
-use Rattle.std.proofs.lemmas.Bool.Decides.{nat_tests}
-use Rattle.std.proofs.lemmas.List.{take-append-drop}
+use Rattle.std.proofs.lemmas.List.{map-append, take-append-drop, take-map}
 use Rattle.kds_base.specs.declared.lease_key.Checkpoint.{Checkpoint}
 use Rattle.kds_base.specs.declared.lease_key.Checkpoint.TheVariants.{TrimHorizon, At, ShardEnd}
-use Rattle.kds_base.proofs.Facts.{same_some}
+use Rattle.kds_base.proofs.Facts.{is_equal, same_some}
 use Rattle.kds_defs.specs.declared.command.Turn.{Turn}
 use Rattle.kds_defs.specs.declared.reply.Row.{Row}
 use Rattle.kds_defs.specs.declared.reply.Stored.{Stored}
@@ -65,19 +65,9 @@ numbers-append : (rs ss : List ReadDone) → all_numbers (rs ++ ss) ≡ all_numb
 numbers-append [] ss = refl
 numbers-append (r ∷ rs) ss = ap (λ ns. r.numbers ++ ns) (numbers-append rs ss) ∙ sym (append_assoc r.numbers (all_numbers rs) (all_numbers ss))
 
-map-both : (rs ss : List Stored) → numbers (rs ++ ss) ≡ numbers rs ++ numbers ss
-map-both [] ss = refl
-map-both (r ∷ rs) ss = ap (λ ns. r.seq ∷ ns) (map-both rs ss)
-
 numbers_done : (fs : List Fetched) → all_numbers (map read_done fs) ≡ numbers (records_in fs)
 numbers_done [] = refl
-numbers_done (f ∷ fs) = ap (λ ns. numbers f.batch ++ ns) (numbers_done fs) ∙ sym (map-both f.batch (records_in fs))
-
-take_done : (k : ℕ) (fs : List Fetched) → take k (map read_done fs) ≡ map read_done (take k fs)
-take_done zero [] = refl
-take_done zero (f ∷ fs) = refl
-take_done (suc k) [] = refl
-take_done (suc k) (f ∷ fs) = ap (λ rs. read_done f ∷ rs) (take_done k fs)
+numbers_done (f ∷ fs) = ap (λ ns. numbers f.batch ++ ns) (numbers_done fs) ∙ sym (map-append (λ r. r.seq) f.batch (records_in fs))
 
 rise_given : (T : TenureState) → RiseFrom 0 (all_numbers T.reads) → RiseFrom 0 (all_numbers (given_reads T))
 rise_given T rise =
@@ -105,7 +95,8 @@ one_marked by h lawful x step lease marked T r begun own there = λ n given.
     let fs = take (gives_after x.made past) (reads_after x.made past) in
     let o : AreOfTenure by h t T = of_tenure by h t T begun own in
     let reads : given_reads T ≡ map read_done fs =
-    (λ i. take (sym o.gives i) (sym o.reads i)) ∙ take_done (gives_in t (deals_of by h)) (reads_in t (deals_of by h)) ∙ (λ i. map read_done (take (step.gives i) (step.reads i))) in
+    (λ i. take (sym o.gives i) (sym o.reads i)) ∙ take-map read_done (gives_in t (deals_of by h)) (reads_in t (deals_of by h))
+    ∙ (λ i. map read_done (take (step.gives i) (step.reads i))) in
     let done : all_numbers (given_reads T) ≡ numbers (records_in fs) = ap all_numbers reads ∙ numbers_done fs in
     let j = journals h lawful in
     let rise = rise_given T ((all_covered (journal h) j.legal (clock h) j.order).reads_rise t T begun) in
@@ -114,10 +105,7 @@ one_marked by h lawful x step lease marked T r begun own there = λ n given.
 
 -- the tenure is the actor's
 own_tenure : (by : ℕ) (h : List Turn) (made : Tenancy) (T : TenureState) → tenure (journal h) made.tenure ≡ Some T → IsOfTenure by h made → (T.by == by) ≡ true
-own_tenure by h made T begun of = equal T.by by (ap (λ (S : TenureState). S.by) (same_some T of.state (sym begun ∙ of.begun)) ∙ of.own)
-  where
-    equal : (a b : ℕ) → a ≡ b → (a == b) ≡ true
-    equal a b e = grind (arith, nat_tests)
+own_tenure by h made T begun of = is_equal T.by by (ap (λ (S : TenureState). S.by) (same_some T of.state (sym begun ∙ of.begun)) ∙ of.own)
 
 one_handed : (by : ℕ) (h : List Turn) → IsHistory h → (x : HandOff) → IsHandOk (deals_of by h) x → InStep (deals_of by h) (known_in x) → IsHandServed by h x → IsHandedOffIfFreed by h x
 one_handed by h lawful x ok step served = λ counter ended. record {

@@ -121,11 +121,9 @@ answered_way x n s (stand.Ended left) what a at w due is = absurd cc
 
 -- none is left at its end
 none_left : (s : Stand) (phase : Phase) → turns_left s phase ≤ 0 → IsSome (left_at s)
-none_left stand.Consumer (Giving reach waiting asked lost) l = absurd (omega (arith, l))
-none_left stand.Consumer _ l = absurd (omega (arith, l))
-none_left (stand.Mark q) phase l = absurd (omega (arith, l))
-none_left (stand.Free counter) phase l = absurd (omega (arith, l))
 none_left (stand.Ended left) phase l = refl
+none_left stand.Consumer (Giving reach waiting asked lost) l = absurd (omega (arith, l))
+none_left _ _ l = absurd (omega (arith, l))
 
 ends_by : (n at by : ℕ) (h : List Turn) (x : HandOff) (o : Option Command) → hand_command x.held x.made (state_of x) ≡ o → OnWay x (suc n) → hand_due x.made (state_of x) ≡ None → ((h : List Turn) (y : HandOff) → OnWay y n → IsSome (hand_left (state_of (run_hand n at by h y).hand))) → IsSome (hand_left (state_of (or_stop o (record { history = h; hand = x; deals = [] }) (λ what. with_first h what at by (run_hand n at by (turn_of at by what ∷ h) (answered_by at by h x what)))).hand))
 ends_by n at by h x None is w due rest = stops x (phase_after x.made (state_of x).past) (state_of x).stand w.going w.leaving due is

@@ -2,12 +2,14 @@
 use Rattle.std.proofs.Common.{◌≡◌, ℕ, zero, suc, ◌+◌, ◌≤◌, true, List, [], ◌∷◌, ◌++◌, Option, Some, None, refl, sym, subst, ◌∙◌, arith}
 use Rattle.std.specs.Prelude.{map}
 use Rattle.std.specs.List.{AllByRecursion}
+use Rattle.std.proofs.lemmas.List.{map-append}
 use Rattle.kds_defs.specs.declared.command.Command.{Command}
 use Rattle.kds_defs.specs.declared.command.Turn.{Turn}
 use Rattle.kcl_defs.specs.declared.consumer.WorkerMade.{WorkerMade}
 use Rattle.kcl_defs.specs.Consumers.{calls_after}
 use Rattle.kcl_defs.specs.Lives.{Deal, deals_of, gives_in, reads_in, IsLifeAmong, IsWholeLife}
-use Rattle.kcl_defs.specs.Workers.{Chore, Surveying, Syncing, Taking, Renewing, Consuming, Finishing, Freeing, Known, Pending, Release, Released, WorkerEvent, Made_call, Gave_command, Got_answer, Stopped, WorkerState, after_worker_event, deals_with, id_of_held, is_over, known_of, leaving, phase_of_known, released, with_deal}
+use Rattle.kcl_defs.specs.Workers.{Chore, Consuming, Finishing, Known, Pending, Release, Released, WorkerEvent, Got_answer, WorkerState, after_worker_event}
+use Rattle.kcl_defs.specs.Workers.{deals_with, id_of_held, is_over, known_of, leaving, phase_of_known, released, with_deal}
 use Rattle.kcl_defs.proofs.DealLemmas.{new_tenures}
 use Rattle.kcl_defs.proofs.GiveLemmas.{AreGivesTaken, gives_taken}
 use Rattle.kcl_defs.proofs.RetiredLemmas.{AreUnrefused, IsUnrefused, all_whole, answered_unrefused, called_unrefused, lost_unrefused, state_unrefused, whole_among}
@@ -18,7 +20,7 @@ use Rattle.kcl_hand.specs.declared.stand.Stand.{Stand}
 use Rattle.kcl_hand.specs.declared.stand.Stand.TheVariants as stand
 use Rattle.kcl_hand.specs.Handing.{HandEvent, Hand_answered, Hand_called, answered_at, called_at, command_at, hand_command}
 use Rattle.kcl_hand.specs.Joints.{AreAllServed, AreOrderly, AreToldIn, HandOff, IsHandServed, JointPast, MayHand, Of_hand, Of_worker, begun, begun_by, command_in, hand_deals, hands_after, joint_deals, known_in, state_of, with_hand_event, worker_in}
-use Rattle.kcl_hand.proofs.Jointly.{JointFine, all_left, all_right, found_all, hand_joint, map-append, release_is, worker_joint}
+use Rattle.kcl_hand.proofs.Jointly.{JointFine, all_left, all_right, found_all, hand_joint, release_is, worker_joint}
 use Rattle.kcl_hand.proofs.Tenancies.{AreAllBegun, IsBegunHand, all_begun}
 use Rattle.kcl_hand.proofs.Widened.{wide_consumer, widened}
 
@@ -29,17 +31,13 @@ one_unrefused x (Hand_called asked) o deals is may taken s u = by (state_of x).s
   where
     by : (st : Stand) → IsUnrefused (record { made = x.made; past = (called_at x.held x.made asked (state_of x) st).past })
     by stand.Consumer = called_unrefused asked (known_in x) u
-    by (stand.Mark q) = u
-    by (stand.Free counter) = u
-    by (stand.Ended left) = u
+    by _ = u
 one_unrefused x (Hand_answered answer) None deals is may taken s u = absurd cc
 one_unrefused x (Hand_answered answer) (Some what) deals is may taken s u = by (state_of x).stand is
   where
     by : (st : Stand) → command_at x.held x.made (phase_of_known (known_in x)) st ≡ Some what → IsUnrefused (record { made = x.made; past = (answered_at x.held x.made answer (state_of x) st).past })
     by stand.Consumer e = answered_unrefused deals (known_in x) x.held.counter what answer e taken.0 s u
-    by (stand.Mark q) e = u
-    by (stand.Free counter) e = u
-    by (stand.Ended left) e = u
+    by _ e = u
 
 hand_unrefused : (n : ℕ) (event : HandEvent) (hands : List HandOff) (deals : List Deal) → MayHand event (command_in n hands) → AreGivesTaken (hand_deals event (command_in n hands) deals) → AllByRecursion (InStep deals) (map known_in hands) → AllByRecursion IsUnrefused (map known_in hands) → AllByRecursion IsUnrefused (map known_in (with_hand_event n event hands))
 hand_unrefused n event [] deals may taken s u = tt
@@ -52,10 +50,7 @@ begun_unrefused w (Some r) u = (lost_unrefused r.known (u r refl), tt)
 
 more_unrefused : (w : WorkerState) (event : WorkerEvent) → AreUnrefused w.consumers w.retired → AllByRecursion IsUnrefused (map known_in (begun_by event w))
 more_unrefused w (Released key) u = begun_unrefused w (released key w) (λ r e. found_all IsUnrefused (id_of_held r.held) r.known w.consumers (release_is w.consumers (leaving key w) r e) u.live)
-more_unrefused w (Made_call asked) u = tt
-more_unrefused w (Gave_command now) u = tt
-more_unrefused w (Got_answer now answer) u = tt
-more_unrefused w Stopped u = tt
+more_unrefused w _ u = tt
 
 -- ---- the worker alone
 
@@ -80,11 +75,7 @@ own_waits hands w (Some p) h = own p.chore h
     own : (chore : Chore) → IsOwnCommand chore p.what (widened (map known_in hands) w) → IsOwnCommand chore p.what w
     own (Consuming id) h = sym (wide_consumer (map known_in hands) w (known_of id w.consumers)) ∙ h
     own (Finishing id) h = sym (wide_consumer (map known_in hands) w (known_of id w.consumers)) ∙ h
-    own Surveying h = h
-    own (Syncing step syncs takes) h = h
-    own (Taking step takes) h = h
-    own (Renewing g) h = h
-    own (Freeing g) h = h
+    own _ h = h
 
 -- ---- the record
 
@@ -109,16 +100,13 @@ taken_worker (Got_answer now answer) w deals h = before w.waiting h
     before : (o : Option Pending) → AreGivesTaken (with_deal o answer deals) → AreGivesTaken deals
     before None h = h
     before (Some p) h = h.1
-taken_worker (Made_call asked) w deals h = h
-taken_worker (Gave_command now) w deals h = h
-taken_worker Stopped w deals h = h
-taken_worker (Released key) w deals h = h
+taken_worker _ w deals h = h
 
 worker_ok : (made : WorkerMade) (event : WorkerEvent) (hands : List HandOff) (w : WorkerState) (deals : List Deal) → JointFine (deals_with event w deals) (hands ++ begun_by event w) (after_worker_event made event w) → AreGivesTaken (deals_with event w deals) → JointOk deals hands w → JointOk (deals_with event w deals) (hands ++ begun_by event w) (after_worker_event made event w)
 worker_ok made event hands w deals fine taken ok = record {
   fine = fine;
   unrefused = state_unrefused made event w deals taken (record { good = narrow deals (map known_in hands) w ok.fine; waits = own_waits hands w w.waiting ok.fine.waits }) ok.unrefused;
-  handed = subst (AllByRecursion IsUnrefused) (sym (map-append hands (begun_by event w)))
+  handed = subst (AllByRecursion IsUnrefused) (sym (map-append known_in hands (begun_by event w)))
       (all_append IsUnrefused (map known_in hands) (map known_in (begun_by event w)) ok.handed (more_unrefused w event ok.unrefused));
 }
 
