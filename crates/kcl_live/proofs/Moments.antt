@@ -17,22 +17,12 @@ below n m tick le low = let h : n * tick ≤ m * tick = mul-le n tick m tick le 
 pub moment_left : (n m tick at : ℕ) → at ≡ n * tick → n + 1 ≤ m → m * tick < 2 ^ 62 → at + tick < 2 ^ 62
 moment_left n m tick at e le low = subst (λ x. x < 2 ^ 62) (sym (next_at n tick at e)) (below (n + 1) m tick le low)
 
-pub moment_of : (k turns tick : ℕ) → k < turns → 3 * turns * tick < 2 ^ 62 → (k + 1) * tick < 2 ^ 62
-moment_of k turns tick lt low = below (k + 1) (3 * turns) tick (omega (arith, lt)) low
-
-pub first_moments : (turns tick : ℕ) → 3 * turns * tick < 2 ^ 62 → turns * tick < 2 ^ 62
-first_moments turns tick low = below turns (3 * turns) tick (omega arith) low
-
 pub length_added : (at : ℕ) (own more : List Turn) → HasAdded at own more → length more ≡ length own + 1
 length_added at own more a = ap length a.1 ∙ omega arith
 
 pub moments_added : (tick now at n : ℕ) (own more : List Turn) → HasAdded now own more → now ≡ at → n ≡ length own → at ≡ (n + 1) * tick → AreOnLeasesAt tick own → AreOnLeasesAt tick more
 moments_added tick now at n own more a is count next moments =
     subst (AreOnLeasesAt tick) (sym a.1) ((a.2 ∙ is ∙ next ∙ ap (λ k. (k + 1) * tick) count, a.3), moments)
-
-pub moments_may : (tick now at n : ℕ) (own more : List Turn) → (more ≡ own) ⊎ HasAdded now own more → now ≡ at → n ≡ length own → at ≡ (n + 1) * tick → AreOnLeasesAt tick own → AreOnLeasesAt tick more
-moments_may tick now at n own more (inl same) is count next moments = subst (AreOnLeasesAt tick) (sym same) moments
-moments_may tick now at n own more (inr a) is count next moments = moments_added tick now at n own more a is count next moments
 
 pub most_may : (now m : ℕ) (own more : List Turn) → (more ≡ own) ⊎ HasAdded now own more → length own + 1 ≤ m → length more ≤ m
 most_may now m own more (inl same) le = omega (arith, ap length same, le)

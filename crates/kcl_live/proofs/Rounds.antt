@@ -16,7 +16,8 @@ use Rattle.kcl_live.specs.Runs.{HasRun, WasCut}
 use Rattle.kcl_live.specs.Steps.{HasTurned, IsFinishing, IsGoing, IsStopped, turns_left}
 use Rattle.kcl_live.proofs.Bounds.{answered_on, calls_on, few_in}
 use Rattle.kcl_live.proofs.Driven.{driven_called, driven_new, driven_stopped}
-use Rattle.kcl_live.proofs.Ending.{idle_same, none_due, not_idle}
+use Rattle.kcl_worker.proofs.Outlooks.{idle_same, none_due}
+use Rattle.kcl_live.proofs.Ending.{not_idle}
 use Rattle.kcl_live.proofs.Stopping.{calls_stopped, filter_fewer, some_left, stop_stops, turn_stopped}
 
 module _ {P F : Type 0} (stands : P → List Call → Type 0) where

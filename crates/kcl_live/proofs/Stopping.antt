@@ -13,7 +13,7 @@ use Rattle.kcl_defs.specs.declared.consumer.Why.TheVariants as why
 use Rattle.kcl_defs.specs.declared.consumer.WorkerMade.{WorkerMade}
 use Rattle.kcl_defs.specs.declared.plans.Held.{Held}
 use Rattle.kcl_defs.specs.declared.plans.LeaseId.{LeaseId}
-use Rattle.kcl_defs.specs.Consumers.{Answered, Called, Ending, Filling, Giving, Holding, Leaving, Losing, Marking, MarkingEnd, Opening, Over, Phase, Starting, after_answer, after_call, after_loss, due_call, over_at, was_handed}
+use Rattle.kcl_defs.specs.Consumers.{Answered, Called, Giving, Leaving, Losing, Opening, Over, Phase, Starting, after_answer, after_call, after_loss, due_call, over_at, was_handed}
 use Rattle.kcl_defs.specs.Workers.{Finishing, Freeing, Gave_command, Got_answer, Known, Pending, Stopped, WorkerPast, WorkerState, absorbed, chore_from, consumed, freeing_chore, happens_to, happens_to_first, id_of, id_of_held, is_due_known, is_giving, is_giving_phase, is_idle, is_nothing_held, is_over, is_stopping, next_pending, pending_chore, phase_of_known, same_id, stopping_chore, with_event, without_held, worker_after}
 use Rattle.kcl_live.specs.Records.{with_calls}
 use Rattle.kcl_live.specs.Steps.{IsLost, IsStopped, turns_left}
@@ -70,18 +70,13 @@ part_fewer t (k ∷ ks) = fewer_by (t k) k (filter t ks) ks (part_fewer t ks)
 after_loss_lost : (p : Phase) → is_some (over_at (after_loss p)) ≡ false → IsLost (after_loss p)
 after_loss_lost Opening h = absurd cc
 after_loss_lost Starting h = absurd cc
-after_loss_lost (Filling reach waiting) h = tt
-after_loss_lost (Holding reach waiting) h = tt
+after_loss_lost (Over why) h = absurd cc
 after_loss_lost (Giving reach waiting asked lost) h = one (was_handed waiting)
   where
     one : (b : Bool) → IsLost (if b then Giving reach waiting asked true else Leaving why.Lost)
     one true = refl
     one false = tt
-after_loss_lost (Marking reach waiting to) h = tt
-after_loss_lost Ending h = tt
-after_loss_lost MarkingEnd h = tt
-after_loss_lost (Leaving why) h = tt
-after_loss_lost (Over why) h = absurd cc
+after_loss_lost _ h = tt
 
 losing_lost : (ks : List Known) → AreLostOrOver (happens_to (λ k. true) Losing ks)
 losing_lost [] = tt
@@ -96,14 +91,7 @@ stop_stops made past = record { round = refl; lost = settled_lost (happens_to (�
 called_lost : (made : Tenancy) (a : Ask) (p : Phase) → IsLost p → is_some (due_call p) ≡ true → (is_some (over_at (after_call made a p)) ≡ true) × (is_giving_phase (after_call made a p) ≡ false)
 called_lost made a (Leaving why) l d = (refl, refl)
 called_lost made a (Giving reach waiting asked lost) l d = absurd cc
-called_lost made a Opening l d = absurd l
-called_lost made a Starting l d = absurd l
-called_lost made a (Filling reach waiting) l d = absurd l
-called_lost made a (Holding reach waiting) l d = absurd l
-called_lost made a (Marking reach waiting to) l d = absurd l
-called_lost made a Ending l d = absurd l
-called_lost made a MarkingEnd l d = absurd l
-called_lost made a (Over why) l d = absurd l
+called_lost made a _ l d = absurd l
 
 calling_lost : (a : Ask) (ks : List Known) → AreLost ks → AreLostOrOver (happens_to_first is_due_known (Called a) ks)
 calling_lost a [] all = tt
@@ -143,14 +131,7 @@ answered_lost made (Ok reply) (Giving reach (f ∷ waiting) asked true) l d = (t
 answered_lost made (Err r) (Giving reach waiting asked true) l d = (tt, refl, refl)
 answered_lost made a (Giving reach waiting asked false) l d = absurd cc
 answered_lost made a (Leaving why) l d = absurd cc
-answered_lost made a Opening l d = absurd l
-answered_lost made a Starting l d = absurd l
-answered_lost made a (Filling reach waiting) l d = absurd l
-answered_lost made a (Holding reach waiting) l d = absurd l
-answered_lost made a (Marking reach waiting to) l d = absurd l
-answered_lost made a Ending l d = absurd l
-answered_lost made a MarkingEnd l d = absurd l
-answered_lost made a (Over why) l d = absurd l
+answered_lost made a _ l d = absurd l
 
 first_quiet : (b : Bool) (k : Known) (rest : Option Known) → cond b (Some k) rest ≡ None → b ≡ false
 first_quiet true k rest e = absurd cc

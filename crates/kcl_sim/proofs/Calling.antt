@@ -1,36 +1,22 @@
 -- The calls of processors that are due: each is made once, and then none is due.
 use Rattle.std.proofs.Common.{◌≡◌, Bool, true, false, List, [], ◌∷◌, Option, Some, None, refl, sym, ap, subst, ◌∙◌}
-use Rattle.std.specs.Prelude.{◌&&◌, ◌||◌, cond, not, is_some, if◌then◌else◌}
-use Rattle.std.specs.List.{filter, find, list_any}
+use Rattle.std.specs.Prelude.{cond, not, is_some, if◌then◌else◌}
+use Rattle.std.specs.List.{filter, find}
 use Rattle.kds_defs.specs.declared.reply.Stored.{Stored}
 use Rattle.kcl_defs.specs.declared.consumer.Ask.{Ask}
-use Rattle.kcl_defs.specs.declared.consumer.Call.{Call}
-use Rattle.kcl_defs.specs.declared.consumer.Due.{Due}
-use Rattle.kcl_defs.specs.Consumers.{Called, Phase, Opening, Starting, Filling, Holding, Giving, Marking, Ending, MarkingEnd, Leaving, Over, due_call, over_at, phase_after}
-use Rattle.kcl_defs.specs.Workers.{Known, WorkerPast, Made_call, due_known, happens_to_first, is_due_known, is_giving, is_giving_phase, is_idle, is_nothing_held, is_over, is_stopping, phase_of_known, with_event, worker_after}
-use Rattle.kcl_consumer.specs.Standing.{Standing}
+use Rattle.kcl_defs.specs.Consumers.{Called, Phase, Holding, Over, due_call, over_at}
+use Rattle.kcl_defs.specs.Workers.{Known, Made_call, due_known, happens_to_first, is_due_known, is_over, phase_of_known, with_event}
 use Rattle.kcl_hand.specs.Joints.{JointPast, Of_worker}
 use Rattle.kcl_proc.specs.declared.stock.Kind.{Kind}
-use Rattle.kcl_proc.specs.Stocks.{StandsFor as Calls, asked_of}
-use Rattle.kcl_worker_lists.specs.Lists.{due_in, due_or}
+use Rattle.kcl_proc.specs.Stocks.{asked_of}
 use Rattle.kcl_worker.proofs.Counting.{not_again}
 use Rattle.kcl_worker.specs.Asks.{IsAsk, IsAskOf}
-use Rattle.kcl_worker.specs.Standing.{ConsumersStand, StandsFor, is_due_in, is_giving_in, is_idle_in}
-use Rattle.kcl_sim.specs.Standing.{Stepped}
 use Rattle.kcl_sim.specs.Workers.{Employed, all_called, ask_in, state_of, with_calls}
 
 -- what is over isn't due
 over_not_due : (p : Phase) → is_some (over_at p) ≡ true → is_some (due_call p) ≡ false
 over_not_due (Over why) h = refl
-over_not_due Opening h = absurd cc
-over_not_due Starting h = absurd cc
-over_not_due (Filling reach waiting) h = absurd cc
-over_not_due (Holding reach waiting) h = absurd cc
-over_not_due (Giving reach waiting asked lost) h = absurd cc
-over_not_due (Marking reach waiting to) h = absurd cc
-over_not_due Ending h = absurd cc
-over_not_due MarkingEnd h = absurd cc
-over_not_due (Leaving why) h = absurd cc
+over_not_due _ h = absurd cc
 
 live : List Known → List Known
 live ks = filter (λ k. not (is_over k)) ks
@@ -74,9 +60,6 @@ called_first : (kind : Kind) (ks : List Known) (past : JointPast) (k : Known) �
 called_first kind [] past k is = absurd cc
 called_first kind (c ∷ ks) past k is = called_by (is_due_known c) kind c ks past k refl is (called_first kind ks past k)
 
-with_call_made : Employed → Ask → Employed
-with_call_made e a = record e { past = Of_worker (Made_call a) ∷ e.past }
-
 -- a call that is due, made: those that are left are the others
 pub one_called : (e : Employed) (k : Known) (a : Ask) → due_known (state_of e) ≡ Some k → a ≡ ask_in e.kind (phase_of_known k) → all_called (record e { past = Of_worker (Made_call a) ∷ e.past }) ≡ all_called e
 unfolding live
@@ -102,55 +85,12 @@ all_made e is = ap (λ past. record e { past = past }) (none_called e.kind (stat
 
 -- ---- what a caller sees of that
 
-phase_known : {P : Type 0} (stands : P → List Call → Type 0) (c : Standing P) (cs : List (Standing P)) (k : Known) (ks : List Known) → ConsumersStand stands (c ∷ cs) (k ∷ ks) → c.phase ≡ phase_of_known k
-phase_known stands c cs k ks s = s.1.phase ∙ ap (λ made. phase_after made k.past) s.0
-
-pub none_due : {P : Type 0} (stands : P → List Call → Type 0) (cs : List (Standing P)) (ks : List Known) → due_in cs ≡ None → ConsumersStand stands cs ks → find is_due_known ks ≡ None
-none_due stands [] [] none s = refl
-none_due stands [] (k ∷ ks) none s = absurd s
-none_due stands (c ∷ cs) [] none s = absurd s
-none_due stands (c ∷ cs) (k ∷ ks) none s =
-    head (due_call c.phase) (due_call (phase_of_known k)) (ap due_call (phase_known stands c cs k ks s)) none (λ n. none_due stands cs ks n s.2)
-  where
-    head : (o u : Option Due) → o ≡ u → due_or c o (due_in cs) ≡ None → (due_in cs ≡ None → find is_due_known ks ≡ None) → cond (is_some u) (Some k) (find is_due_known ks) ≡ None
-    head (Some due) u e n rest = absurd cc
-    head None (Some due) e n rest = absurd cc
-    head None None e n rest = rest n
-
 -- what was asked
 pub ask_is : (maker kind : Kind) → ((batch : List Stored) → asked_of maker batch ≡ asked_of kind batch) → (p : Phase) (a : Ask) → IsAsk (λ batch b. b ≡ asked_of maker batch) p a → a ≡ ask_in kind p
-ask_is maker kind same Opening a h = h
-ask_is maker kind same Starting a h = h
-ask_is maker kind same (Filling reach waiting) a h = h
 ask_is maker kind same (Holding reach waiting) a h = h ∙ same _
-ask_is maker kind same (Giving reach waiting asked lost) a h = h
-ask_is maker kind same (Marking reach waiting to) a h = h
-ask_is maker kind same Ending a h = h
-ask_is maker kind same MarkingEnd a h = h
-ask_is maker kind same (Leaving why) a h = h
-ask_is maker kind same (Over why) a h = h
+ask_is maker kind same _ a h = h
 
 pub ask_of : (maker kind : Kind) → ((batch : List Stored) → asked_of maker batch ≡ asked_of kind batch) → (o : Option Known) (a : Ask) → IsAskOf (λ batch b. b ≡ asked_of maker batch) o a
     → (k : Known) × (o ≡ Some k) × (a ≡ ask_in kind (phase_of_known k))
 ask_of maker kind same None a h = absurd h
 ask_of maker kind same (Some k) a h = (k, refl, ask_is maker kind same (phase_of_known k) a h)
-
--- ---- what a caller sees of a worker
-
-any_same : {P : Type 0} (stands : P → List Call → Type 0) (f : Phase → Bool) (cs : List (Standing P)) (ks : List Known) → ConsumersStand stands cs ks
-    → list_any (λ c. f c.phase) cs ≡ list_any (λ k. f (phase_of_known k)) ks
-any_same stands f [] [] s = refl
-any_same stands f [] (k ∷ ks) s = absurd s
-any_same stands f (c ∷ cs) [] s = absurd s
-any_same stands f (c ∷ cs) (k ∷ ks) s =
-    ap (λ p. f p || list_any (λ d. f d.phase) cs) (phase_known stands c cs k ks s) ∙ ap (λ r. f (phase_of_known k) || r) (any_same stands f cs ks s.2)
-
--- it is idle where its record says so
-pub idle_same : (w : Stepped) (past : WorkerPast) → StandsFor Calls w past → is_idle_in w ≡ is_idle (worker_after w.made past)
-idle_same w past s =
-    let state = worker_after w.made past in
-    let shows = s.shows in
-    ap (λ r. is_stopping r && not (is_due_in w) && not (is_giving_in w) && is_nothing_held w.held) shows.round
-    ∙ ap (λ b. is_stopping state.round && not b && not (is_giving_in w) && is_nothing_held w.held) (any_same Calls (λ p. is_some (due_call p)) w.consumers state.consumers shows.consumers)
-    ∙ ap (λ b. is_stopping state.round && not (list_any is_due_known state.consumers) && not b && is_nothing_held w.held) (any_same Calls is_giving_phase w.consumers state.consumers shows.consumers)
-    ∙ ap (λ h. is_stopping state.round && not (list_any is_due_known state.consumers) && not (list_any is_giving state.consumers) && is_nothing_held h) shows.held

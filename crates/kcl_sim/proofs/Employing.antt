@@ -3,6 +3,7 @@ use Rattle.std.proofs.Common.{◌≡◌, ℕ, zero, suc, ◌<◌, Bool, true, fa
 use Rattle.std.specs.Prelude.{IfSome, get_or, nat_le, nat_lt, if◌then◌else◌, slice_get, slice_set}
 use Rattle.std.specs.List.{AllByRecursion}
 use Rattle.std.proofs.lemmas.Bool.Decides.{nat_tests}
+use Rattle.std.proofs.lemmas.List.{set-set}
 use Rattle.kds_defs.specs.declared.limits.TheConstants.{MOST_ACTOR}
 use Rattle.kcl_sim.specs.Standing.{EmployAll, Employs, IsFree, Stepped, place_among}
 use Rattle.kcl_sim.specs.Workers.{Employed, employed_by, place_of}
@@ -35,11 +36,6 @@ employ_set [] (d ∷ es) place w e s h = absurd s
 employ_set (v ∷ ws) [] place w e s h = absurd s
 employ_set (v ∷ ws) (d ∷ es) zero w e s h = (h, s.1)
 employ_set (v ∷ ws) (d ∷ es) (suc place) w e s h = (s.0, employ_set ws es place w e s.1 h)
-
-pub free_set : (ws : List Stepped) (place : ℕ) (w : Stepped) → AllByRecursion IsFree ws → IsFree w → AllByRecursion IsFree (slice_set ws place w)
-free_set [] place w s h = tt
-free_set (v ∷ ws) zero w s h = (h, s.1)
-free_set (v ∷ ws) (suc place) w s h = (s.0, free_set ws place w s.1 h)
 
 -- ---- places
 
@@ -105,14 +101,7 @@ got_set (v ∷ ws) (suc place) w lt = got_set ws place w (omega (arith, lt))
 
 -- and is written over
 pub set_again : (ws : List Stepped) (place : ℕ) (w v : Stepped) → slice_set (slice_set ws place w) place v ≡ slice_set ws place v
-set_again [] place w v = refl
-set_again (u ∷ ws) zero w v = refl
-set_again (u ∷ ws) (suc place) w v = ap (λ us. u ∷ us) (set_again ws place w v)
-
-pub length_set : (ws : List Stepped) (place : ℕ) (w : Stepped) → length (slice_set ws place w) ≡ length ws
-length_set [] place w = refl
-length_set (u ∷ ws) zero w = refl
-length_set (u ∷ ws) (suc place) w = ap suc (length_set ws place w)
+set_again ws place w v = set-set ws place w v
 
 -- what a loan of a place gives, where something was written there before
 pub lent_again : (ws : List Stepped) (place : ℕ) (d w u : Stepped) → place < length ws → u ≡ get_or (slice_set ws place w) place d → u ≡ w

@@ -44,9 +44,7 @@ next_is v x s = λ i. command_at (s.held i) (s.made i) (phase_is v x s i) (stand
 answered_leaves_at : (h : Held) (made : Tenancy) (a : Result Reply Refusal) (s : HandState) (st : Stand) → IsLeaving (phase_after made s.past)
     → IsLeaving (phase_after made (answered_at h made a s st).past)
 answered_leaves_at h made a s stand.Consumer l = answered_leaves made a (phase_after made s.past) l
-answered_leaves_at h made a s (stand.Mark q) l = l
-answered_leaves_at h made a s (stand.Free counter) l = l
-answered_leaves_at h made a s (stand.Ended left) l = l
+answered_leaves_at h made a s _ l = l
 
 leaves_so : (w : Handing) (x : HandOff) → w.held ≡ x.held → w.consumer.made ≡ x.made → StandsFor Calls w x.before x.since
     → IsLeaving (phase_after x.made (state_of x).past) → IsLeaving w.consumer.phase
@@ -178,10 +176,8 @@ way_goes at by old now new v w u text more way r over workers fewer none = recor
 
 -- where it is over no command comes next
 ended_quiet : (h : Held) (made : Tenancy) (phase : Phase) (s : Stand) → IsSome (left_at s) → command_at h made phase s ≡ None
-ended_quiet h made phase stand.Consumer over = absurd cc
-ended_quiet h made phase (stand.Mark q) over = absurd cc
-ended_quiet h made phase (stand.Free counter) over = absurd cc
 ended_quiet h made phase (stand.Ended left) over = refl
+ended_quiet h made phase _ over = absurd cc
 
 -- the whole run of it
 whole_run : (at by : ℕ) (old now : SimValue) (v w : Handing) (text : List ℕ) (way : UnderWay at by old now v w text) → IsSome (left_at w.stand)
@@ -211,10 +207,6 @@ way_ends at by old now new v w text line before after way over line_is wrote sam
 
 -- ---- want of memory
 
--- before it began
-pub broke_first : (at by : ℕ) (old new : SimValue) (v : Handing) → new.history ≡ old.history → RanFirst at by old new v
-broke_first at by old new v same = record { ran_of_it = 0; few = omega arith; history = λ x s. same }
-
 -- between its commands
 pub broke_between : (at by : ℕ) (old now new : SimValue) (v w : Handing) (text : List ℕ) → UnderWay at by old now v w text → new.history ≡ now.history
     → RanFirst at by old new v
@@ -229,11 +221,9 @@ broke_between at by old now new v w text way same = record {
 }
 
 one_left : (s : Stand) (phase : Phase) → left_at s ≡ None → 1 ≤ turns_left s phase
-one_left stand.Consumer (Giving reach waiting asked lost) going = omega arith
-one_left stand.Consumer _ going = omega arith
-one_left (stand.Mark q) phase going = omega arith
-one_left (stand.Free counter) phase going = omega arith
 one_left (stand.Ended left) phase going = absurd cc
+one_left stand.Consumer (Giving reach waiting asked lost) going = omega arith
+one_left _ _ going = omega arith
 
 -- after the turn of one
 pub broke_after : (at by : ℕ) (old now new : SimValue) (v w : Handing) (text : List ℕ) → UnderWay at by old now v w text → left_at w.stand ≡ None

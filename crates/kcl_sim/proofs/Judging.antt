@@ -45,9 +45,6 @@ one_more : (texts : List (List ℕ)) (text : List ℕ) (l : Line) → (judged_te
     → judged_texts (texts ++ text ∷ []) ≡ record { lines = (judged_texts texts).lines ++ l ∷ []; ending = whole }
 one_more texts text l are is = judge_more texts (text ∷ []) input.whole are ∙ ap (λ o. preceded_by (judged_texts texts).lines (judge_form (length texts) o (judge (length texts + 1) [] input.whole))) is
 
-pub took_nothing : (s : SimValue) → RunsSo s fresh → Took s []
-took_nothing s is = record { are_lines = refl; made = is }
-
 pub took_more : (old new : SimValue) (texts : List (List ℕ)) (text : List ℕ) (l : Line) → Took old texts → line_of text ≡ Some l → RunsSo new (with_line (with_schedule fresh (judged_texts texts).lines) l) → Took new (texts ++ text ∷ [])
 took_more old new texts text l t is made =
     let j = one_more texts text l t.are_lines is in

@@ -16,7 +16,7 @@ use Rattle.kcl_hand.specs.Handing.{command_at, hand_command, hand_due}
 use Rattle.kcl_hand.specs.Joints.{HandOff, hand_of, state_of, worker_past}
 use Rattle.kcl_hand.specs.Runs.{answered_by, called_if, called_up, run_hand, turn_of}
 use Rattle.kcl_script.specs.declared.line.Line.{Line}
-use Rattle.kcl_script.specs.declared.line.Line.TheVariants.{Api, Hand, Raw, Step, Stop, Worker}
+use Rattle.kcl_script.specs.declared.line.Line.TheVariants.{Hand}
 use Rattle.kcl_script.specs.Line.{IsLine}
 use Rattle.kcl_sim.specs.Output.{Ran, history_at, part_of, with_handed, with_release}
 use Rattle.kcl_sim.specs.Workers.{Employed, employed_by, release_by, state_of as worker_state}
@@ -100,10 +100,6 @@ employed_part n at by h k key ws (Some e) is part early bound past =
 
 pub part_lawful : (n : ℕ) (ran : Ran) (l : Line) (k : List Turn) → part_of n ran l ≡ Some k → IsLine l → AreBounded ran.workers → IsHistory ran.history
     → IsHistory k
-part_lawful n ran (Api at operation body) k part is bound past = absurd cc
-part_lawful n ran (Raw at by what long) k part is bound past = absurd cc
-part_lawful n ran (Worker at name kind from) k part is bound past = absurd cc
-part_lawful n ran (Step at by) k part is bound past = absurd cc
-part_lawful n ran (Stop at by) k part is bound past = absurd cc
 part_lawful n ran (Hand at by key) k part is bound past =
     employed_part n at by ran.history k key ran.workers (employed_by by ran.workers) refl part is.0 bound past
+part_lawful n ran _ k part is bound past = absurd cc

@@ -15,7 +15,7 @@ use Rattle.kcl_defs.specs.declared.plans.LeaseId.{LeaseId}
 use Rattle.kcl_defs.specs.declared.plans.SyncStep.{SyncStep}
 use Rattle.kcl_defs.specs.declared.plans.SyncStep.TheVariants.{Make, Cut}
 use Rattle.kcl_defs.specs.declared.plans.TakeStep.{TakeStep}
-use Rattle.kcl_defs.specs.Consumers.{Called, Event, Losing, Phase, Opening, Starting, Filling, Holding, Giving, Marking, Ending, MarkingEnd, Leaving, Over, next_command}
+use Rattle.kcl_defs.specs.Consumers.{Called, Event, Losing, Phase, Opening, Filling, Giving, Marking, MarkingEnd, next_command}
 use Rattle.kcl_defs.specs.Workers.{Chore, Consuming, Finishing, Freeing, Renewing, Surveying, Syncing, Taking, Known, Pending, WorkerPast, WorkerState, Gave_command, Got_answer, Made_call, Stopped, absorbed, after_chore, after_renewal, after_survey, after_take, chore_at, command_of, consumer_command, counter_of, happens_to, happens_to_first, id_of, is_before_id, is_due_known, is_over, known_of, next_pending, pending_chore, pending_of, phase_of_known, same_id, sync_command, with_event, with_known, worker_after, Release, Released, id_of_held, released, without_known, without_release}
 use Rattle.kcl_script.specs.declared.line.Line.{Line}
 use Rattle.kcl_hand.specs.Joints.{worker_past}
@@ -141,15 +141,11 @@ so_lawful a b is h = let e : a ≡ b = cc in subst IsLawfulCommand e h
 pub phase_command : (made : Tenancy) (p : Phase) (counter : ℕ) (what : Command) → next_command made p counter ≡ Some what → IsLimit made.limit
     → IsLawfulCommand what
 phase_command made Opening counter what is limit = so_lawful _ _ is tt
-phase_command made Starting counter what is limit = absurd cc
 phase_command made (Filling reach waiting) counter what is limit = so_lawful _ _ is limit
-phase_command made (Holding reach waiting) counter what is limit = absurd cc
 phase_command made (Giving reach waiting asked lost) counter what is limit = so_lawful _ _ is tt
 phase_command made (Marking reach waiting to) counter what is limit = so_lawful _ _ is tt
-phase_command made Ending counter what is limit = absurd cc
 phase_command made MarkingEnd counter what is limit = so_lawful _ _ is tt
-phase_command made (Leaving why) counter what is limit = absurd cc
-phase_command made (Over why) counter what is limit = absurd cc
+phase_command made _ counter what is limit = absurd cc
 
 consumer_lawful : (w : WorkerState) (o : Option Known) (what : Command) → consumer_command w o ≡ Some what → ((k : Known) → o ≡ Some k → HasLimit k) → IsLawfulCommand what
 unfolding HasLimit
@@ -161,13 +157,10 @@ sync_lawful (Make key from) = tt
 sync_lawful (Cut key counter) = tt
 
 command_lawful : (made : WorkerMade) (w : WorkerState) (chore : Chore) (what : Command) → command_of made w chore ≡ Some what → 1 ≤ made.name → AllLimits w.consumers → IsLawfulCommand what
-command_lawful made w Surveying what is name limits = so_lawful _ _ is tt
 command_lawful made w (Syncing step syncs takes) what is name limits = so_lawful _ _ is (sync_lawful step)
 command_lawful made w (Taking step takes) what is name limits = so_lawful _ _ is name
-command_lawful made w (Renewing held) what is name limits = so_lawful _ _ is tt
 command_lawful made w (Consuming id) what is name limits = consumer_lawful w (known_of id w.consumers) what is (λ k found. found_limit _ w.consumers k found limits)
-command_lawful made w (Finishing id) what is name limits = so_lawful _ _ is tt
-command_lawful made w (Freeing held) what is name limits = so_lawful _ _ is tt
+command_lawful made w _ what is name limits = so_lawful _ _ is tt
 
 pending_lawful : (made : WorkerMade) (w : WorkerState) (chore : Chore) (o : Option Command) (what : Command) → option_map (λ p. p.what) (pending_of chore o) ≡ Some what → (o ≡ Some what → IsLawfulCommand what) → IsLawfulCommand what
 pending_lawful made w chore None what is rest = absurd cc

@@ -99,12 +99,8 @@ part_by n at by h k (Some r) is few =
     subst (GrowsFew h) same (hand_grows n at by h r few)
 
 part_of_line : (n : ℕ) (ran : Ran) (l : Line) (k : List Turn) → part_of n ran l ≡ Some k → n ≤ 3 → GrowsFew ran.history k
-part_of_line n ran (Api at operation body) k is few = absurd cc
-part_of_line n ran (Raw at by what long) k is few = absurd cc
-part_of_line n ran (Worker at name kind from) k is few = absurd cc
-part_of_line n ran (Step at by) k is few = absurd cc
-part_of_line n ran (Stop at by) k is few = absurd cc
 part_of_line n ran (Hand at by key) k is few = part_by n at by ran.history k (release_by key (employed_by by ran.workers)) is few
+part_of_line n ran _ k is few = absurd cc
 
 pub part_grows : (s : SimValue) (ran : Ran) (l : Line) → HasRunPart s ran l → GrowsFew ran.history s.history
 part_grows s ran l p = part_of_line p.ran_of_it ran l s.history p.history p.few

@@ -3,6 +3,7 @@ use Rattle.std.proofs.Common.{◌≡◌, ℕ, zero, suc, pred, ◌+◌, ◌<◌,
 use Rattle.std.specs.Prelude.{◌==◌, if◌then◌else◌, nat_le, option_map, slice_get, slice_set}
 use Rattle.std.specs.List.{AllByRecursion}
 use Rattle.std.proofs.lemmas.Bool.Decides.{nat_tests}
+use Rattle.std.proofs.lemmas.List.{length-set, length_push}
 use Rattle.kds_base.specs.declared.lease_key.ShardRef.{ShardRef}
 use Rattle.kds_base.proofs.Facts.{is_itself}
 use Rattle.kds_defs.specs.declared.command.Command.{Command}
@@ -20,11 +21,12 @@ use Rattle.kds_json.specs.Asked.{asked}
 use Rattle.kcl_defs.specs.declared.consumer.WorkerMade.{WorkerMade}
 use Rattle.kcl_defs.specs.declared.plans.Held.{Held}
 use Rattle.kcl_defs.specs.declared.plans.TakeStep.{TakeStep}
-use Rattle.kcl_defs.specs.Lives.{Deal, deals_of}
+use Rattle.kcl_defs.specs.Lives.{deals_of}
 use Rattle.kcl_hand.specs.Joints.{AreAllServed as AreServed, AreOrderly, AreToldIn, JointPast, Of_worker, hand_of, hands_after, joint_deals, worker_in, worker_past}
 use Rattle.kcl_hand.specs.Runs.{hand_run, turn_of, with_hand}
 use Rattle.kcl_hand.specs.Twice.{IsHandedOffIfFreed, IsNeverReadAgain}
-use Rattle.kcl_defs.specs.Workers.{Chore, Consuming, Finishing, Freeing, Gave_command, Known, Made_call, Pending, Renewing, Release, Surveying, Syncing, Taking, WorkerState, absorbed, after_chore, after_renewal, after_survey, after_take, is_due_known, is_idle, next_pending, phase_of_known, released, with_deal, worker_after}
+use Rattle.kcl_defs.specs.Workers.{Chore, Gave_command, Known, Made_call, Pending, Renewing, Release, Surveying, Taking, WorkerState, absorbed, after_chore, after_renewal, after_survey, after_take, is_due_known, is_idle, next_pending, phase_of_known, released, with_deal, worker_after}
+use Rattle.kcl_defs.proofs.StepLemmas.{others_turn}
 use Rattle.kcl_proc.specs.declared.stock.Kind.{Kind}
 use Rattle.kcl_script.specs.declared.line.Line.{Line}
 use Rattle.kcl_script.specs.declared.line.Line.TheVariants.{Api, Hand, Raw, Step, Stop, Worker}
@@ -78,27 +80,21 @@ told_stopped h by e t = record { orderly = (t.free, t.orderly); told = t.told; f
 
 survey_free : (made : WorkerMade) (now : ℕ) (a : Result Reply Refusal) (w : WorkerState) → w.waiting ≡ None → (after_survey made now a w).waiting ≡ None
 survey_free made now (Ok (reply.Survey shards rows)) w h = h
-survey_free made now (Ok _) w h = h
-survey_free made now (Err r) w h = h
+survey_free made now _ w h = h
 
 take_free : (made : WorkerMade) (now : ℕ) (step : TakeStep) (a : Result Reply Refusal) (w : WorkerState) → w.waiting ≡ None → (after_take made now step a w).waiting ≡ None
 take_free made now step (Ok (reply.Taken tenure counter start)) w h = h
-take_free made now step (Ok _) w h = h
-take_free made now step (Err r) w h = h
+take_free made now step _ w h = h
 
 renewal_free : (now : ℕ) (held : Held) (a : Result Reply Refusal) (w : WorkerState) → w.waiting ≡ None → (after_renewal now held a w).waiting ≡ None
 renewal_free now held (Ok (reply.Counter counter)) w h = h
-renewal_free now held (Ok _) w h = h
-renewal_free now held (Err r) w h = h
+renewal_free now held _ w h = h
 
 chore_free : (made : WorkerMade) (now : ℕ) (a : Result Reply Refusal) (chore : Chore) (w : WorkerState) → w.waiting ≡ None → (after_chore made now a chore w).waiting ≡ None
 chore_free made now a Surveying w h = survey_free made now a w h
-chore_free made now a (Syncing step syncs takes) w h = h
 chore_free made now a (Taking step takes) w h = take_free made now step a _ h
 chore_free made now a (Renewing held) w h = renewal_free now held a _ h
-chore_free made now a (Consuming id) w h = h
-chore_free made now a (Finishing id) w h = h
-chore_free made now a (Freeing held) w h = h
+chore_free made now a _ w h = h
 
 -- an answer that was waited for leaves none that is
 absorbed_free : (made : WorkerMade) (now : ℕ) (a : Result Reply Refusal) (w : WorkerState) (p : Pending) → w.waiting ≡ Some p → (absorbed made now a w w.waiting).waiting ≡ None
@@ -142,15 +138,8 @@ told_handed h at by key e r which t =
 
 -- ---- a turn of another
 
-not_by : (b : Bool) (turn : Turn) (a : Result Reply Refusal) (deals : List Deal) → b ≡ false → (if b then record { what = turn.what; answer = a } ∷ deals else deals) ≡ deals
-not_by b turn a deals is = ap (λ c. if c then record { what = turn.what; answer = a } ∷ deals else deals) is
-
--- leaves his deals
-of_another : (by : ℕ) (turn : Turn) (h : List Turn) → (turn.by == by) ≡ false → deals_of by (turn ∷ h) ≡ deals_of by h
-of_another by turn h other = not_by (turn.by == by) turn (answer h turn) (deals_of by h) other
-
 told_on : (by : ℕ) (turn : Turn) (h : List Turn) (e : Employed) → (turn.by == by) ≡ false → IsTold h by e → IsTold (turn ∷ h) by e
-told_on by turn h e other t = record { orderly = t.orderly; told = of_another by turn h other ∙ t.told; free = t.free }
+told_on by turn h e other t = record { orderly = t.orderly; told = others_turn by turn h other ∙ t.told; free = t.free }
 
 below : (by place : ℕ) → by ≤ MOST_ACTOR → (by == actor_at place) ≡ false
 below by place low = grind (arith, nat_tests)
@@ -166,15 +155,10 @@ apart p q h = by_test (actor_at p == actor_at q) refl
 outer : (ran : Ran) (turn : Turn) → turn.by ≤ MOST_ACTOR → AreTold ran → AreTold (record ran { history = turn ∷ ran.history })
 outer ran turn low t = record {
   each = λ place e is. told_on (actor_at place) turn ran.history e (below turn.by place low) (t.each place e is);
-  later = λ place past. of_another (actor_at place) turn ran.history (below turn.by place low) ∙ t.later place past;
+  later = λ place past. others_turn (actor_at place) turn ran.history (below turn.by place low) ∙ t.later place past;
 }
 
 -- ---- one of them changes
-
-length_with : (es : List Employed) (place : ℕ) (e : Employed) → length (slice_set es place e) ≡ length es
-length_with [] place e = refl
-length_with (d ∷ es) zero e = refl
-length_with (d ∷ es) (suc place) e = ap suc (length_with es place e)
 
 within : (es : List Employed) (place : ℕ) (e : Employed) → slice_get es place ≡ Some e → place < length es
 within [] place e is = absurd cc
@@ -206,7 +190,7 @@ changed h es p x own others place e is = on (got_with es p place x e is)
 kept : (ran : Ran) (p : ℕ) (x : Employed) → AreTold ran → IsTold ran.history (actor_at p) x → AreTold (record ran { workers = slice_set ran.workers p x })
 kept ran p x t own = record {
   each = changed ran.history ran.workers p x own (λ q e other is. t.each q e is);
-  later = λ place past. t.later place (omega (arith, past, length_with ran.workers p x));
+  later = λ place past. t.later place (omega (arith, past, length-set ran.workers p x));
 }
 
 -- and its turn ran
@@ -215,8 +199,8 @@ turned : (ran : Ran) (turn : Turn) (p : ℕ) (x : Employed) → turn.by ≡ acto
 turned ran turn p x by lt t own = record {
   each = changed (turn ∷ ran.history) ran.workers p x own (λ q e other is. told_on (actor_at q) turn ran.history e (differs q other) (t.each q e is));
   later = λ place past.
-      let beyond : length ran.workers ≤ place = omega (arith, past, length_with ran.workers p x) in
-      of_another (actor_at place) turn ran.history (differs place (λ same. absurd (omega (arith, same, lt, beyond)))) ∙ t.later place beyond;
+      let beyond : length ran.workers ≤ place = omega (arith, past, length-set ran.workers p x) in
+      others_turn (actor_at place) turn ran.history (differs place (λ same. absurd (omega (arith, same, lt, beyond)))) ∙ t.later place beyond;
 }
   where
     differs : (q : ℕ) → (p ≡ q → ⊥) → (turn.by == actor_at q) ≡ false
@@ -231,7 +215,7 @@ handed ran h p x lt t own others = record {
       let k = t.each q e is in
       record { orderly = k.orderly; told = others q other ∙ k.told; free = k.free });
   later = λ place past.
-      let beyond : length ran.workers ≤ place = omega (arith, past, length_with ran.workers p x) in
+      let beyond : length ran.workers ≤ place = omega (arith, past, length-set ran.workers p x) in
       others place (λ same. absurd (omega (arith, same, lt, beyond))) ∙ t.later place beyond;
 }
 
@@ -278,7 +262,7 @@ release_told ran at by key e (Some r) which own lt t told =
     let run = hand_run at by ran.history (hand_of r []) in
     let x : Employed = record e { past = with_hand key run.hand.since e.made e.past } in
     handed ran run.history (place_of by) x lt t (subst (λ n. IsTold run.history n x) own (told_handed ran.history at by key e r which told))
-    (λ q other. of_another_run 3 at by (actor_at q) (λ h what. of_another (actor_at q) (turn_of at by what) h
+    (λ q other. of_another_run 3 at by (actor_at q) (λ h what. others_turn (actor_at q) (turn_of at by what) h
     (ap (λ n. n == actor_at q) own ∙ apart (place_of by) q other)) ran.history (hand_of r []))
 
 hand_told : (ran : Ran) (at by : ℕ) (key : ShardRef) (o : Option Employed) → employed_by by ran.workers ≡ o → AreTold ran
@@ -300,15 +284,11 @@ got_more (d ∷ es) x (suc q) e is = on (got_more es x q e is)
     on (inl h) = inl (ap suc h.0, h.1)
     on (inr h) = inr h
 
-length_more : (es : List Employed) (x : Employed) → length (es ++ x ∷ []) ≡ length es + 1
-length_more [] x = refl
-length_more (d ∷ es) x = ap suc (length_more es x) ∙ omega arith
-
 -- a new worker made no turn
 hired_told : (ran : Ran) (name : ℕ) (kind : Kind) (from : Origin) → AreTold ran → AreTold (record ran { workers = ran.workers ++ hired name kind from ∷ [] })
 hired_told ran name kind from t = record {
   each = λ place e is. on place e (got_more ran.workers (hired name kind from) place e is);
-  later = λ place past. t.later place (omega (arith, past, length_more ran.workers (hired name kind from)));
+  later = λ place past. t.later place (omega (arith, past, length_push ran.workers (hired name kind from)));
 }
   where
     none : (place : ℕ) → place ≡ length ran.workers → IsTold ran.history (actor_at place) (hired name kind from)

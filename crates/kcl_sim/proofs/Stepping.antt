@@ -13,7 +13,8 @@ use Rattle.kcl_worker.specs.Asks.{AllowsSame}
 use Rattle.kcl_worker.specs.Standing.{is_idle_in}
 use Rattle.kcl_sim.specs.Standing.{Employs, HasAsked, Stepped}
 use Rattle.kcl_sim.specs.Workers.{Employed, all_called, answered, command_at, state_of, stopped}
-use Rattle.kcl_sim.proofs.Calling.{all_made, ask_of, idle_same, none_due, one_called}
+use Rattle.kcl_worker.proofs.Outlooks.{idle_same, none_due}
+use Rattle.kcl_sim.proofs.Calling.{all_made, ask_of, one_called}
 
 pub no_some : {A : Type 0} (o : Option A) → false ≡ is_some o → o ≡ None
 no_some None h = refl
@@ -42,7 +43,7 @@ all_done w e d none s same =
 pub idle_command : (w : Stepped) (e : Employed) (at : ℕ) → is_idle_in w ≡ true → Employs w e → command_at at e ≡ None
 idle_command w e at idle s =
     let is : is_idle (state_of e) ≡ true =
-    ap (λ m. is_idle (worker_after m (worker_past e.past))) (sym s.made) ∙ sym (idle_same w (worker_past e.past) s.stands) ∙ idle in
+    ap (λ m. is_idle (worker_after m (worker_past e.past))) (sym s.made) ∙ sym (idle_same Calls w (worker_past e.past) s.stands) ∙ idle in
     ap (λ b. if b then None else option_map (λ p. p.what) (next_pending e.made at (state_of e))) is
 
 -- another gives the one that comes next
@@ -51,7 +52,7 @@ pub next_command : (old new : Stepped) (e : Employed) (at : ℕ) (what : Command
 next_command old new e at what busy made maker adds s =
     let r = adds (worker_past e.past) s.stands in
     let is : is_idle (state_of e) ≡ false =
-    ap (λ m. is_idle (worker_after m (worker_past e.past))) (sym s.made) ∙ sym (idle_same old (worker_past e.past) s.stands) ∙ busy in
+    ap (λ m. is_idle (worker_after m (worker_past e.past))) (sym s.made) ∙ sym (idle_same Calls old (worker_past e.past) s.stands) ∙ busy in
     let next : next_pending e.made at (state_of e) ≡ Some r.0 = ap (λ m. next_pending m at (worker_after m (worker_past e.past))) (sym s.made) ∙ r.1 in (
       ap (λ b. if b then None else option_map (λ p. p.what) (next_pending e.made at (state_of e))) is
           ∙ ap (option_map (λ p. p.what)) next ∙ ap Some r.2,

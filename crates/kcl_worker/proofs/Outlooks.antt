@@ -6,6 +6,7 @@ use Rattle.std.specs.Option.{option_map}
 use Rattle.std.proofs.lemmas.Bool.Decides.{nat_tests}
 use Rattle.kds_defs.specs.declared.command.Command.{Command}
 use Rattle.kds_defs.specs.declared.command.Command.TheVariants as command
+use Rattle.kcl_defs.specs.Workers.{is_due_known, is_idle}
 use Rattle.kcl_defs.specs.declared.consumer.Call.{Call}
 use Rattle.kcl_defs.specs.declared.consumer.Due.{Due}
 use Rattle.kcl_defs.specs.declared.consumer.WorkerMade.{WorkerMade}
@@ -22,7 +23,8 @@ use Rattle.kcl_worker_lists.specs.Lists.{giving_in, id_in, past_in}
 use Rattle.kcl_worker.specs.Outlook.{IsAsking, IsGiven, IsReady}
 use Rattle.kcl_worker.specs.Parts.{chore_of}
 use Rattle.kcl_worker_lists.specs.Lists.{due_in, due_or, is_due}
-use Rattle.kcl_worker.specs.Standing.{ConsumersStand, ShowsState, StandsFor, WorkerStanding, is_idle_in}
+use Rattle.kcl_worker.specs.Standing.{ConsumersStand, ShowsState, StandsFor, WorkerStanding, is_due_in, is_giving_in, is_idle_in}
+use Rattle.kcl_worker.proofs.Happenings.{phase_known}
 
 -- ---- the same consumer is found on both sides
 
@@ -315,3 +317,36 @@ none_left stands w old is now past none busy left st =
     apart : (b : Bool) → b ≡ true → b ≡ false → ⊥
     apart true e f = absurd cc
     apart false e f = absurd cc
+
+-- ---- what callers see of a worker, beside its record
+
+-- where no call is due, none is in the record
+pub none_due : {P : Type 0} (stands : P → List Call → Type 0) (cs : List (Standing P)) (ks : List Known) → due_in cs ≡ None → ConsumersStand stands cs ks → find is_due_known ks ≡ None
+none_due stands [] [] none s = refl
+none_due stands [] (k ∷ ks) none s = absurd s
+none_due stands (c ∷ cs) [] none s = absurd s
+none_due stands (c ∷ cs) (k ∷ ks) none s =
+    head (due_call c.phase) (due_call (phase_of_known k)) (ap due_call (phase_known stands c k (s.0, s.1))) none (λ n. none_due stands cs ks n s.2)
+  where
+    head : (o u : Option Due) → o ≡ u → due_or c o (due_in cs) ≡ None → (due_in cs ≡ None → find is_due_known ks ≡ None) → cond (is_some u) (Some k) (find is_due_known ks) ≡ None
+    head (Some due) u e n rest = absurd cc
+    head None (Some due) e n rest = absurd cc
+    head None None e n rest = rest n
+
+any_same : {P : Type 0} (stands : P → List Call → Type 0) (f : Phase → Bool) (cs : List (Standing P)) (ks : List Known) → ConsumersStand stands cs ks
+    → list_any (λ c. f c.phase) cs ≡ list_any (λ k. f (phase_of_known k)) ks
+any_same stands f [] [] s = refl
+any_same stands f [] (k ∷ ks) s = absurd s
+any_same stands f (c ∷ cs) [] s = absurd s
+any_same stands f (c ∷ cs) (k ∷ ks) s =
+    ap (λ p. f p || list_any (λ d. f d.phase) cs) (phase_known stands c k (s.0, s.1)) ∙ ap (λ r. f (phase_of_known k) || r) (any_same stands f cs ks s.2)
+
+-- it is idle where its record says so
+pub idle_same : {P F : Type 0} (stands : P → List Call → Type 0) (w : WorkerStanding P F) (past : WorkerPast) → StandsFor stands w past → is_idle_in w ≡ is_idle (worker_after w.made past)
+idle_same stands w past s =
+    let state = worker_after w.made past in
+    let shows = s.shows in
+    ap (λ r. is_stopping r && not (is_due_in w) && not (is_giving_in w) && is_nothing_held w.held) shows.round
+    ∙ ap (λ b. is_stopping state.round && not b && not (is_giving_in w) && is_nothing_held w.held) (any_same stands (λ p. is_some (due_call p)) w.consumers state.consumers shows.consumers)
+    ∙ ap (λ b. is_stopping state.round && not (list_any is_due_known state.consumers) && not b && is_nothing_held w.held) (any_same stands is_giving_phase w.consumers state.consumers shows.consumers)
+    ∙ ap (λ h. is_stopping state.round && not (list_any is_due_known state.consumers) && not (list_any is_giving state.consumers) && is_nothing_held h) shows.held
