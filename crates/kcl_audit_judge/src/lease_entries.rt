@@ -2,9 +2,7 @@
 ghost use Rattle.std.specs.Prelude.{◌≡◌, ◌+◌, ◌≤◌, ◌==◌, length, None, IfOk, OnErr};
 ghost use Rattle.kds_defs.specs.declared.entry.Entry.TheVariants as entry;
 ghost use Rattle.kds_defs.specs.Journal.{Journal};
-ghost use Rattle.kds_defs.specs.LeaseCommands.{reaches_closing};
-ghost use Rattle.kds_defs.specs.Shards.{ShardState, shown};
-ghost use Rattle.kcl_leases.specs.Conditions.{counting_from, parent_reaches};
+ghost use Rattle.kcl_leases.specs.Conditions.{counting_from};
 ghost use Rattle.kds_defs.specs.Subjects.{stream_of};
 ghost use Rattle.kcl_book.specs.Tenures.{tenure_at};
 ghost use Rattle.kcl_audit_judge.specs.Judging.{answer_verdict, reach_of};
@@ -14,9 +12,9 @@ ghost use Rattle.kcl_audit_streams.specs.Verdict.{IsFit, same_flag, same_list, s
 
 use kcl_audit_streams::{Rule, Streams, live};
 use kcl_book::Book;
-use kcl_leases::{Shards, cut, free, give, make, mark, open, reader, renew, start, take};
+use kcl_leases::{Shards, counting, cut, free, give, make, mark, open, reader, renew, start, take};
 use kcl_table::Table;
-use kds_base::{Items, Memory, Seq, ShardNo, ShardRef, StreamNo, TenureNo, WorkerNo};
+use kds_base::{Items, Memory, Seq, ShardRef, StreamNo, TenureNo, WorkerNo};
 use kds_defs::{Answer, Entry, Origin, Refusal, Shard, Target, place_after_numbers};
 use std::alloc::Global;
 
@@ -128,38 +126,17 @@ fn read(
     Ok(Ok(()))
 }
 
-/// Whether a row of this floor reads up to where the shard was closed.
-fn reaches_closing(floor: Seq, shard: &Shard) -> bool
-    ensures { (x : ShardState) → shard.now ≡ shown x → result ≡ reaches_closing floor x.closing }
+/// Whether both are one origin.
+fn same_start(a: Origin, b: Origin) -> bool
+    ensures { result ≡ same_origin a b }
 {
-    match shard.end {
-        Some(end) => floor <= end,
-        None => false,
-    }
-}
-
-/// Whether a parent of a shard of the stream, if there is one, has a row whose floor is at or below the parent's
-/// ending number.
-fn parent_reaches(
-    shards: &Streams,
-    table: &Table,
-    stream: StreamNo,
-    parent: Option<ShardNo>,
-) -> bool
-    ensures { (log : Journal) → Shows shards.now log → result ≡ parent_reaches log table.now stream parent }
-{
-    let Some(shard) = parent else {
-        return false;
-    };
-    let key = ShardRef { stream, shard };
-    // borrowed, so that it can be handed on more than once
-    let key = &key;
-    let Some(row) = table.row(*key) else {
-        return false;
-    };
-    match shards.shard(*key) {
-        Some(shard) => reaches_closing(row.floor, shard),
-        None => false,
+    match a {
+        Origin::TrimHorizon => matches!(b, Origin::TrimHorizon),
+        Origin::Latest => matches!(b, Origin::Latest),
+        Origin::Time(m) => match b {
+            Origin::Time(n) => m == n,
+            _ => false,
+        },
     }
 }
 
@@ -168,13 +145,9 @@ fn parent_reaches(
 fn counts(shards: &Streams, table: &Table, stream: StreamNo, shard: &Shard, from: Origin) -> bool
     ensures { (log : Journal) → Shows shards.now log → result ≡ same_origin (counting_from log table.now stream shard.now from) from }
 {
-    if parent_reaches(shards, table, stream, shard.parent)
-        || parent_reaches(shards, table, stream, shard.adjacent)
-    {
-        matches!(from, Origin::TrimHorizon)
-    } else {
-        true
-    }
+    // borrowed, so that it can be handed on more than once
+    let from = &from;
+    same_start(counting(shards, table, stream, shard, *from), *from)
 }
 
 /// A making of a row is good, and is added, where it has the origin that counts.
