@@ -1,5 +1,5 @@
 -- What an entry, and a clock, make of all that a judge knows.
-use Rattle.std.proofs.Common.{◌≡◌, ◌≢◌, ℕ, ◌≤◌, List, ◌∷◌, Option, Some, None, refl, sym, ap, subst, ◌∙◌}
+use Rattle.std.proofs.Common.{◌≡◌, ℕ, ◌≤◌, List, ◌∷◌, sym, subst, ◌∙◌}
 use Rattle.std.specs.Prelude.{is_some, true, Result, Ok, Err, IfOk, OnOk, OnErr}
 use Rattle.kds_defs.proofs.Elsewhere.{of_some}
 use Rattle.kds_defs.specs.declared.entry.Entry.{Entry}
@@ -18,8 +18,7 @@ use Rattle.kcl_audit_streams.specs.Standing.{Shows, StreamsValue}
 use Rattle.kcl_audit_judge.specs.Standing.{JudgeValue, Holds, judge}
 use Rattle.kcl_audit_judge.specs.Standing as judging
 use Rattle.kcl_audit_streams.specs.Verdict.{Verdict, judged}
-use Rattle.kcl_audit_judge.proofs.StreamsAfter.{shows_after}
-use Rattle.kcl_audit_judge.proofs.StreamVerdicts.{stream_told}
+use Rattle.kcl_audit_judge.proofs.StreamsAfter.{shows_after, stream_told}
 
 -- ---- another clock
 

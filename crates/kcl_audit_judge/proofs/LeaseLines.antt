@@ -1,28 +1,26 @@
 -- The line that a command on leases gives, if it is accepted, and what a judge makes of it.
-use Rattle.std.proofs.Common.{◌≡◌, ℕ, ◌+◌, ◌-◌, ◌≤◌, ◌≢◌, length, Bool, true, false, List, [], ◌∷◌, Option, Some, None, refl, sym, ap, subst, ◌∙◌, arith}
+use Rattle.std.proofs.Common.{◌≡◌, ℕ, ◌+◌, ◌-◌, ◌≤◌, ◌≢◌, length, true, false, List, [], ◌∷◌, Option, Some, None, refl, sym, ap, subst, ◌∙◌, arith}
 use Rattle.std.proofs.lemmas.Bool.Decides.{nat_tests}
-use Rattle.std.specs.Prelude.{◌==◌, ◌||◌, is_some, not, if◌then◌else◌, Result, Ok, Err}
+use Rattle.std.specs.Prelude.{◌==◌, ◌||◌, is_some, if◌then◌else◌, Result, Ok, Err}
 use Rattle.kds_base.specs.declared.lease_key.ShardRef.{ShardRef}
 use Rattle.kds_defs.specs.declared.command.Command.{Command}
 use Rattle.kds_defs.specs.declared.command.Command.TheVariants as command
 use Rattle.kds_defs.specs.declared.command.Origin.{Origin}
 use Rattle.kds_defs.specs.declared.command.Origin.TheVariants as origin
 use Rattle.kds_defs.specs.declared.command.Target.{Target}
-use Rattle.kds_defs.specs.declared.command.Target.TheVariants as target
 use Rattle.kds_defs.specs.declared.entry.Entry.{Entry}
 use Rattle.kds_defs.specs.declared.entry.Entry.TheVariants as entry
 use Rattle.kds_defs.specs.declared.reply.Refusal.{Refusal}
 use Rattle.kds_defs.specs.declared.reply.Refusal.TheVariants as refusal
 use Rattle.kds_defs.specs.declared.reply.Reply.{Reply}
-use Rattle.kds_defs.specs.declared.reply.Reply.TheVariants as reply
-use Rattle.kds_defs.specs.Decision.{Decision, Refused, Accepted, refuse◌if◌else◌, with◌or◌then◌}
+use Rattle.kds_defs.specs.Decision.{Decision, Refused, Accepted}
 use Rattle.kcl_laws.specs.ShownLines.{entry_line}
 use Rattle.kds_defs.specs.Legal.{told}
 use Rattle.kds_defs.specs.Histories.{answer_of, decide, lines_of}
 use Rattle.kds_defs.specs.Journal.{Journal, Line, plain_line, with_lines}
 use Rattle.kds_defs.specs.Keys.{is_listed_key, ref}
-use Rattle.kds_defs.specs.LeaseCommands.{counting_origin, parent_reaches_end, row_reaches_end, make_lease, take_lease, renew, free, open_shard, give, mark, cut_lease, past_target, past_parent, past_parents, with_held}
-use Rattle.kds_defs.specs.Leases.{TenureState, row, taken_count}
+use Rattle.kds_defs.specs.LeaseCommands.{counting_origin, parent_reaches_end, row_reaches_end, take_lease}
+use Rattle.kds_defs.specs.Leases.{row, taken_count}
 use Rattle.kds_defs.specs.StreamCommands.{last_number}
 use Rattle.kcl_book.specs.Tenures.{TenureValue}
 use Rattle.kcl_leases.proofs.RowWrites.{is_shard, take_allowed, take_refused}
@@ -30,12 +28,13 @@ use Rattle.kcl_leases.specs.Conditions.{counting_from, parent_reaches, start_ans
 use Rattle.kcl_table.specs.Rows.{row_of}
 use Rattle.kds_base.specs.declared.lease_key.Checkpoint.{Checkpoint}
 use Rattle.kds_defs.specs.declared.reply.Row.{Row}
-use Rattle.kds_defs.specs.Shards.{ShardState, adjacent_of, parent_of, shard_at, shown}
+use Rattle.kds_defs.specs.Shards.{adjacent_of, parent_of, shard_at, shown}
 use Rattle.kds_defs.specs.Streams.{is_live}
 use Rattle.kds_defs.specs.declared.reply.Shard.{Shard}
 use Rattle.std.specs.Option.{option_map}
-use Rattle.kds_base.proofs.Facts.{equal_unless}
+use Rattle.kds_base.proofs.Facts.{equal_unless, is_other}
 use Rattle.kds_defs.proofs.Keys.{key_itself}
+use Rattle.kds_defs.proofs.Walk.{Adds, Answers, Outcome, Surveys, Takes, accepted}
 use Rattle.kcl_leases.specs.Standing.{Facing, Leads, LeasesValue, Stands, leases, live_shard}
 use Rattle.kcl_audit_streams.specs.declared.rule.Rule.TheVariants as rule
 use Rattle.kcl_audit_streams.specs.Judging.{agrees}
@@ -50,63 +49,34 @@ abbrev pub GivesLine : Decision → Line → Type 0
 GivesLine (Refused r) line = Unit {0}
 GivesLine (Accepted lines reply) line = lines ≡ line ∷ []
 
-refuse_line : (r : Refusal) (b : Bool) (d : Decision) (line : Line) → GivesLine d line → GivesLine (refuse r if b else d) line
-unfolding refuse◌if◌else◌
-refuse_line r true d line h = tt
-refuse_line r false d line h = h
-
-with_line : {A : Type 0} (o : Option A) (r : Refusal) (f : A → Decision) (line : Line) → ((x : A) → GivesLine (f x) line) → GivesLine (with o or r then f) line
-unfolding with◌or◌then◌
-with_line None r f line h = tt
-with_line (Some x) r f line h = h x
-
 -- ---- each command
 
-pub make_line : (log : Journal) (c by : ℕ) (key : ShardRef) (from : Origin) → counting_origin log key from ≡ from → GivesLine (make_lease log c by key from) (plain_line c by (entry.LeaseMade key from))
-make_line log c by key from is = refuse_line _ _ _ _ (refuse_line _ _ _ _ (ap (λ (o : Origin). plain_line c by (entry.LeaseMade key o) ∷ []) is))
+-- the line of a command on leases that gives just one; what other commands give is left open
+abbrev its_lines : Journal → ℕ → ℕ → Command → List Line → List Line
+its_lines log c by (command.MakeLease key from) lines = plain_line c by (entry.LeaseMade key (counting_origin log key from)) ∷ []
+its_lines log c by (command.Take key counter owner) lines = plain_line c by (entry.Taken key (taken_count log + 1) (counter + 1) owner) ∷ []
+its_lines log c by (command.Renew t counter) lines = plain_line c by (entry.Renewed t (counter + 1)) ∷ []
+its_lines log c by (command.Free t counter) lines = plain_line c by (entry.Freed t (counter + 1)) ∷ []
+its_lines log c by (command.OpenShard t) lines = plain_line c by (entry.Opened t) ∷ []
+its_lines log c by (command.Give t) lines = plain_line c by (entry.Given t) ∷ []
+its_lines log c by (command.Mark t counter to) lines = plain_line c by (entry.Marked t (counter + 1) to) ∷ []
+its_lines log c by (command.CutLease key counter) lines = plain_line c by (entry.LeaseCut key counter) ∷ []
+its_lines log c by _ lines = lines
 
--- past a test that did not refuse
-refuse_if : (r : Refusal) (b : Bool) (d : Decision) (line : Line) → (b ≡ false → GivesLine d line) → GivesLine (refuse r if b else d) line
-unfolding refuse◌if◌else◌
-refuse_if r true d line h = tt
-refuse_if r false d line h = h refl
+one_line : (log : Journal) (c by : ℕ) (what : Command) (lines : List Line) (r : Reply) → Outcome log c by what lines (Ok r)
+    → lines ≡ its_lines log c by what lines
+one_line log c by _ _ _ (Adds _ _ _ (Takes key counter owner r there same fits)) =
+    ap (λ (n : ℕ). plain_line c by (entry.Taken key (taken_count log + 1) (n + 1) owner) ∷ []) (equal_unless r.counter counter same)
+one_line log c by _ _ _ (Answers _ _ (Surveys keys rows)) = refl
+one_line log c by _ _ _ _ = refl
 
-pub take_line : (log : Journal) (c by counter owner : ℕ) (key : ShardRef) → GivesLine (take_lease log c by key counter owner) (plain_line c by (entry.Taken key (taken_count log + 1) (counter + 1) owner))
-take_line log c by counter owner key = with_line (row log key) refusal.NoLease _ _ (λ r. refuse_if (refusal.Moved r.counter) (not (r.counter == counter)) _ _ (λ same.
-    refuse_line _ _ _ _ (refuse_line _ _ _ _ (ap (λ (n : ℕ). plain_line c by (entry.Taken key (taken_count log + 1) (n + 1) owner) ∷ []) (equal_unless r.counter counter same)))))
-
-pub held_line : (log : Journal) (by t : ℕ) (next : TenureState → Decision) (line : Line) → ((T : TenureState) → GivesLine (next T) line) → GivesLine (with_held log by t next) line
-held_line log by t next line h = with_line _ _ _ _ (λ T. refuse_line _ _ _ _ (refuse_line _ _ _ _ (h T)))
-
-pub renew_line : (log : Journal) (c by t counter : ℕ) → GivesLine (renew log c by t counter) (plain_line c by (entry.Renewed t (counter + 1)))
-renew_line log c by t counter = held_line log by t _ _ (λ T. refuse_line _ _ _ _ (refuse_line _ _ _ _ refl))
-
-pub free_line : (log : Journal) (c by t counter : ℕ) → GivesLine (free log c by t counter) (plain_line c by (entry.Freed t (counter + 1)))
-free_line log c by t counter = held_line log by t _ _ (λ T. refuse_line _ _ _ _ (refuse_line _ _ _ _ refl))
-
-parent_line : (log : Journal) (c s : ℕ) (p : Option ℕ) (d : Decision) (line : Line) → GivesLine d line → GivesLine (past_parent log c s p d) line
-parent_line log c s None d line h = h
-parent_line log c s (Some n) d line h = refuse_line _ _ _ _ h
-
-parents_line : (log : Journal) (c s : ℕ) (o : Option ShardState) (d : Decision) (line : Line) → GivesLine d line → GivesLine (past_parents log c s o d) line
-parents_line log c s None d line h = h
-parents_line log c s (Some x) d line h = parent_line log c s x.parent _ line (parent_line log c s x.adjacent d line h)
-
-pub open_line : (log : Journal) (c by t : ℕ) → GivesLine (open_shard log c by t) (plain_line c by (entry.Opened t))
-open_line log c by t = held_line log by t _ _ (λ T. refuse_line _ _ _ _ (refuse_line _ _ _ _ (parents_line log c T.key.stream (shard_at log T.key.stream T.key.shard) (Accepted (plain_line c by (entry.Opened t) ∷ []) reply.Done) (plain_line c by (entry.Opened t)) refl)))
-
-pub give_line : (log : Journal) (c by t : ℕ) → GivesLine (give log c by t) (plain_line c by (entry.Given t))
-give_line log c by t = with_line _ _ _ _ (λ T. refuse_line _ _ _ _ (refuse_line _ _ _ _ refl))
-
-target_line : (log : Journal) (T : TenureState) (to : Target) (d : Decision) (line : Line) → GivesLine d line → GivesLine (past_target log T to d) line
-target_line log T (target.At q) d line h = refuse_line _ _ _ _ (refuse_line _ _ _ _ (refuse_line _ _ _ _ h))
-target_line log T target.End d line h = refuse_line _ _ _ _ h
-
-pub mark_line : (log : Journal) (c by t counter : ℕ) (to : Target) → GivesLine (mark log c by t counter to) (plain_line c by (entry.Marked t (counter + 1) to))
-mark_line log c by t counter to = held_line log by t _ _ (λ T. refuse_line _ _ _ _ (target_line log T to _ _ (refuse_line _ _ _ _ refl)))
-
-pub cut_line : (log : Journal) (c by counter : ℕ) (key : ShardRef) → GivesLine (cut_lease log c by key counter) (plain_line c by (entry.LeaseCut key counter))
-cut_line log c by counter key = with_line _ _ _ _ (λ r. refuse_line _ _ _ _ (refuse_line _ _ _ _ refl))
+gives_line : (log : Journal) (c by : ℕ) (what : Command) (line : Line) → ((lines : List Line) → its_lines log c by what lines ≡ line ∷ [])
+    → GivesLine (decide log c by what) line
+gives_line log c by what line is = of_decision (decide log c by what) refl
+  where
+    of_decision : (d : Decision) → decide log c by what ≡ d → GivesLine d line
+    of_decision (Refused r) e = tt
+    of_decision (Accepted lines r) e = one_line log c by what lines r (accepted log c by what lines r e) ∙ is lines
 
 -- ---- the judgement
 
@@ -155,29 +125,36 @@ entry_by old new by cmd answer e v log is leads st tells gives =
     (is ∙ l.0 ∙ ap (λ d. judged d e) (sym tells), subst (λ (w : Verdict). After w new line log) (sym is) l.1)
 
 module _ (old new : LeasesValue) (by : ℕ) (answer : Result Reply Refusal) (v : Verdict) (is : v ≡ answer_verdict answer) (log : Journal) (st : Stands old log) where
+  -- by its command, which gives the entry's line
+  given_by : (cmd : Command) (e : Entry) → Leads old new by cmd answer → told log (entry_line old.shards.clock by e) e ≡ decide log old.shards.clock by cmd
+      → ((lines : List Line) → its_lines log old.shards.clock by cmd lines ≡ entry_line old.shards.clock by e ∷ []) → Judges old new by e v log
+  given_by cmd e leads tells gives =
+      entry_by old new by cmd answer e v log is leads st tells (gives_line log old.shards.clock by cmd (entry_line old.shards.clock by e) gives)
+
   pub made_entry : (key : ShardRef) (from : Origin) → counting_origin log key from ≡ from → Leads old new by (command.MakeLease key from) answer → Judges old new by (entry.LeaseMade key from) v log
-  made_entry key from counts leads = entry_by old new by (command.MakeLease key from) answer (entry.LeaseMade key from) v log is leads st refl (make_line log old.shards.clock by key from counts)
+  made_entry key from counts leads = given_by (command.MakeLease key from) (entry.LeaseMade key from) leads refl
+      (λ ls. ap (λ (o : Origin). plain_line old.shards.clock by (entry.LeaseMade key o) ∷ []) counts)
 
   pub renewed_entry : (t n : ℕ) → 1 ≤ n → Leads old new by (command.Renew t (n - 1)) answer → Judges old new by (entry.Renewed t n) v log
-  renewed_entry t n some leads = entry_by old new by (command.Renew t (n - 1)) answer (entry.Renewed t n) v log is leads st refl
-      (subst (λ (m : ℕ). GivesLine (renew log old.shards.clock by t (n - 1)) (plain_line old.shards.clock by (entry.Renewed t m))) (one_less n some) (renew_line log old.shards.clock by t (n - 1)))
+  renewed_entry t n some leads = given_by (command.Renew t (n - 1)) (entry.Renewed t n) leads refl
+      (λ ls. ap (λ (m : ℕ). plain_line old.shards.clock by (entry.Renewed t m) ∷ []) (one_less n some))
 
   pub freed_entry : (t n : ℕ) → 1 ≤ n → Leads old new by (command.Free t (n - 1)) answer → Judges old new by (entry.Freed t n) v log
-  freed_entry t n some leads = entry_by old new by (command.Free t (n - 1)) answer (entry.Freed t n) v log is leads st refl
-      (subst (λ (m : ℕ). GivesLine (free log old.shards.clock by t (n - 1)) (plain_line old.shards.clock by (entry.Freed t m))) (one_less n some) (free_line log old.shards.clock by t (n - 1)))
+  freed_entry t n some leads = given_by (command.Free t (n - 1)) (entry.Freed t n) leads refl
+      (λ ls. ap (λ (m : ℕ). plain_line old.shards.clock by (entry.Freed t m) ∷ []) (one_less n some))
 
   pub opened_entry : (t : ℕ) → Leads old new by (command.OpenShard t) answer → Judges old new by (entry.Opened t) v log
-  opened_entry t leads = entry_by old new by (command.OpenShard t) answer (entry.Opened t) v log is leads st refl (open_line log old.shards.clock by t)
+  opened_entry t leads = given_by (command.OpenShard t) (entry.Opened t) leads refl (λ ls. refl)
 
   pub given_entry : (t : ℕ) → Leads old new by (command.Give t) answer → Judges old new by (entry.Given t) v log
-  given_entry t leads = entry_by old new by (command.Give t) answer (entry.Given t) v log is leads st refl (give_line log old.shards.clock by t)
+  given_entry t leads = given_by (command.Give t) (entry.Given t) leads refl (λ ls. refl)
 
   pub marked_entry : (t n : ℕ) (to : Target) → 1 ≤ n → Leads old new by (command.Mark t (n - 1) to) answer → Judges old new by (entry.Marked t n to) v log
-  marked_entry t n to some leads = entry_by old new by (command.Mark t (n - 1) to) answer (entry.Marked t n to) v log is leads st refl
-      (subst (λ (m : ℕ). GivesLine (mark log old.shards.clock by t (n - 1) to) (plain_line old.shards.clock by (entry.Marked t m to))) (one_less n some) (mark_line log old.shards.clock by t (n - 1) to))
+  marked_entry t n to some leads = given_by (command.Mark t (n - 1) to) (entry.Marked t n to) leads refl
+      (λ ls. ap (λ (m : ℕ). plain_line old.shards.clock by (entry.Marked t m to) ∷ []) (one_less n some))
 
   pub cut_entry : (key : ShardRef) (n : ℕ) → Leads old new by (command.CutLease key n) answer → Judges old new by (entry.LeaseCut key n) v log
-  cut_entry key n leads = entry_by old new by (command.CutLease key n) answer (entry.LeaseCut key n) v log is leads st refl (cut_line log old.shards.clock by n key)
+  cut_entry key n leads = given_by (command.CutLease key n) (entry.LeaseCut key n) leads refl (λ ls. refl)
 
 -- ---- a making, whose origin is to be the one that counts
 
@@ -238,7 +215,8 @@ module _ (s : Facing) (rs : List Row) (ts : List TenureValue) (by : ℕ) (key : 
 
 module _ (s : Facing) (rs : List Row) (ts : List TenureValue) (by : ℕ) (key : ShardRef) (t n owner : ℕ) (some : 1 ≤ n) (log : Journal) (st : Stands (leases s rs ts) log) where
   its_line : GivesLine (take_lease log s.clock by key (n - 1) owner) (plain_line s.clock by (entry.Taken key (taken_count log + 1) n owner))
-  its_line = subst (λ (m : ℕ). GivesLine (take_lease log s.clock by key (n - 1) owner) (plain_line s.clock by (entry.Taken key (taken_count log + 1) m owner))) (one_less n some) (take_line log s.clock by (n - 1) owner key)
+  its_line = gives_line log s.clock by (command.Take key (n - 1) owner) _
+      (λ ls. ap (λ (m : ℕ). plain_line s.clock by (entry.Taken key (taken_count log + 1) m owner) ∷ []) (one_less n some))
 
   pub taken_refused : (r : Refusal) → Err r ≡ start_answer (row_of rs key) (n - 1) (length ts == last_number) → Judges (leases s rs ts) (leases s rs ts) by (entry.Taken key t n owner) (Err (rule.By r)) log
   taken_refused r h =
@@ -247,12 +225,9 @@ module _ (s : Facing) (rs : List Row) (ts : List TenureValue) (by : ℕ) (key : 
   pub taken_other : (start : Checkpoint) → Ok start ≡ start_answer (row_of rs key) (n - 1) (length ts == last_number) → t ≢ length ts + 1 → Judges (leases s rs ts) (leases s rs ts) by (entry.Taken key t n owner) (Err rule.Entry) log
   taken_other start h other =
       let allowed = take_allowed s rs ts by key (n - 1) owner start h log st in
-      let apart : ((taken_count log + 1) == t) ≡ false = differ (taken_count log + 1) t (λ e. other (sym e ∙ ap (λ m. m + 1) st.count_is)) in
+      let apart : ((taken_count log + 1) == t) ≡ false = is_other (taken_count log + 1) t (λ e. other (sym e ∙ ap (λ m. m + 1) st.count_is)) in
       let no : same_entry (entry.Taken key (taken_count log + 1) n owner) (entry.Taken key t n owner) ≡ false = rw (key_itself key, apart) refl in
       (judged_other (take_lease log s.clock by key (n - 1) owner) (plain_line s.clock by (entry.Taken key (taken_count log + 1) n owner)) (entry.Taken key t n owner) allowed.0 its_line allowed.1 no, (tt, st))
-    where
-      differ : (a b : ℕ) → a ≢ b → (a == b) ≡ false
-      differ a b h = grind (arith, nat_tests)
 
   pub taken_entry : (new : LeasesValue) (answer : Result Reply Refusal) (v : Verdict) → v ≡ answer_verdict answer → t ≡ length ts + 1 → Leads (leases s rs ts) new by (command.Take key (n - 1) owner) answer
       → Judges (leases s rs ts) new by (entry.Taken key t n owner) v log

@@ -3,7 +3,4 @@ pub mod GoodLines
 pub mod LeaseLines
 pub mod LiveStreams
 pub mod ReadTold
-pub mod StreamSteps
-pub mod StreamVerdicts
 pub mod StreamsAfter
-pub mod Verdicts

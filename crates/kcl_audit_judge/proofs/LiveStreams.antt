@@ -17,7 +17,7 @@ use Rattle.kcl_audit_streams.specs.Judging.{agrees, is_named, lacks_room, live_c
 use Rattle.kcl_audit_streams.specs.Standing.{AreStreams, IsStream, ShowsAll, StreamValue}
 use Rattle.kcl_audit_streams.specs.Verdict.{Verdict, judged, same_entry}
 use Rattle.kcl_audit_streams.proofs.SameEntries.{list}
-use Rattle.kcl_audit_streams.proofs.StreamTold.{then_refuse}
+use Rattle.kcl_audit_streams.proofs.StreamTold.{swapped, then_refuse}
 
 -- the live ones of these numbers
 abbrev live_from : Journal → ℕ → ℕ → List ℕ
@@ -98,9 +98,6 @@ module _ (log : Journal) (vs : List StreamValue) (sh : ShowsAll vs log) where
   and_end : (b : Bool) → (b && (true && true)) ≡ b
   and_end true = refl
   and_end false = refl
-
-  swapped : (a b : ℕ) → (a == b) ≡ (b == a)
-  swapped a b = grind (arith, nat_tests)
 
   same_made : (n s count : ℕ) (name : List ℕ) → same_entry (entry.Made n name count) (entry.Made s name count) ≡ (s == n)
   same_made n s count name = rw (list name, is_itself count) (and_end (n == s)) ∙ swapped n s

@@ -1,6 +1,6 @@
 -- What the entry of a read tells, by what a judge keeps.
 use Rattle.std.proofs.Common.{◌≡◌, ℕ, ◌-◌, Bool, true, false, List, [], ◌∷◌, map, slice_set, Option, Some, None, refl, sym, ap, subst, ◌∙◌}
-use Rattle.std.specs.Prelude.{◌==◌, ◌&&◌, slice_get, Ok, Err, IfSome}
+use Rattle.std.specs.Prelude.{◌&&◌, slice_get, Ok, Err, IfSome}
 use Rattle.std.specs.Option.{option_map}
 use Rattle.kds_defs.specs.declared.command.Command.TheVariants as command
 use Rattle.kds_defs.specs.declared.entry.Entry.TheVariants as entry
@@ -17,7 +17,7 @@ use Rattle.kds_defs.specs.Legal.{reach_in, told}
 use Rattle.kds_defs.specs.Listings.{are_none, ends_at, is_closed_at}
 use Rattle.kds_defs.specs.declared.reply.Stored.{Stored}
 use Rattle.kds_defs.specs.Records.{batch, beginning, left_among, numbers_of, place_after, stored}
-use Rattle.kds_base.proofs.Facts.{equal_so, is_itself}
+use Rattle.kds_base.proofs.Facts.{is_itself}
 use Rattle.kds_defs.proofs.Counted.{numbers_stored}
 use Rattle.kcl_book.specs.declared.tenure.Tenure.{Tenure}
 use Rattle.kcl_book.specs.Tenures.{TenureValue, tenure_at, with_read}
@@ -31,28 +31,13 @@ use Rattle.kcl_audit_streams.specs.Standing.{IsStream, Shows, StreamValue, Strea
 use Rattle.kcl_audit_judge.specs.Standing.{Judges}
 use Rattle.kcl_audit_streams.specs.Verdict.{judged, same_entry, same_flag, same_list}
 use Rattle.kcl_audit_streams.proofs.BatchTold.{batch_is, ends_is}
-use Rattle.kcl_audit_streams.proofs.Keys.{live_is, stream_found}
+use Rattle.kcl_audit_streams.proofs.Keys.{live_found, stream_found}
+use Rattle.kcl_audit_streams.proofs.SameEntries.{flag_so, list_so}
 use Rattle.kcl_audit_judge.proofs.LeaseLines.{judged_refused}
-use Rattle.kcl_audit_streams.proofs.FoundStreams.{live_found}
 
 reach_same : (o : Option TenureState) → reach_in o ≡ reach_of (option_map kept o)
 reach_same None = refl
 reach_same (Some T) = refl
-
-flag_so : (a b : Bool) → same_flag a b ≡ true → a ≡ b
-flag_so true b h = sym h
-flag_so false true h = absurd cc
-flag_so false false h = refl
-
-list_so : (a b : List ℕ) → same_list a b ≡ true → a ≡ b
-list_so [] [] h = refl
-list_so [] (y ∷ b) h = absurd cc
-list_so (x ∷ a) [] h = absurd cc
-list_so (x ∷ a) (y ∷ b) h = by (x == y) refl (list_so a b) h
-  where
-    by : (c : Bool) → (x == y) ≡ c → (same_list a b ≡ true → a ≡ b) → (c && same_list a b) ≡ true → x ∷ a ≡ y ∷ b
-    by true e rest h = ap (λ z. z ∷ a) (equal_so x y e) ∙ ap (λ zs. y ∷ zs) (rest h)
-    by false e rest h = absurd cc
 
 module _ (w : StreamsValue) (rs : List Row) (ts : List TenureValue) (by t limit position : ℕ) (ended : Bool) (ns : List ℕ) (place : position ≡ reach_of (tenure_at ts t))
     (log : Journal) (st : Stands (leases (facing w.clock (Shows w)) rs ts) log) where
@@ -72,15 +57,18 @@ module _ (w : StreamsValue) (rs : List Row) (ts : List TenureValue) (by t limit 
       (ms : List ℕ) (ms_are : ms ≡ numbers_of (beginning limit BATCH_BYTES (left_among (floor_in v w.clock) position (records_in v.records y.key.shard))))
       (e : Bool) (e_is : e ≡ (is_closed_at (slice_get v.tree y.key.shard) && are_none (left_among (floor_in v w.clock) (place_after position ms) (records_in v.records y.key.shard)))) where
     shown_stream : IsStream log y.key.stream v
-    shown_stream = stream_found w log y.key.stream v st.shows (live_found (stream_at w.streams y.key.stream) v live)
+    shown_stream = stream_found w log y.key.stream v st.shows (live_found (stream_at w.streams y.key.stream) v live).0
+
+    its_live : v.live ≡ true
+    its_live = (live_found (stream_at w.streams y.key.stream) v live).1
 
     pub numbers_are : ms ≡ numbers_of (batch log w.clock y.key.stream y.key.shard position limit)
-    numbers_are = ms_are ∙ sym (batch_is log w.clock y.key.stream y.key.shard position limit v shown_stream (live_is (stream_at w.streams y.key.stream) v live) st.shows.order)
+    numbers_are = ms_are ∙ sym (batch_is log w.clock y.key.stream y.key.shard position limit v shown_stream its_live st.shows.order)
 
     pub end_is : e ≡ ends_at log w.clock y.key.stream y.key.shard (place_after position (numbers_of (batch log w.clock y.key.stream y.key.shard position limit)))
     end_is =
         e_is
-        ∙ sym (ends_is log w.clock y.key.stream y.key.shard (place_after position ms) v shown_stream (live_is (stream_at w.streams y.key.stream) v live) st.shows.order)
+        ∙ sym (ends_is log w.clock y.key.stream y.key.shard (place_after position ms) v shown_stream its_live st.shows.order)
         ∙ ap (λ ls. ends_at log w.clock y.key.stream y.key.shard (place_after position ls)) numbers_are
 
     -- the line that is given

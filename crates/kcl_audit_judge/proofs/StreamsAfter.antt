@@ -1,6 +1,7 @@
--- The streams after a good entry of one of them.
-use Rattle.std.proofs.Common.{◌≡◌, ◌≢◌, ℕ, zero, suc, ◌+◌, ◌-◌, ◌<◌, ◌≤◌, List, [], ◌∷◌, ◌++◌, length, slice_get, Some, None, refl, sym, ap, subst, ◌∙◌, arith}
-use Rattle.std.specs.Prelude.{Ok}
+-- The verdict of each entry of a stream, by what a judge keeps, and the streams after a good one.
+use Rattle.std.proofs.Common.{◌≡◌, ◌≢◌, ℕ, zero, suc, ◌+◌, ◌-◌, ◌<◌, ◌≤◌, Bool, true, false, List, [], ◌∷◌, ◌++◌, length, slice_get}
+use Rattle.std.proofs.Common.{Option, Some, None, refl, sym, ap, subst, ◌∙◌, arith}
+use Rattle.std.specs.Prelude.{if◌then◌else◌, Ok}
 use Rattle.std.proofs.lemmas.List.{length-append}
 use Rattle.std.proofs.lemmas.Option.{slice_get_within}
 use Rattle.kds_base.proofs.Facts.{equal_so}
@@ -9,17 +10,42 @@ use Rattle.kds_defs.specs.declared.entry.Entry.{Entry}
 use Rattle.kds_defs.specs.declared.entry.Entry.TheVariants as entry
 use Rattle.kcl_laws.specs.ShownLines.{entry_line}
 use Rattle.kds_defs.specs.Journal.{Line, Journal}
-use Rattle.kds_defs.specs.Legal.{last_clock}
+use Rattle.kds_defs.specs.Legal.{last_clock, told}
 use Rattle.kds_defs.specs.Streams.{made_count}
 use Rattle.kds_defs.specs.Subjects.{stream_of}
-use Rattle.kcl_audit_streams.specs.Judging.{changed_at, lacks_room, made_refusal, merge_verdict, new_stream, put_verdict, split_verdict}
-use Rattle.kcl_audit_streams.specs.Judging.{stream_verdict, streams_after, with_gone, with_hours, with_limits, with_merge, with_put, with_split}
-use Rattle.kcl_audit_streams.specs.Standing.{AreStreams, IsStream, Shows, ShowsAll, StreamValue, StreamsValue}
-use Rattle.kcl_audit_streams.specs.Verdict.{Verdict}
-use Rattle.kcl_audit_streams.proofs.Changed.{IsOf, agrees_so, is_of, merge_draws, past_by, split_draws}
-use Rattle.kcl_audit_streams.proofs.Keys.{stream_get}
+use Rattle.kcl_audit_streams.specs.Judging.{changed_at, changed_of, entry_verdict, in_its, in_live, lacks_room, made_refusal, new_stream, stream_verdict}
+use Rattle.kcl_audit_streams.specs.Judging.{streams_after, with_entry}
+use Rattle.kcl_audit_streams.specs.Standing.{AreStreams, IsStream, Shows, ShowsAll, StreamValue, StreamsValue, if_live, stream_at}
+use Rattle.kcl_audit_streams.specs.Verdict.{Verdict, judged}
+use Rattle.kcl_audit_streams.proofs.Changed.{IsOf, agrees_so, is_of, past_by}
+use Rattle.kcl_audit_streams.proofs.Keys.{stream_found, stream_get, stream_none}
 use Rattle.kcl_audit_streams.proofs.Others.{stream_other}
-use Rattle.kcl_audit_judge.proofs.StreamSteps.{gone_step, kept_step, limits_step, made_step, merge_step, put_step, split_step}
+use Rattle.kcl_audit_streams.proofs.StreamSteps.{IsLater, made_kept, made_step, stream_step}
+use Rattle.kcl_audit_streams.proofs.StreamTold.{gone_told, live_told}
+use Rattle.kcl_audit_judge.proofs.LiveStreams.{full_is, made_told}
+
+-- ---- the verdict
+
+-- an entry of a stream that may be live
+later_told : (w : StreamsValue) (log : Journal) (by : ℕ) (what : Entry) → Shows w log → IsLater what → (o : Option ℕ) → stream_of what ≡ o → o ≢ None
+    → judged (told log (entry_line w.clock by what) what) what ≡ in_its w.streams o (entry_verdict (lacks_room w.streams 1) w.clock what)
+later_told w log by what sh later None is of = absurd (of refl)
+later_told w log by what sh later (Some s) is of = found (stream_at w.streams s) refl
+  where
+    some : (v : StreamValue) (b : Bool) → IsStream log s v → v.live ≡ b → judged (told log (entry_line w.clock by what) what) what
+        ≡ in_live (if b then Some v else None) (entry_verdict (lacks_room w.streams 1) w.clock what)
+    some v true st live = live_told log w.clock by s what later is v (lacks_room w.streams 1) st live sh.order (full_is log w.streams sh.all)
+    some v false st live = gone_told log w.clock by s what later is (st.lives ∙ live)
+
+    found : (o : Option StreamValue) → stream_at w.streams s ≡ o → judged (told log (entry_line w.clock by what) what) what
+        ≡ in_live (if_live o) (entry_verdict (lacks_room w.streams 1) w.clock what)
+    found None at = gone_told log w.clock by s what later is (stream_none w log s sh at).gone
+    found (Some v) at = some v v.live (stream_found w log s v sh at) refl
+
+pub stream_told : (w : StreamsValue) (log : Journal) (by : ℕ) (what : Entry) → Shows w log → stream_of what ≢ None
+    → judged (told log (entry_line w.clock by what) what) what ≡ stream_verdict w.streams w.clock what
+stream_told w log by (entry.Made s name count) sh of = made_told log w.streams sh.all w.clock by s count name
+stream_told w log by what sh of = later_told w log by what sh tt (stream_of what) refl of
 
 -- ---- the list of the streams
 
@@ -104,49 +130,25 @@ its_stream vs log s f o sh =
     let at : 1 + (s - 1) ≡ s = omega (arith, some) in
     subst (λ m. IsStream log m o.value) at (stream_get log 1 (s - 1) vs o.value sh.streams o.at)
 
-pub all_after : (vs : List StreamValue) (log : Journal) (d by : ℕ) (what : Entry) → ShowsAll vs log → last_clock log ≤ d → stream_of what ≢ None
-    → stream_verdict vs d what ≡ Ok tt
-    → ShowsAll (streams_after d what vs) (entry_line d by what ∷ log)
+all_later : (vs : List StreamValue) (log : Journal) (d by : ℕ) (what : Entry) → ShowsAll vs log → last_clock log ≤ d → IsLater what
+    → (o : Option ℕ) → stream_of what ≡ o → o ≢ None → in_its vs o (entry_verdict (lacks_room vs 1) d what) ≡ Ok tt
+    → ShowsAll (changed_of o (with_entry d what) vs) (entry_line d by what ∷ log)
+all_later vs log d by what sh order later None is of good = absurd (of refl)
+all_later vs log d by what sh order later (Some s) is of good =
+    let f = entry_verdict (lacks_room vs 1) d what in
+    let o = is_of vs s f good in
+    shows_changed log (entry_line d by what) s order is vs f (with_entry d what) o (made_kept what (made_count log) later) sh
+    (stream_step d by s o.value log (lacks_room vs 1) what later is o.good order (its_stream vs log s f o sh))
+
+all_after : (vs : List StreamValue) (log : Journal) (d by : ℕ) (what : Entry) → ShowsAll vs log → last_clock log ≤ d → stream_of what ≢ None
+    → stream_verdict vs d what ≡ Ok tt → ShowsAll (streams_after d what vs) (entry_line d by what ∷ log)
 all_after vs log d by (entry.Made s name count) sh order of good =
     let p = past_by (made_refusal vs name count) _ good in
     let is = equal_so s (length vs + 1) (agrees_so _ p.1) in
     let beyond : length vs < s = omega (arith, is) in
     shows_made log (entry_line d by (entry.Made s name count)) s order refl vs (new_stream name count) is refl sh
     (made_step log d by s count name (sh.others s beyond))
-all_after vs log d by (entry.Gone s) sh order of good =
-    let f : StreamValue → Verdict = λ v. Ok tt in
-    let o = is_of vs s f good in
-    shows_changed log (entry_line d by (entry.Gone s)) s order refl vs f with_gone o refl sh (gone_step log d by s o.value order (its_stream vs log s f o sh))
-all_after vs log d by (entry.Put s shard n hash bytes key_bytes) sh order of good =
-    let f : StreamValue → Verdict = λ v. put_verdict v d shard n hash (bytes + key_bytes) in
-    let o = is_of vs s f good in
-    shows_changed log (entry_line d by (entry.Put s shard n hash bytes key_bytes)) s order refl vs f
-    (with_put (record { shard = shard; seq = n; arrival = d; bytes = bytes + key_bytes })) o refl sh
-    (put_step log d by s o.value order (its_stream vs log s f o sh) shard n hash bytes key_bytes)
-all_after vs log d by (entry.Split s shard at n low high) sh order of good =
-    let full = lacks_room vs 1 in
-    let f : StreamValue → Verdict = λ v. split_verdict v d shard at full n low high in
-    let o = is_of vs s f good in
-    let t = split_draws o.value d shard at full n low high o.good in
-    shows_changed log (entry_line d by (entry.Split s shard at n low high)) s order refl vs f (with_split d shard at n) o refl sh
-    (split_step log d by s o.value order (its_stream vs log s f o sh) shard at n low high t.1.0)
-all_after vs log d by (entry.Merged s shard other n child) sh order of good =
-    let f : StreamValue → Verdict = λ v. merge_verdict v d shard other n child in
-    let o = is_of vs s f good in
-    let t = merge_draws o.value d shard other n child o.good in
-    shows_changed log (entry_line d by (entry.Merged s shard other n child)) s order refl vs f (with_merge d shard other n) o refl sh
-    (merge_step log d by s o.value order (its_stream vs log s f o sh) shard other n child t.1.0)
-all_after vs log d by (entry.Kept s wanted) sh order of good =
-    let f : StreamValue → Verdict = λ v. Ok tt in
-    let o = is_of vs s f good in
-    shows_changed log (entry_line d by (entry.Kept s wanted)) s order refl vs f (with_hours d wanted) o refl sh
-    (kept_step log d by s o.value order (its_stream vs log s f o sh) wanted)
-all_after vs log d by (entry.Enforced s on) sh order of good =
-    let f : StreamValue → Verdict = λ v. Ok tt in
-    let o = is_of vs s f good in
-    shows_changed log (entry_line d by (entry.Enforced s on)) s order refl vs f (with_limits on) o refl sh
-    (limits_step log d by s o.value order (its_stream vs log s f o sh) on)
-all_after vs log d by _ sh order of good = absurd (of refl)
+all_after vs log d by what sh order of good = all_later vs log d by what sh order tt (stream_of what) refl of good
 
 -- and the clock
 pub shows_after : (old new : StreamsValue) (log : Journal) (by : ℕ) (what : Entry) → Shows old log → stream_of what ≢ None

@@ -3,7 +3,7 @@ use Rattle.std.proofs.Common.{◌≡◌, ℕ, zero, suc, ◌+◌, ◌-◌, ◌<�
 use Rattle.std.specs.Prelude.{◌==◌, ◌&&◌, cond, if◌then◌else◌, nat_le}
 use Rattle.std.specs.List.{AllByRecursion, filter}
 use Rattle.std.proofs.lemmas.List.{at_drop_more, drop_all, append-nil, append_assoc}
-use Rattle.kds_base.proofs.Facts.{is_le, is_above}
+use Rattle.kds_base.proofs.Facts.{all_filter, is_le, is_above}
 use Rattle.kds_defs.specs.Records.{Logged, beginning, is_left, left_among, numbers_of}
 use Rattle.kds_defs.proofs.Batches.{beginning_one, beginning_none}
 use Rattle.kcl_audit_streams.specs.declared.records.Sized.{Sized}
@@ -83,7 +83,7 @@ grows_all sh floor position xs i numbers left room whole le h =
 abbrev pub AreBelow : ℕ → List Sized → Type 0
 AreBelow top rs = AllByRecursion (λ (r : Sized). r.seq < top) rs
 
-abbrev below : ℕ → List Logged → Type 0
+abbrev pub below : ℕ → List Logged → Type 0
 below top rs = AllByRecursion (λ (r : Logged). r.seq < top) rs
 
 below_in : (top sh : ℕ) (rs : List Sized) → AreBelow top rs → below top (records_in rs sh)
@@ -94,15 +94,10 @@ below_in top sh (r ∷ rs) h = by (is_in sh r) (below_in top sh rs h.1)
     by true rest = (h.0, rest)
     by false rest = rest
 
-below_left : (top floor position : ℕ) (rs : List Logged) → below top rs → below top (left_among floor position rs)
-below_left top floor position [] h = tt
-below_left top floor position (r ∷ rs) h = by (is_left floor position r) (below_left top floor position rs h.1)
-  where
-    by : (b : Bool) → below top (left_among floor position rs) → below top (cond b (r ∷ left_among floor position rs) (left_among floor position rs))
-    by true rest = (h.0, rest)
-    by false rest = rest
+pub below_left : (top floor position : ℕ) (rs : List Logged) → below top rs → below top (left_among floor position rs)
+below_left top floor position rs h = all_filter (λ (r : Logged). r.seq < top) (is_left floor position) rs h
 
-below_beginning : (top limit room : ℕ) (rs : List Logged) → below top rs → below top (beginning limit room rs)
+pub below_beginning : (top limit room : ℕ) (rs : List Logged) → below top rs → below top (beginning limit room rs)
 below_beginning top zero room rs h = tt
 below_beginning top (suc limit) room [] h = tt
 below_beginning top (suc limit) room (r ∷ rs) h = by (nat_le r.bytes room) (below_beginning top limit (room - r.bytes) rs h.1)

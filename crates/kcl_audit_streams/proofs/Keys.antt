@@ -75,14 +75,14 @@ shard_by w log key (Some v) sh is = state_by log key v v.live (stream_found w lo
 pub shard_key : (w : StreamsValue) (log : Journal) (key : ShardRef) → Shows w log → shard_of (live_at w.streams key.stream) key.shard ≡ live_shard log key
 shard_key w log key sh = shard_by w log key (stream_at w.streams key.stream) sh refl
 
--- a live stream is live
-live_state : (o : Option StreamValue) (v : StreamValue) (b : Bool) (u : StreamValue) → u.live ≡ b → (if b then Some u else None) ≡ Some v → v.live ≡ true
-live_state o v true u is h = let same : u ≡ v = cc in ap (λ (x : StreamValue). x.live) (sym same) ∙ is
-live_state o v false u is h = absurd cc
+-- the live stream of a number is there, and is live
+live_by : (u v : StreamValue) (b : Bool) → u.live ≡ b → (if b then Some u else None) ≡ Some v → (Some u ≡ Some v) × (v.live ≡ true)
+live_by u v true is h = let same : u ≡ v = cc in (h, ap (λ (x : StreamValue). x.live) (sym same) ∙ is)
+live_by u v false is h = absurd cc
 
-pub live_is : (o : Option StreamValue) (v : StreamValue) → if_live o ≡ Some v → v.live ≡ true
-live_is None v h = absurd cc
-live_is (Some u) v h = live_state (Some u) v u.live u refl h
+pub live_found : (o : Option StreamValue) (v : StreamValue) → if_live o ≡ Some v → (o ≡ Some v) × (v.live ≡ true)
+live_found None v h = absurd cc
+live_found (Some u) v h = live_by u v u.live refl h
 
 pub shown_live : (v : StreamValue) (sh : ℕ) → v.live ≡ true
     → (if v.live then option_map shown (slice_get v.tree sh) else None) ≡ option_map shown (shard_of (Some v) sh)

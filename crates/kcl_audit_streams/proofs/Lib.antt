@@ -2,10 +2,10 @@ pub mod BatchSteps
 pub mod BatchTold
 pub mod Changed
 pub mod Floors
-pub mod FoundStreams
 pub mod Keys
 pub mod OrderSteps
 pub mod Others
 pub mod RateSteps
 pub mod SameEntries
+pub mod StreamSteps
 pub mod StreamTold

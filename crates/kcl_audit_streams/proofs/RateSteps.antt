@@ -8,7 +8,7 @@ use Rattle.kds_defs.specs.Rates.{SizedPut, bytes_of, is_same_second, is_throttle
 use Rattle.kcl_audit_streams.specs.declared.records.Sized.{Sized}
 use Rattle.kcl_audit_streams.specs.Standing.{is_in, puts_from, puts_in}
 
-abbrev sized : Sized → SizedPut
+abbrev pub sized : Sized → SizedPut
 sized r = record { clock = r.arrival; bytes = r.bytes }
 
 -- these were the puts so far, of which so many lie in the second, with so many bytes

@@ -1,53 +1,65 @@
 -- What the entry of a stream tells, by what a judge keeps of it.
-use Rattle.std.proofs.Common.{◌≡◌, ℕ, zero, suc, ◌+◌, ◌≤◌, Bool, true, false, List, length, slice_get, Option, Some, None, refl, sym, ap, ◌∙◌, arith}
-use Rattle.std.specs.Prelude.{◌==◌, ◌&&◌, ◌||◌, not, is_some, nat_lt, nat_le, if◌then◌else◌, Ok}
-use Rattle.std.specs.List.{filter}
+use Rattle.std.proofs.Common.{◌≡◌, ◌≢◌, ℕ, zero, suc, ◌+◌, ◌≤◌, Bool, true, false, List, length, slice_get, Option, Some, None}
+use Rattle.std.proofs.Common.{refl, sym, ap, subst, ◌∙◌, arith}
+use Rattle.std.specs.Prelude.{◌==◌, ◌&&◌, ◌||◌, not, is_some, nat_lt, nat_le, if◌then◌else◌, IfSome, Result, Ok}
+use Rattle.std.specs.List.{AllByRecursion, filter}
 use Rattle.std.proofs.lemmas.Bool.Decides.{nat_tests}
 use Rattle.kds_base.specs.Span.{are_adjacent, is_inside}
 use Rattle.kds_base.proofs.Facts.{is_itself, plus_none}
+use Rattle.kds_defs.specs.declared.command.NewItem.{NewItem}
 use Rattle.kds_defs.specs.declared.entry.Entry.{Entry}
 use Rattle.kds_defs.specs.declared.entry.Entry.TheVariants as entry
 use Rattle.kds_defs.specs.declared.reply.Refusal.{Refusal}
 use Rattle.kds_defs.specs.declared.reply.Refusal.TheVariants as refusal
+use Rattle.kds_defs.specs.declared.reply.Reply.{Reply}
 use Rattle.kds_defs.specs.Decision.{Decision, refuse◌if◌else◌}
 use Rattle.kcl_laws.specs.ShownLines.{blank, entry_line}
-use Rattle.kds_defs.specs.Journal.{Journal}
+use Rattle.kds_defs.specs.Journal.{Journal, Line}
 use Rattle.kds_defs.specs.Legal.{in_stream, item_of, last_clock, told}
 use Rattle.kds_defs.specs.PutCommands.{enforce, is_enforced, put}
 use Rattle.kds_defs.specs.Rates.{SizedPut, is_throttled, puts}
 use Rattle.kds_defs.specs.Records.{next_number}
 use Rattle.kds_defs.specs.declared.limits.TheConstants.{OPEN_SHARDS}
 use Rattle.kds_defs.specs.Shards.{ShardState, home, home_among, is_listed, is_listed_state, is_open, open_count, range_of, shard_at, shards}
-use Rattle.kds_defs.specs.StreamCommands.{delete, is_open_at, keep, last_number, merge, split}
+use Rattle.kds_defs.specs.StreamCommands.{delete, is_open_at, keep, last_number, merge, put_line, split}
 use Rattle.kds_defs.specs.Streams.{hours, is_live, trim_floor}
+use Rattle.kds_defs.specs.Subjects.{stream_of}
+use Rattle.kds_defs.proofs.Leads.{Leads, past_test}
 use Rattle.kds_tree.specs.Tree.{merge_refusal, split_refusal}
-use Rattle.kcl_audit_streams.specs.Judging.{agrees, home_in, put_verdict, refused, refused_by, split_verdict, merge_verdict}
+use Rattle.kcl_audit_streams.specs.Judging.{agrees, entry_verdict, home_in, put_verdict, refused, refused_by, split_verdict, merge_verdict}
 use Rattle.kcl_audit_streams.specs.Standing.{IsStream, StreamValue, floor_in, is_listed_in, is_listed_of}
 use Rattle.kcl_audit_streams.specs.Verdict.{Verdict, judged, same_entry}
-use Rattle.kcl_audit_streams.proofs.SameEntries.{flag}
+use Rattle.kcl_audit_streams.proofs.SameEntries.{same_refl}
+use Rattle.kcl_audit_streams.proofs.StreamSteps.{IsLater}
 
 -- ---- judgements of refusals
 
-pub judged_refuse : (r : Refusal) (b : Bool) (d : Decision) (what : Entry) → judged (refuse r if b else d) what ≡ (if b then refused r else judged d what)
-unfolding refuse◌if◌else◌
-judged_refuse r true d what = refl
-judged_refuse r false d what = refl
-
-pub then_refuse : (r : Refusal) (b : Bool) (d : Decision) (what : Entry) (x : Verdict) → judged d what ≡ x → judged (refuse r if b else d) what ≡ (if b then refused r else x)
+pub then_refuse : (r : Refusal) (b : Bool) (d : Decision) (what : Entry) (x : Verdict) → judged d what ≡ x
+    → judged (refuse r if b else d) what ≡ (if b then refused r else x)
 unfolding refuse◌if◌else◌
 then_refuse r true d what x h = refl
 then_refuse r false d what x h = h
 
--- a live stream
-pub judged_live : (log : Journal) (s : ℕ) (d : Decision) (what : Entry) → is_live log s ≡ true → judged (in_stream log s d) what ≡ judged d what
-judged_live log s d what live = judged_refuse refusal.NoStream (not (is_live log s)) d what ∙ ap (λ (b : Bool). if not b then refused refusal.NoStream else judged d what) live
+-- a stream that is live, or isn't
+judged_in : (log : Journal) (s : ℕ) (d : Decision) (what : Entry) (live : Bool) → is_live log s ≡ live
+    → judged (in_stream log s d) what ≡ (if live then judged d what else refused refusal.NoStream)
+judged_in log s d what true is = then_refuse refusal.NoStream (not (is_live log s)) d what (judged d what) refl ∙ rw is refl
+judged_in log s d what false is = then_refuse refusal.NoStream (not (is_live log s)) d what (judged d what) refl ∙ rw is refl
 
-pub judged_gone : (log : Journal) (s : ℕ) (d : Decision) (what : Entry) → is_live log s ≡ false → judged (in_stream log s d) what ≡ refused refusal.NoStream
-judged_gone log s d what gone = judged_refuse refusal.NoStream (not (is_live log s)) d what ∙ ap (λ (b : Bool). if not b then refused refusal.NoStream else judged d what) gone
+-- ---- the lines that a decision gives are those of entries
+
+abbrev AreLines : ℕ → ℕ → List Line → Result Reply Refusal → Type 0
+AreLines c by lines answer = AllByRecursion (λ (l : Line). l ≡ entry_line c by l.what) lines
+
+abbrev pub AreTold : ℕ → ℕ → Decision → Type 0
+AreTold c by d = Leads (AreLines c by) d
+
+pub past : (c by : ℕ) (r : Refusal) (b : Bool) (d : Decision) → AreTold c by d → AreTold c by (refuse r if b else d)
+past c by r b d next = past_test (AreLines c by) (λ q. tt) r b d (λ e. next)
 
 -- ---- a put
 
-pub length-blank : (n : ℕ) → length (blank n) ≡ n
+length-blank : (n : ℕ) → length (blank n) ≡ n
 length-blank zero = refl
 length-blank (suc n) = ap suc (length-blank n)
 
@@ -66,41 +78,32 @@ put_by clock size on ps h n same =
     if n == last_number then refused refusal.Spent else
     agrees same
 
-pub put_told : (log : Journal) (clock by s sh m hash bytes key_bytes : ℕ) (v : StreamValue) → IsStream log s v → v.live ≡ true
-    → judged (told log (entry_line clock by (entry.Put s sh m hash bytes key_bytes)) (entry.Put s sh m hash bytes key_bytes)) (entry.Put s sh m hash bytes key_bytes) ≡ put_verdict v clock sh m hash (bytes + key_bytes)
-put_told log clock by s sh m hash bytes key_bytes v st live =
+put_told : (log : Journal) (clock by s sh m hash bytes key_bytes : ℕ) (v : StreamValue) → IsStream log s v
+    → judged (put log clock by s (item_of (entry_line clock by (entry.Put s sh m hash bytes key_bytes)) hash)) (entry.Put s sh m hash bytes key_bytes)
+    ≡ put_verdict v clock sh m hash (bytes + key_bytes)
+put_told log clock by s sh m hash bytes key_bytes v st =
     let what : Entry = entry.Put s sh m hash bytes key_bytes in
     let n = next_number log s in
     let h = home log s hash in
-    judged_live log s (put log clock by s (item_of (entry_line clock by what) hash)) what (st.lives ∙ live)
-    ∙ then_refuse _ _ _ _ _ (then_refuse _ _ _ _ _ refl)
-    ∙ (λ i. put_by clock (length-blank bytes i + length-blank key_bytes i) (is_enforced log s) (puts log s h) h n (same_entry (entry.Put s h n hash (length-blank bytes i) (length-blank key_bytes i)) what))
+    then_refuse _ _ _ _ _ (then_refuse _ _ _ _ _ refl)
+    ∙ (λ i. put_by clock (length-blank bytes i + length-blank key_bytes i) (is_enforced log s) (puts log s h) h n
+    (same_entry (entry.Put s h n hash (length-blank bytes i) (length-blank key_bytes i)) what))
     ∙ ap (put_by clock (bytes + key_bytes) (is_enforced log s) (puts log s h) h n) (same_put s h sh n m hash bytes key_bytes)
     ∙ (λ i. (
     let home : ℕ = home_among (filter is_open (st.shards_are i)) hash in
     put_by clock (bytes + key_bytes) (st.limited i) (puts log s home) home (st.draws i) ((home == sh) && (st.draws i == m))))
     ∙ ap (λ ps. put_by clock (bytes + key_bytes) v.enforced ps (home_in v hash) v.next ((home_in v hash == sh) && (v.next == m))) (st.puts_are (home_in v hash))
 
--- ---- a deletion, and a change of the retention
-
-pub gone_told : (log : Journal) (clock by s : ℕ) (v : StreamValue) → IsStream log s v → v.live ≡ true
-    → judged (told log (entry_line clock by (entry.Gone s)) (entry.Gone s)) (entry.Gone s) ≡ Ok tt
-gone_told log clock by s v st live = judged_live log s (delete log clock by s) (entry.Gone s) (st.lives ∙ live) ∙ ap agrees (is_itself s)
-
-pub limits_told : (log : Journal) (clock by s : ℕ) (on : Bool) (v : StreamValue) → IsStream log s v → v.live ≡ true
-    → judged (told log (entry_line clock by (entry.Enforced s on)) (entry.Enforced s on)) (entry.Enforced s on) ≡ Ok tt
-limits_told log clock by s on v st live = judged_live log s (enforce log clock by s on) (entry.Enforced s on) (st.lives ∙ live) ∙ rw (is_itself s, flag on) refl
+-- ---- a change of the retention
 
 never_below : (a b : ℕ) → (if not (nat_lt a b) then nat_lt a b else nat_lt b a) ≡ false
 never_below a b = grind (arith, nat_tests)
 
-pub kept_told : (log : Journal) (clock by s wanted : ℕ) (v : StreamValue) → IsStream log s v → v.live ≡ true
-    → judged (told log (entry_line clock by (entry.Kept s wanted)) (entry.Kept s wanted)) (entry.Kept s wanted) ≡ Ok tt
-kept_told log clock by s wanted v st live =
-    judged_live log s (keep log clock by s wanted (not (nat_lt wanted (hours log s)))) (entry.Kept s wanted) (st.lives ∙ live)
-    ∙ judged_refuse refusal.BadRetention (if not (nat_lt wanted (hours log s)) then nat_lt wanted (hours log s) else nat_lt (hours log s) wanted) _ (entry.Kept s wanted)
-    ∙ ap (λ (b : Bool). if b then refused refusal.BadRetention else agrees (same_entry (entry.Kept s wanted) (entry.Kept s wanted))) (never_below wanted (hours log s))
-    ∙ rw (is_itself s, is_itself wanted) refl
+kept_told : (log : Journal) (clock by s wanted : ℕ)
+    → judged (keep log clock by s wanted (not (nat_lt wanted (hours log s)))) (entry.Kept s wanted) ≡ Ok tt
+kept_told log clock by s wanted =
+    then_refuse _ _ _ _ _ (ap agrees (same_refl (entry.Kept s wanted)))
+    ∙ ap (λ (b : Bool). if b then refused refusal.BadRetention else Ok tt) (never_below wanted (hours log s))
 
 -- ---- listed shards
 
@@ -124,7 +127,7 @@ listed_made live f (Some x) h = refl
 
 -- ---- a split and a merge
 
-swapped : (a b : ℕ) → (a == b) ≡ (b == a)
+pub swapped : (a b : ℕ) → (a == b) ≡ (b == a)
 swapped a b = grind (arith, nat_tests)
 
 -- what a split is judged, by what is known of the shard
@@ -168,19 +171,23 @@ merge_by o p listed len next same =
 same_merge : (s sh other n m a child : ℕ) → same_entry (entry.Merged s sh other n a) (entry.Merged s sh other m child) ≡ ((m == n) && (child == a))
 same_merge s sh other n m a child = rw (is_itself s, is_itself sh, is_itself other, swapped n m, swapped a child) refl
 
-pub split_told : (log : Journal) (clock by s sh at m low high : ℕ) (v : StreamValue) (full : Bool) → IsStream log s v → v.live ≡ true → last_clock log ≤ clock → full ≡ nat_le OPEN_SHARDS (open_count log)
-    → judged (told log (entry_line clock by (entry.Split s sh at m low high)) (entry.Split s sh at m low high)) (entry.Split s sh at m low high) ≡ split_verdict v clock sh at full m low high
-split_told log clock by s sh at m low high v full st live order room =
+split_told : (log : Journal) (clock by s sh at m low high : ℕ) (v : StreamValue) (full : Bool) → IsStream log s v → last_clock log ≤ clock
+    → full ≡ nat_le OPEN_SHARDS (open_count log)
+    → judged (split log clock by s sh at) (entry.Split s sh at m low high) ≡ split_verdict v clock sh at full m low high
+split_told log clock by s sh at m low high v full st order room =
     let what : Entry = entry.Split s sh at m low high in
     let listed = is_listed_in (Some v) clock sh in
-    judged_live log s (split log clock by s sh at) what (st.lives ∙ live)
-    ∙ then_refuse _ _ _ _ _ (then_refuse _ _ _ _ _ (then_refuse _ _ _ _ _ (then_refuse _ _ _ _ _ (then_refuse _ _ _ _ _ refl))))
-    ∙ ap (λ (b : Bool). split_by (shard_at log s sh) b (nat_le OPEN_SHARDS (open_count log)) at (length (shards log s)) (next_number log s) (same_entry (entry.Split s sh at (next_number log s) (length (shards log s)) (length (shards log s) + 1)) what)) (listed_is log clock s sh v st order)
-    ∙ ap (λ (b : Bool). split_by (shard_at log s sh) listed b at (length (shards log s)) (next_number log s) (same_entry (entry.Split s sh at (next_number log s) (length (shards log s)) (length (shards log s) + 1)) what)) (sym room)
-    ∙ ap (λ (xs : List ShardState). split_by (slice_get xs sh) listed full at (length xs) (next_number log s) (same_entry (entry.Split s sh at (next_number log s) (length xs) (length xs + 1)) what)) st.shards_are
-    ∙ ap (λ (n : ℕ). split_by (slice_get v.tree sh) listed full at (length v.tree) n (same_entry (entry.Split s sh at n (length v.tree) (length v.tree + 1)) what)) st.draws
+    let same : ℕ → ℕ → Bool = λ n len. same_entry (entry.Split s sh at n len (len + 1)) what in
+    let n = next_number log s in
+    let len = length (shards log s) in
+    then_refuse _ _ _ _ _ (then_refuse _ _ _ _ _ (then_refuse _ _ _ _ _ (then_refuse _ _ _ _ _ (then_refuse _ _ _ _ _ refl))))
+    ∙ ap (λ (b : Bool). split_by (shard_at log s sh) b (nat_le OPEN_SHARDS (open_count log)) at len n (same n len)) (listed_is log clock s sh v st order)
+    ∙ ap (λ (b : Bool). split_by (shard_at log s sh) listed b at len n (same n len)) (sym room)
+    ∙ ap (λ (xs : List ShardState). split_by (slice_get xs sh) listed full at (length xs) n (same n (length xs))) st.shards_are
+    ∙ ap (λ (n : ℕ). split_by (slice_get v.tree sh) listed full at (length v.tree) n (same n (length v.tree))) st.draws
     ∙ ap (split_by (slice_get v.tree sh) listed full at (length v.tree) v.next) (same_split s sh at v.next m (length v.tree) low high)
-    ∙ split_cases (slice_get v.tree sh) listed full sh at (length v.tree) v.next v.tree _ refl (λ h. listed_made v.live (floor_in v clock) (slice_get v.tree sh) h)
+    ∙ split_cases (slice_get v.tree sh) listed full sh at (length v.tree) v.next v.tree _ refl
+    (λ h. listed_made v.live (floor_in v clock) (slice_get v.tree sh) h)
 
 merge_cases : (o p : Option ShardState) (a b : Bool) (sh other len next : ℕ) (xs : List ShardState) (same : Bool) → slice_get xs sh ≡ o → slice_get xs other ≡ p → (a ≡ true → is_some o ≡ true) → (b ≡ true → is_some p ≡ true)
     → merge_by o p (a && b) len next same
@@ -200,18 +207,95 @@ merge_cases (Some x) (Some y) true true sh other len next xs same is also made t
     by true false = refl
     by true true = refl
 
-pub merge_told : (log : Journal) (clock by s sh other m child : ℕ) (v : StreamValue) → IsStream log s v → v.live ≡ true → last_clock log ≤ clock
-    → judged (told log (entry_line clock by (entry.Merged s sh other m child)) (entry.Merged s sh other m child)) (entry.Merged s sh other m child) ≡ merge_verdict v clock sh other m child
-merge_told log clock by s sh other m child v st live order =
+merge_told : (log : Journal) (clock by s sh other m child : ℕ) (v : StreamValue) → IsStream log s v → last_clock log ≤ clock
+    → judged (merge log clock by s sh other) (entry.Merged s sh other m child) ≡ merge_verdict v clock sh other m child
+merge_told log clock by s sh other m child v st order =
     let what : Entry = entry.Merged s sh other m child in
     let a = is_listed_in (Some v) clock sh in
     let b = is_listed_in (Some v) clock other in
-    judged_live log s (merge log clock by s sh other) what (st.lives ∙ live)
-    ∙ then_refuse _ _ _ _ _ (then_refuse _ _ _ _ _ (then_refuse _ _ _ _ _ (then_refuse _ _ _ _ _ refl)))
-    ∙ ap (λ (c : Bool). merge_by (shard_at log s sh) (shard_at log s other) (c && is_listed log clock s other) (length (shards log s)) (next_number log s) (same_entry (entry.Merged s sh other (next_number log s) (length (shards log s))) what)) (listed_is log clock s sh v st order)
-    ∙ ap (λ (c : Bool). merge_by (shard_at log s sh) (shard_at log s other) (a && c) (length (shards log s)) (next_number log s) (same_entry (entry.Merged s sh other (next_number log s) (length (shards log s))) what)) (listed_is log clock s other v st order)
-    ∙ ap (λ (xs : List ShardState). merge_by (slice_get xs sh) (slice_get xs other) (a && b) (length xs) (next_number log s) (same_entry (entry.Merged s sh other (next_number log s) (length xs)) what)) st.shards_are
-    ∙ ap (λ (n : ℕ). merge_by (slice_get v.tree sh) (slice_get v.tree other) (a && b) (length v.tree) n (same_entry (entry.Merged s sh other n (length v.tree)) what)) st.draws
+    let same : ℕ → ℕ → Bool = λ n len. same_entry (entry.Merged s sh other n len) what in
+    let n = next_number log s in
+    let len = length (shards log s) in
+    let made : (q : ℕ) → is_listed_in (Some v) clock q ≡ true → is_some (slice_get v.tree q) ≡ true =
+    λ q h. listed_made v.live (floor_in v clock) (slice_get v.tree q) h in
+    let spent : ℕ → Verdict = λ more.
+    if nat_lt last_number more || v.next == last_number then refused refusal.Spent else agrees ((m == v.next) && (child == length v.tree)) in
+    then_refuse _ _ _ _ _ (then_refuse _ _ _ _ _ (then_refuse _ _ _ _ _ (then_refuse _ _ _ _ _ refl)))
+    ∙ (λ i. merge_by (shard_at log s sh) (shard_at log s other)
+    (listed_is log clock s sh v st order i && listed_is log clock s other v st order i) len n (same n len))
+    ∙ ap (λ (xs : List ShardState). merge_by (slice_get xs sh) (slice_get xs other) (a && b) (length xs) n (same n (length xs))) st.shards_are
+    ∙ ap (λ (n : ℕ). merge_by (slice_get v.tree sh) (slice_get v.tree other) (a && b) (length v.tree) n (same n (length v.tree))) st.draws
     ∙ ap (merge_by (slice_get v.tree sh) (slice_get v.tree other) (a && b) (length v.tree) v.next) (same_merge s sh other v.next m (length v.tree) child)
-    ∙ merge_cases (slice_get v.tree sh) (slice_get v.tree other) a b sh other (length v.tree) v.next v.tree _ refl refl (λ h. listed_made v.live (floor_in v clock) (slice_get v.tree sh) h) (λ h. listed_made v.live (floor_in v clock) (slice_get v.tree other) h)
-    ∙ ap (λ (n : ℕ). if not (a && b) then refused refusal.NoShard else refused_by (merge_refusal v.tree sh other) (if nat_lt last_number n || v.next == last_number then refused refusal.Spent else agrees ((m == v.next) && (child == length v.tree)))) (sym (plus_none (length v.tree)))
+    ∙ merge_cases (slice_get v.tree sh) (slice_get v.tree other) a b sh other (length v.tree) v.next v.tree _ refl refl (made sh) (made other)
+    ∙ ap (λ (n : ℕ). if not (a && b) then refused refusal.NoShard else refused_by (merge_refusal v.tree sh other) (spent n)) (sym (plus_none (length v.tree)))
+
+-- ---- each entry, once its stream is live
+
+-- what comes after the test that the stream is live: the lines that it gives, and how it is judged
+pub record Tells (log : Journal) (clock by : ℕ) (what : Entry) (s : ℕ) : Type 0 where
+  pub rest : Decision
+  pub told_is : told log (entry_line clock by what) what ≡ in_stream log s rest
+  pub lines_are : AreTold clock by rest
+  pub verdict_is : (v : StreamValue) (full : Bool) → IsStream log s v → last_clock log ≤ clock → full ≡ nat_le OPEN_SHARDS (open_count log)
+      → judged rest what ≡ entry_verdict full clock what v
+
+each : (log : Journal) (clock by : ℕ) (what : Entry) → IsLater what → IfSome (stream_of what) (λ s. Tells log clock by what s)
+each log c by (entry.Made s name count) later = absurd later
+each log c by (entry.Gone s) later =
+    record { rest = delete log c by s; told_is = refl; lines_are = (refl, tt); verdict_is = λ v full st order room. ap agrees (same_refl (entry.Gone s)) }
+each log c by (entry.Put s sh m hash bytes key_bytes) later =
+    let item : NewItem = item_of (entry_line c by (entry.Put s sh m hash bytes key_bytes)) hash in
+    let line : Line = put_line log c by s (next_number log s) item in
+    let keys : key_bytes ≡ length (blank key_bytes) = sym (length-blank key_bytes) in
+    let payloads : bytes ≡ length (blank bytes) = sym (length-blank bytes) in
+    record {
+      rest = put log c by s item;
+      told_is = refl;
+      lines_are = past _ _ _ _ _ (past _ _ _ _ _ ((λ i. record line { key = blank (keys i); payload = blank (payloads i) }), tt));
+      verdict_is = λ v full st order room. put_told log c by s sh m hash bytes key_bytes v st;
+    }
+each log c by (entry.Split s sh at m low high) later = record {
+  rest = split log c by s sh at;
+  told_is = refl;
+  lines_are = past _ _ _ _ _ (past _ _ _ _ _ (past _ _ _ _ _ (past _ _ _ _ _ (past _ _ _ _ _ (refl, tt)))));
+  verdict_is = split_told log c by s sh at m low high;
+}
+each log c by (entry.Merged s sh other m child) later = record {
+  rest = merge log c by s sh other;
+  told_is = refl;
+  lines_are = past _ _ _ _ _ (past _ _ _ _ _ (past _ _ _ _ _ (past _ _ _ _ _ (refl, tt))));
+  verdict_is = λ v full st order room. merge_told log c by s sh other m child v st order;
+}
+each log c by (entry.Kept s wanted) later =
+    let after = keep log c by s wanted (not (nat_lt wanted (hours log s))) in
+    record { rest = after; told_is = refl; lines_are = past _ _ _ _ _ (refl, tt); verdict_is = λ v full st order room. kept_told log c by s wanted }
+each log c by (entry.Enforced s on) later =
+    let same = same_refl (entry.Enforced s on) in
+    record { rest = enforce log c by s on; told_is = refl; lines_are = (refl, tt); verdict_is = λ v full st order room. ap agrees same }
+each log c by _ later = tt
+
+module _ (log : Journal) (clock by s : ℕ) (what : Entry) (later : IsLater what) (of : stream_of what ≡ Some s) where
+  tells : Tells log clock by what s
+  tells = subst (λ o. IfSome o (λ m. Tells log clock by what m)) of (each log clock by what later)
+
+  judged_so : (live : Bool) → is_live log s ≡ live
+      → judged (told log (entry_line clock by what) what) what ≡ (if live then judged tells.rest what else refused refusal.NoStream)
+  judged_so live is = ap (λ d. judged d what) tells.told_is ∙ judged_in log s tells.rest what live is
+
+  pub gone_told : is_live log s ≡ false → judged (told log (entry_line clock by what) what) what ≡ refused refusal.NoStream
+  gone_told gone = judged_so false gone
+
+  pub live_told : (v : StreamValue) (full : Bool) → IsStream log s v → v.live ≡ true → last_clock log ≤ clock
+      → full ≡ nat_le OPEN_SHARDS (open_count log) → judged (told log (entry_line clock by what) what) what ≡ entry_verdict full clock what v
+  live_told v full st live order room = judged_so true (st.lives ∙ live) ∙ tells.verdict_is v full st order room
+
+  lines_told : AreTold clock by (told log (entry_line clock by what) what)
+  lines_told = subst (AreTold clock by) (sym tells.told_is) (past _ _ _ _ _ tells.lines_are)
+
+pub stream_lines : (log : Journal) (clock by : ℕ) (what : Entry) → IsLater what → stream_of what ≢ None
+    → AreTold clock by (told log (entry_line clock by what) what)
+stream_lines log clock by what later of = of_its (stream_of what) refl
+  where
+    of_its : (o : Option ℕ) → stream_of what ≡ o → AreTold clock by (told log (entry_line clock by what) what)
+    of_its None is = absurd (of is)
+    of_its (Some s) is = lines_told log clock by s what later is

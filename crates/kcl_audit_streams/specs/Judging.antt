@@ -14,6 +14,7 @@ use Rattle.kds_defs.specs.Records.{Logged, first_at, left_among, place_after}
 use Rattle.kds_defs.specs.Shards.{home_among, is_open, made_shards, merged_shards, split_shards}
 use Rattle.kds_defs.specs.StreamCommands.{last_number}
 use Rattle.kds_defs.specs.Streams.{floor_at, same_name}
+use Rattle.kds_defs.specs.Subjects.{stream_of}
 use Rattle.kds_tree.specs.Tree.{merge_refusal, split_refusal}
 use Rattle.kcl_audit_streams.specs.declared.records.Sized.{Sized}
 use Rattle.kcl_audit_streams.specs.declared.rule.Rule.TheVariants as rule
@@ -111,17 +112,22 @@ abbrev pub in_live : Option StreamValue → (StreamValue → Verdict) → Verdic
 in_live None next = refused refusal.NoStream
 in_live (Some v) next = next v
 
+-- an entry, other than a making, of a live stream at a clock, where `full` tells that no more shards may be open
+abbrev pub entry_verdict : Bool → ℕ → Entry → StreamValue → Verdict
+entry_verdict full clock (entry.Put s sh number hash bytes key_bytes) = λ v. put_verdict v clock sh number hash (bytes + key_bytes)
+entry_verdict full clock (entry.Split s sh at number low high) = λ v. split_verdict v clock sh at full number low high
+entry_verdict full clock (entry.Merged s sh other number child) = λ v. merge_verdict v clock sh other number child
+entry_verdict full clock _ = λ v. Ok tt
+
+-- where an entry is of a stream, that is to be live
+abbrev pub in_its : List StreamValue → Option ℕ → (StreamValue → Verdict) → Verdict
+in_its vs None next = Ok tt
+in_its vs (Some s) next = in_live (live_at vs s) next
+
 -- an entry of a stream at a clock
 abbrev pub stream_verdict : List StreamValue → ℕ → Entry → Verdict
 stream_verdict vs clock (entry.Made s name count) = made_verdict vs s name count
-stream_verdict vs clock (entry.Gone s) = in_live (live_at vs s) (λ v. Ok tt)
-stream_verdict vs clock (entry.Put s sh number hash bytes key_bytes) =
-    in_live (live_at vs s) (λ v. put_verdict v clock sh number hash (bytes + key_bytes))
-stream_verdict vs clock (entry.Split s sh at number low high) = in_live (live_at vs s) (λ v. split_verdict v clock sh at (lacks_room vs 1) number low high)
-stream_verdict vs clock (entry.Merged s sh other number child) = in_live (live_at vs s) (λ v. merge_verdict v clock sh other number child)
-stream_verdict vs clock (entry.Kept s hours) = in_live (live_at vs s) (λ v. Ok tt)
-stream_verdict vs clock (entry.Enforced s on) = in_live (live_at vs s) (λ v. Ok tt)
-stream_verdict vs clock _ = Ok tt
+stream_verdict vs clock what = in_its vs (stream_of what) (entry_verdict (lacks_room vs 1) clock what)
 
 -- ---- what is kept of a good entry
 
@@ -153,14 +159,22 @@ changed_at n f [] = []
 changed_at zero f (v ∷ vs) = f v ∷ vs
 changed_at (suc n) f (v ∷ vs) = v ∷ changed_at n f vs
 
+-- a stream after a good entry of it at a clock, other than its making
+abbrev pub with_entry : ℕ → Entry → StreamValue → StreamValue
+with_entry clock (entry.Gone s) = with_gone
+with_entry clock (entry.Put s sh number hash bytes key_bytes) = with_put (record { shard = sh; seq = number; arrival = clock; bytes = bytes + key_bytes })
+with_entry clock (entry.Split s sh at number low high) = with_split clock sh at number
+with_entry clock (entry.Merged s sh other number child) = with_merge clock sh other number
+with_entry clock (entry.Kept s hours) = with_hours clock hours
+with_entry clock (entry.Enforced s on) = with_limits on
+with_entry clock _ = λ v. v
+
+-- the streams where the one of an entry, if it is of one, changed
+abbrev pub changed_of : Option ℕ → (StreamValue → StreamValue) → List StreamValue → List StreamValue
+changed_of None f vs = vs
+changed_of (Some s) f vs = changed_at (s - 1) f vs
+
 -- the streams after a good entry of one at a clock
 abbrev pub streams_after : ℕ → Entry → List StreamValue → List StreamValue
 streams_after clock (entry.Made s name count) vs = vs ++ new_stream name count ∷ []
-streams_after clock (entry.Gone s) vs = changed_at (s - 1) with_gone vs
-streams_after clock (entry.Put s sh number hash bytes key_bytes) vs =
-    changed_at (s - 1) (with_put (record { shard = sh; seq = number; arrival = clock; bytes = bytes + key_bytes })) vs
-streams_after clock (entry.Split s sh at number low high) vs = changed_at (s - 1) (with_split clock sh at number) vs
-streams_after clock (entry.Merged s sh other number child) vs = changed_at (s - 1) (with_merge clock sh other number) vs
-streams_after clock (entry.Kept s hours) vs = changed_at (s - 1) (with_hours clock hours) vs
-streams_after clock (entry.Enforced s on) vs = changed_at (s - 1) (with_limits on) vs
-streams_after clock _ vs = vs
+streams_after clock what vs = changed_of (stream_of what) (with_entry clock what) vs

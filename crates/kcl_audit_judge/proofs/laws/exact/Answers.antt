@@ -1,5 +1,4 @@
-use Rattle.kcl_audit_judge.proofs.GoodLines.{ok_good}
-use Rattle.kcl_audit_judge.proofs.Verdicts.{good_ok}
+use Rattle.kcl_audit_judge.proofs.GoodLines.{good_ok, ok_good}
 use Rattle.kcl_audit_judge.proofs.laws.exact.Goals as goal
 
 pub returns-clause-good : goal.returns-clause-good

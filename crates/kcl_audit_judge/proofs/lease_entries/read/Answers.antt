@@ -1,12 +1,9 @@
-use Rattle.std.proofs.Common.{◌≡◌, ◌-◌, ◌≤◌, slice_set, ◌∙◌, true, false, Some, subst, rules, refl, ap, sym}
-use Rattle.std.specs.Prelude.{◌&&◌, slice_get}
-use Rattle.kds_defs.specs.declared.limits.TheConstants.{BATCH_BYTES}
-use Rattle.kds_defs.specs.Listings.{are_none, is_closed_at}
-use Rattle.kds_defs.specs.Records.{beginning, left_among, numbers_of, place_after}
+use Rattle.std.proofs.Common.{◌≡◌, ◌-◌, ◌≤◌, slice_set, ◌∙◌, true, false, subst, rules, refl, ap, sym}
+use Rattle.kds_defs.specs.Records.{place_after}
 use Rattle.kcl_book.specs.Tenures.{tenure_at, with_read}
 use Rattle.kcl_leases.proofs.TenureWrites.{of_book, read_refused, reads_from, room_from, goes_onward}
 use Rattle.kcl_leases.specs.Standing.{facing}
-use Rattle.kcl_audit_streams.specs.Standing.{Shows, floor_in, live_at, records_in}
+use Rattle.kcl_audit_streams.specs.Standing.{Shows}
 use Rattle.kcl_audit_streams.specs.Verdict.{same_flag, same_list}
 use Rattle.kcl_audit_streams.proofs.Others.{shows_lease}
 use Rattle.kcl_audit_judge.proofs.ReadTold.{numbers_are, read_entry, read_other, read_refused_entry}
@@ -28,11 +25,9 @@ returns-then-not-same_end-clause-judged c =
     let p = c.reach-position.result in
     let ms = c.in_ok-batch.batch in
     let e = c.in_ok-batch.ends in
-    let live : live_at w.streams y.key.stream ≡ Some v = search rules in
-    let ms_are : ms ≡ numbers_of (beginning a.limit BATCH_BYTES (left_among (floor_in v w.clock) p (records_in v.records y.key.shard))) = search rules in
-    let e_is : e ≡ (is_closed_at (slice_get v.tree y.key.shard) && are_none (left_among (floor_in v w.clock) (place_after p ms) (records_in v.records y.key.shard))) = search rules in
     let other : same_flag e a.end ≡ false = search rules in
-    λ log st. read_other w a.table.now a.book.now.tenures a.by a.no a.limit p a.end a.numbers.now c.reach-position.ensures log st y (c.in-Ok.ensures.value log st.shows) v live ms ms_are e e_is (rw other refl)
+    λ log st. read_other w a.table.now a.book.now.tenures a.by a.no a.limit p a.end a.numbers.now c.reach-position.ensures log st
+    y (c.in-Ok.ensures.value log st.shows) v (search rules) ms (search rules) e (search rules) (rw other refl)
 
 pub returns-then-not-same_numbers-clause-judged : goal.returns-then-not-same_numbers-clause-judged
 returns-then-not-same_numbers-clause-judged c =
@@ -43,12 +38,10 @@ returns-then-not-same_numbers-clause-judged c =
     let p = c.reach-position.result in
     let ms = c.in_ok-batch.batch in
     let e = c.in_ok-batch.ends in
-    let live : live_at w.streams y.key.stream ≡ Some v = search rules in
-    let ms_are : ms ≡ numbers_of (beginning a.limit BATCH_BYTES (left_among (floor_in v w.clock) p (records_in v.records y.key.shard))) = search rules in
-    let e_is : e ≡ (is_closed_at (slice_get v.tree y.key.shard) && are_none (left_among (floor_in v w.clock) (place_after p ms) (records_in v.records y.key.shard))) = search rules in
     let same : same_flag e a.end ≡ true = search rules in
     let other : same_list ms a.numbers.now ≡ false = search rules in
-    λ log st. read_other w a.table.now a.book.now.tenures a.by a.no a.limit p a.end a.numbers.now c.reach-position.ensures log st y (c.in-Ok.ensures.value log st.shows) v live ms ms_are e e_is (rw (same, other) refl)
+    λ log st. read_other w a.table.now a.book.now.tenures a.by a.no a.limit p a.end a.numbers.now c.reach-position.ensures log st
+    y (c.in-Ok.ensures.value log st.shows) v (search rules) ms (search rules) e (search rules) (rw (same, other) refl)
 
 pub returns-clause-judged : goal.returns-clause-judged
 returns-clause-judged c =
@@ -59,13 +52,11 @@ returns-clause-judged c =
     let p = c.reach-position.result in
     let ms = c.in_ok-batch.batch in
     let e = c.in_ok-batch.ends in
-    let live : live_at w.streams y.key.stream ≡ Some v = search rules in
-    let ms_are : ms ≡ numbers_of (beginning a.limit BATCH_BYTES (left_among (floor_in v w.clock) p (records_in v.records y.key.shard))) = search rules in
-    let e_is : e ≡ (is_closed_at (slice_get v.tree y.key.shard) && are_none (left_among (floor_in v w.clock) (place_after p ms) (records_in v.records y.key.shard))) = search rules in
-    let same : same_flag e a.end ≡ true = search rules in
-    let all : same_list ms a.numbers.now ≡ true = search rules in
-    let at : c.place_after_numbers.result ≡ place_after p ms = search rules in
-    λ log st. read_entry w a.table.now a.book.now.tenures a.by a.no a.limit p a.end a.numbers.now c.reach-position.ensures log st y (c.in-Ok.ensures.value log st.shows) v live ms ms_are e e_is c.read-2.new.self.tenures c.place_after_numbers.result (λ log line sh at none. shows_lease w log line sh at none) at (of_book (tenure_at a.book.now.tenures a.no) c.read-2.new.self a.book.now (λ x. slice_set a.book.now.tenures (a.no - 1) (with_read c.place_after_numbers.result e x)) c.read-2.ensures) same all
+    λ log st. read_entry w a.table.now a.book.now.tenures a.by a.no a.limit p a.end a.numbers.now c.reach-position.ensures log st
+    y (c.in-Ok.ensures.value log st.shows) v (search rules) ms (search rules) e (search rules) c.read-2.new.self.tenures c.place_after_numbers.result
+    (λ log line sh at none. shows_lease w log line sh at none) (search rules)
+    (of_book (tenure_at a.book.now.tenures a.no) c.read-2.new.self a.book.now
+    (λ x. slice_set a.book.now.tenures (a.no - 1) (with_read c.place_after_numbers.result e x)) c.read-2.ensures) (search rules) (search rules)
 
 pub read-requires-2-clause-room : goal.read-requires-2-clause-room
 read-requires-2-clause-room c =
@@ -82,12 +73,10 @@ read-requires-2-clause-onward c =
     let p = c.reach-position.result in
     let ms = c.in_ok-batch.batch in
     let e = c.in_ok-batch.ends in
-    let live : live_at w.streams y.key.stream ≡ Some v = search rules in
-    let ms_are : ms ≡ numbers_of (beginning a.limit BATCH_BYTES (left_among (floor_in v w.clock) p (records_in v.records y.key.shard))) = search rules in
-    let e_is : e ≡ (is_closed_at (slice_get v.tree y.key.shard) && are_none (left_among (floor_in v w.clock) (place_after p ms) (records_in v.records y.key.shard))) = search rules in
     let at : c.place_after_numbers.result ≡ place_after p ms = search rules in
     let log = c.requires.stands.0 in
     let st = c.requires.stands.1 in
-    let ns = numbers_are w a.table.now a.book.now.tenures a.by a.no a.limit p a.end a.numbers.now c.reach-position.ensures log st y (c.in-Ok.ensures.value log st.shows) v live ms ms_are e e_is in
+    let ns = numbers_are w a.table.now a.book.now.tenures a.by a.no a.limit p a.end a.numbers.now c.reach-position.ensures log st
+    y (c.in-Ok.ensures.value log st.shows) v (search rules) ms (search rules) e (search rules) in
     reads_from (tenure_at a.book.now.tenures a.no) a.by log w.clock p c.place_after_numbers.result y (c.in-Ok.ensures.value log st.shows)
     (subst (λ n. p ≤ n) (sym (at ∙ ap (place_after p) ns)) (goes_onward log w.clock y.key.stream y.key.shard p a.limit))
