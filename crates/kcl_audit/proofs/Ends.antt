@@ -1,6 +1,7 @@
 -- What an audit of bytes says, by what was found along their lines.
-use Rattle.std.proofs.Common.{◌≡◌, ℕ, Bool, true, false, List, [], ◌∷◌, ◌++◌, refl, ap, ◌∙◌}
+use Rattle.std.proofs.Common.{◌≡◌, ℕ, Bool, true, false, List, [], ◌∷◌, ◌++◌, refl, sym, ap, ◌∙◌}
 use Rattle.std.proofs.lemmas.List.{append-nil}
+use Rattle.kds_base.proofs.Facts.{apart}
 use Rattle.kds_lines.specs.Lines.{End, lined, too_long}
 use Rattle.kcl_audit_streams.specs.declared.rule.Rule.{Rule}
 use Rattle.kcl_audit_streams.specs.declared.rule.Rule.TheVariants as rule
@@ -16,27 +17,20 @@ stays : (n : ℕ) (r : Rule) (texts : List (List ℕ)) → progress_from (found 
 stays n r [] = refl
 stays n r (text ∷ texts) = stays n r texts
 
-appended : (p : Progress) (texts rest : List (List ℕ)) → progress_from p (texts ++ rest) ≡ progress_from (progress_from p texts) rest
+pub appended : (p : Progress) (texts rest : List (List ℕ)) → progress_from p (texts ++ rest) ≡ progress_from (progress_from p texts) rest
 appended p [] rest = refl
 appended p (text ∷ texts) rest = appended (step p text) texts rest
 
 pub bad_is : (p : Progress) → is_bad p ≡ true → (n : ℕ) × (r : Rule) × (p ≡ found n r)
-bad_is fresh h = absurd cc
-bad_is (going version log count) h = absurd cc
-bad_is (closed count) h = absurd cc
 bad_is (found n r) h = (n, r, refl)
+bad_is _ h = absurd cc
 
 pub is_bad_found : (p : Progress) → ((n : ℕ) × ((r : Rule) × (p ≡ found n r))) → false ≡ is_bad p → ⊥
-is_bad_found fresh h g = let e : fresh ≡ found h.0 h.1.0 = h.1.1 in absurd cc
-is_bad_found (going version log count) h g = let e : going version log count ≡ found h.0 h.1.0 = h.1.1 in absurd cc
-is_bad_found (closed count) h g = let e : closed count ≡ found h.0 h.1.0 = h.1.1 in absurd cc
-is_bad_found (found n r) h g = absurd cc
+is_bad_found p h g = apart (is_bad p) (ap is_bad h.1.1) (sym g)
 
 pub unreported : (p : Progress) → is_bad p ≡ false → report p ≡ []
-unreported fresh h = refl
-unreported (going version log count) h = refl
-unreported (closed count) h = refl
 unreported (found n r) h = absurd cc
+unreported _ h = refl
 
 -- it decides what an audit of all bytes says
 pub found_in : (bytes : List ℕ) (texts rest : List (List ℕ)) (n : ℕ) (r : Rule) → (lined bytes).texts ≡ texts ++ rest → progress texts ≡ found n r
@@ -54,15 +48,12 @@ ended bytes texts rest end parts none is =
     ap (λ ts. finish (progress ts) (lined bytes).end) (parts ∙ ap (λ r. texts ++ r) none ∙ append-nil texts) ∙ ap (finish (progress texts)) is
 
 pub too_long_is : (p : Progress) → is_bad p ≡ false → finish p too_long ≡ over
-too_long_is fresh h = refl
-too_long_is (going version log count) h = refl
-too_long_is (closed count) h = refl
 too_long_is (found n r) h = absurd cc
+too_long_is _ h = refl
 
 pub sound_is : (end : AuditEnd) → is_sound end ≡ true → (n : ℕ) × (end ≡ sound n)
 sound_is (sound n) h = (n, refl)
-sound_is (unsound n r) h = absurd cc
-sound_is over h = absurd cc
+sound_is _ h = absurd cc
 
 pub unsound_is : (p : Progress) (b : Bool) → is_sound (finish p (end_by b)) ≡ false → (n : ℕ) × (r : Rule) × (finish p (end_by b) ≡ unsound n r)
 unsound_is fresh true h = (next 0, rule.Form, refl)

@@ -1,10 +1,9 @@
 -- The text of a legal journal is found sound, unless a length in it is too great.
 use Rattle.std.proofs.Common.{◌≡◌, ◌⊎◌, ℕ, ◌+◌, ◌≤◌, ◌<◌, ◌^◌, Bool, true, false, cond, List, [], ◌∷◌, ◌++◌, length, map, Option, Some, None, refl, sym, ap}
-use Rattle.std.proofs.Common.{subst, ◌∙◌, arith, inl, inr}
-use Rattle.std.specs.Prelude.{◌≢◌, nat_lt, flat_map, if◌then◌else◌, Ok, Err}
+use Rattle.std.proofs.Common.{subst, ◌∙◌, inl, inr}
+use Rattle.std.specs.Prelude.{◌≢◌, flat_map, if◌then◌else◌, Ok, Err}
 use Rattle.std.specs.List.{AllByRecursion, onto_first}
 use Rattle.std.specs.Str.{bytes_eq}
-use Rattle.std.proofs.lemmas.Bool.Decides.{nat_tests}
 use Rattle.std.proofs.lemmas.List.{append-nil, append_assoc}
 use Rattle.std.proofs.lemmas.List.Splits.{slice_split-cons_no, slice_split-cons_yes}
 use Rattle.std.proofs.lemmas.Slice.Eq.{bytes_eq-Decides}
@@ -18,6 +17,7 @@ use Rattle.kcl_journal.specs.Entries.{IsVersion, end_of, end_spelling, entry_of,
 use Rattle.kcl_journal.specs.Ranges.{IsEntryLine}
 use Rattle.kcl_audit_streams.specs.declared.rule.Rule.TheVariants as rule
 use Rattle.kcl_audit_streams.specs.Verdict.{verdict}
+use Rattle.kcl_audit_judge.proofs.GoodLines.{not_below}
 use Rattle.kcl_audit.specs.Progress.{AuditEnd, Progress, after_end, after_entry, after_line, after_other, audit_of, behind_end, closed, finish, found}
 use Rattle.kcl_audit.specs.Progress.{fresh, going, line_of, line_step, next, over, progress, progress_from, sound, step, without_end}
 use Rattle.kcl_audit.specs.Text.{IsJournal, counted, entries_text, journal_of, with_feed}
@@ -107,9 +107,6 @@ legal_before (x ∷ xs) log legal = (legal_before xs (x ∷ log) legal).1
 good_first : (x : Line) (xs : List Line) (log : Journal) → IsLegal (with_lines (x ∷ xs) log) → IsGood log x
 good_first x xs log legal = (legal_before xs (x ∷ log) legal).0
 
-not_below : (a b : ℕ) → b ≤ a → nat_lt a b ≡ false
-not_below a b le = grind (arith, nat_tests)
-
 -- an entry or the last line: the heading is neither
 abbrev IsTold : ℕ → List ℕ → Type 0
 IsTold v text = entry_of v text ≡ None → end_of text ≡ None → ⊥
@@ -142,7 +139,7 @@ module _ (again : (v : ℕ) (line : EntryLine) → IsEntryLine v line → entry_
   end_step v log count end in_time order =
       ap (after_line v log count (end_spelling end)) (apart v (end_spelling end) end (end_again end in_time))
       ∙ ap (after_other log count) (end_again end in_time)
-      ∙ ap (λ b. after_end count (if b then Err rule.Clock else Ok tt)) (not_below end (last_clock log) order)
+      ∙ ap (λ b. after_end count (if b then Err rule.Clock else Ok tt)) (not_below (last_clock log) end order)
 
   -- what comes first may stand for the entries so far in its own way
   rest_ends : (v : ℕ) (log : Journal) (count : ℕ) (es : List EntryLine) (end : ℕ) (p : Progress) → end < 2 ^ 62 → AllByRecursion (IsEntryLine v) es

@@ -16,21 +16,12 @@ use Rattle.kcl_audit.proofs.Telling.{bad_tells, end_tells, long_tells, memory_te
 all_of : (o : Outcome) (back : List ℕ) → (o ≡ outcome.Write → ⊥) → (o ≡ outcome.Memory → ⊥) → Unwritten o back → back ≡ []
 all_of outcome.Write back w m u = absurd (w refl)
 all_of outcome.Memory back w m u = absurd (m refl)
-all_of outcome.Whole back w m u = u
-all_of (outcome.Unfinished n) back w m u = u
-all_of outcome.TooLong back w m u = u
-all_of (outcome.Stopped n) back w m u = u
-all_of outcome.Read back w m u = u
+all_of _ back w m u = u
 
 -- and the lines were taken whole
 taken_of : (o : Outcome) (v : TakerValue) (texts rest : List (List ℕ)) → (o ≡ outcome.Memory → ⊥) → HasTaken o (Took v) (Broke v) texts rest → Took v texts
 taken_of outcome.Memory v texts rest m t = absurd (m refl)
-taken_of outcome.Write v texts rest m t = t
-taken_of outcome.Whole v texts rest m t = t
-taken_of (outcome.Unfinished n) v texts rest m t = t
-taken_of outcome.TooLong v texts rest m t = t
-taken_of (outcome.Stopped n) v texts rest m t = t
-taken_of outcome.Read v texts rest m t = t
+taken_of _ v texts rest m t = t
 
 module _ (v : TakerValue) (bytes : List ℕ) (left start mid : Option (List ℕ)) where
   abbrev Reads : Outcome → Type 0

@@ -1,13 +1,13 @@
 -- A text whose audit is sound is that of a legal journal.
 use Rattle.std.proofs.Common.{◌≡◌, ℕ, ◌+◌, ◌≤◌, ◌<◌, ◌^◌, Bool, true, false, List, [], ◌∷◌, ◌++◌, length, map, Option, Some, None, refl, sym, ap, subst}
-use Rattle.std.proofs.Common.{◌∙◌, arith, inl, inr}
+use Rattle.std.proofs.Common.{◌∙◌, inl, inr}
 use Rattle.std.specs.Prelude.{nat_lt, reverse, flat_map, if◌then◌else◌, Ok, Err}
 use Rattle.std.specs.List.{AllByRecursion, join_with_byte}
 use Rattle.std.specs.Str.{bytes_eq}
-use Rattle.std.proofs.lemmas.Bool.Decides.{nat_tests}
 use Rattle.std.proofs.lemmas.List.{append-nil, append_assoc, reverse-append}
 use Rattle.std.proofs.lemmas.Slice.Eq.{bytes_eq-Decides}
 use Rattle.std.proofs.lemmas.List.Splits.{join_with_byte-slice_split}
+use Rattle.kcl_laws.proofs.Added.{not_past}
 use Rattle.kcl_laws.specs.ShownLines.{entry_line}
 use Rattle.kds_defs.specs.declared.entry.Entry.{Entry}
 use Rattle.kds_defs.specs.Journal.{Journal, Line, with_lines}
@@ -137,11 +137,8 @@ module _ (reads : (v : ℕ) (text : List ℕ) (line : EntryLine) → entry_of v 
         in_time = (end_reads text c read).0;
         good = tt;
         legal = legal;
-        order = below c (last_clock log) is;
+        order = not_past (last_clock log) c is;
       }
-    where
-      below : (a b : ℕ) → nat_lt a b ≡ false → b ≤ a
-      below a b h = grind (arith, nat_tests)
 
   other_sound : (v : ℕ) (log : Journal) (count : ℕ) (text : List ℕ) (texts : List (List ℕ)) (n : ℕ) (o : Option ℕ) → end_of text ≡ o → IsLegal log
       → progress_from (after_other log count o) texts ≡ closed n → AreSound v log count (text ∷ texts) n

@@ -11,13 +11,10 @@ use Rattle.kds_defs.specs.Journal.{Journal}
 use Rattle.kcl_journal.specs.declared.line.EntryLine.{EntryLine}
 use Rattle.kcl_journal.specs.Entries.{IsVersion}
 use Rattle.kcl_audit_streams.specs.Verdict.{Verdict}
-use Rattle.kcl_audit.specs.Progress.{Progress, after_end, after_entry, closed, fresh, going, line_of, next, progress, progress_from, step}
+use Rattle.kcl_audit.specs.Progress.{Progress, after_end, after_entry, closed, fresh, going, line_of, next, progress, step}
 use Rattle.kcl_audit.specs.Stages.{Broke, Finishes, IsAt, IsNamed, IsOver, TakerValue, Took, end_by, is_bad, is_found, name_in, stage_report, texts_report}
 use Rattle.kcl_audit.specs.Text.{named_text, report, rule_name, sound_text}
-
-from_last : (p : Progress) (texts : List (List ℕ)) (text : List ℕ) → progress_from p (texts ++ text ∷ []) ≡ step (progress_from p texts) text
-from_last p [] text = refl
-from_last p (t ∷ ts) text = from_last (step p t) ts text
+use Rattle.kcl_audit.proofs.Ends.{appended}
 
 pub report_at : (s : Stage) (a : JudgeValue) (p : Progress) → IsAt s a p → report p ≡ stage_report s
 report_at stage.Fresh a p h = ap report h.0
@@ -26,16 +23,12 @@ report_at (stage.Closed count) a p h = ap report h
 report_at (stage.Found n name) a p h = ap report h.1.0 ∙ ap (named_text n) (sym h.1.1)
 
 nothing : (s : Stage) → is_found s ≡ false → stage_report s ≡ []
-nothing stage.Fresh h = refl
-nothing (stage.Going version count) h = refl
-nothing (stage.Closed count) h = refl
 nothing (stage.Found n name) h = absurd cc
+nothing _ h = refl
 
 over_at : (s : Stage) (a : JudgeValue) (texts : List (List ℕ)) (text : List ℕ) → is_found s ≡ true → IsAt s a (progress texts) → IsOver texts text
-over_at stage.Fresh a texts text h at = absurd cc
-over_at (stage.Going version count) a texts text h at = absurd cc
-over_at (stage.Closed count) a texts text h at = absurd cc
 over_at (stage.Found n name) a texts text h at = (n, (at.0, at.1.0))
+over_at _ a texts text h at = absurd cc
 
 pub is_over : (v : TakerValue) (texts : List (List ℕ)) (text : List ℕ) → is_found v.stage ≡ true → Took v texts → IsOver texts text
 is_over v texts text h at = over_at v.stage v.judge texts text h at
@@ -65,7 +58,7 @@ module _ (count : ℕ) (a : JudgeValue) where
 module _ (old new : TakerValue) (texts : List (List ℕ)) (text : List ℕ) (before : is_found old.stage ≡ false) (took : Took old texts)
     (at : IsAt new.stage new.judge (step (progress texts) text)) where
   takes : Took new (texts ++ text ∷ [])
-  takes = subst (IsAt new.stage new.judge) (sym (from_last _ texts text)) at
+  takes = subst (IsAt new.stage new.judge) (sym (appended fresh texts (text ∷ []))) at
 
   grows : texts_report (texts ++ text ∷ []) ≡ texts_report texts ++ stage_report new.stage
   grows =
