@@ -1,11 +1,10 @@
 -- How many streams, shards and tenures a legal journal has made, at most.
-use Rattle.std.proofs.Common.{◌≡◌, ℕ, zero, suc, ◌+◌, ◌^◌, ◌<◌, ◌≤◌, Bool, true, false, List, [], ◌∷◌, length, refl, sym, ap, subst, ◌∙◌, arith}
-use Rattle.std.specs.Prelude.{◌==◌, cond, slice_get, nat_lt, if◌then◌else◌, Option, Some, None}
-use Rattle.std.specs.List.{filter, find}
+use Rattle.std.proofs.Common.{◌≡◌, ℕ, zero, suc, ◌+◌, ◌^◌, ◌<◌, ◌≤◌, Bool, true, false, List, [], ◌∷◌, length, refl, sym, ap, subst, arith}
+use Rattle.std.specs.Prelude.{◌==◌, cond, slice_get, if◌then◌else◌, Option, Some, None}
+use Rattle.std.specs.List.{filter}
 use Rattle.std.proofs.lemmas.Bool.Decides.{nat_tests}
-use Rattle.std.proofs.lemmas.List.{length-append, length-map}
 use Rattle.std.proofs.lemmas.Bool.{or_parts}
-use Rattle.kds_base.specs.Span.{Span, covers, uniform}
+use Rattle.kds_base.specs.Span.{covers}
 use Rattle.kds_base.proofs.Facts.{equal_so}
 use Rattle.kds_defs.specs.declared.entry.Entry.{Entry}
 use Rattle.kds_defs.specs.declared.entry.Entry.TheVariants as entry
@@ -15,14 +14,16 @@ use Rattle.kds_defs.specs.Journal.{Line, Journal}
 use Rattle.kds_defs.specs.Legal.{IsInRange, IsLegal, told}
 use Rattle.kds_defs.specs.Leases.{taken_count, taken_count_after}
 use Rattle.kds_defs.specs.Records.{next_number}
-use Rattle.kds_defs.specs.Shards.{Closing, ShardState, home, home_among, is_listed, is_listed_state, is_open, made_shards, merged_shards, shard_at, shards, shards_after, split_shards, with_closed}
+use Rattle.kds_defs.specs.Shards.{ShardState, closing_of, home, home_among, is_listed, is_listed_state, is_open, shard_at, shards, shards_after}
 use Rattle.kds_defs.specs.StreamCommands.{last_number}
-use Rattle.kds_defs.specs.Streams.{is_live, made_count, made_count_after, numbers_from, stream_named}
+use Rattle.kds_defs.specs.Streams.{live_streams, made_count, made_count_after, name_of, same_name, stream_named}
 use Rattle.kds_defs.specs.Tiled.{AreNumbered}
 use Rattle.kds_defs.proofs.Decisions.{found, passes}
-use Rattle.kds_defs.proofs.Numbers.{length-closed}
-use Rattle.kds_defs.proofs.Counted.{length_first}
-use Rattle.kds_scale.proofs.Partitions.{length_wanted}
+use Rattle.kds_defs.proofs.Counted.{length_merged, length_split}
+use Rattle.kcl_laws.proofs.Added.{not_past}
+use Rattle.kcl_sim_scribe.proofs.Lists.{found_is}
+use Rattle.kcl_sim_scribe.proofs.Making.{length_made}
+use Rattle.kcl_sim_scribe.proofs.Readings.{live_below}
 
 pub one_more : (n : ℕ) → (n == last_number) ≡ false → n ≤ last_number → n + 1 ≤ last_number
 one_more n h le = grind (arith, nat_tests)
@@ -56,43 +57,17 @@ pub taken_fits : (log : Journal) → IsLegal log → taken_count log ≤ last_nu
 taken_fits [] legal = omega arith
 taken_fits (line ∷ log) legal = taken_by log line line.what legal.0.reply legal.0.allowed (taken_fits log legal.1)
 
--- a number that is found among these
-found_by : (b d : Bool) (p q : ℕ → Bool) (k s m : ℕ) (xs : List ℕ) → q k ≡ b → p k ≡ d → k < m → (find p (filter q xs) ≡ Some s → s < m)
-    → find p (cond b (k ∷ filter q xs) (filter q xs)) ≡ Some s → s < m
-found_by false d p q k s m xs isb isd below rest h = rest h
-found_by true true p q k s m xs isb isd below rest h =
-    let e : Some k ≡ Some s = ap (λ b. cond b (Some k) (find p (filter q xs))) (sym isd) ∙ h in
-    let f : k ≡ s = cc (e) in
-    subst (λ n. n < m) f below
-found_by true false p q k s m xs isb isd below rest h = rest (ap (λ b. cond b (Some k) (find p (filter q xs))) (sym isd) ∙ h)
-
-found_below : (p q : ℕ → Bool) (n k s m : ℕ) → k + n ≤ m → find p (filter q (numbers_from k n)) ≡ Some s → s < m
-found_below p q zero k s m le h = absurd cc
-found_below p q (suc n) k s m le h =
-    found_by (q k) (p k) p q k s m (numbers_from (k + 1) n) refl refl (omega (arith, le)) (found_below p q n (k + 1) s m (omega (arith, le))) h
-
 -- the number of a stream that a name finds
 pub named_fits : (log : Journal) (name : List ℕ) (s : ℕ) → IsLegal log → stream_named log name ≡ Some s → s < 2 ^ 64
-named_fits log name s legal h = found_below _ (is_live log) (made_count log) 1 s (2 ^ 64) (omega (arith, made_fits log legal)) h
+named_fits log name s legal h =
+    let made : s ≤ made_count log = found_is (λ n. n ≤ made_count log) (λ n. same_name (name_of log n) name) (live_streams log) s (live_below log) h in
+    omega (arith, made, made_fits log legal)
 
 -- ---- shards
-
-length_made : (count start : ℕ) → length (made_shards count start) ≡ count
-length_made count start = length_first 0 start (uniform count) ∙ sym (length-map (uniform count) (λ (r : Span). r.start)) ∙ length_wanted count
-
-pub length_split : (xs : List ShardState) (sh at : ℕ) (closing : Closing) (start : ℕ) → length (split_shards sh at closing start xs) ≡ length xs + 2
-length_split xs sh at closing start = length-append _ _ ∙ ap (λ n. n + 2) (length-closed sh closing xs)
-
-pub length_merged : (xs : List ShardState) (sh other : ℕ) (closing : Closing) (start : ℕ) → length (merged_shards sh other closing start xs) ≡ length xs + 1
-length_merged xs sh other closing start =
-    length-append _ _ ∙ ap (λ n. n + 1) (length-closed other closing (with_closed sh closing xs) ∙ length-closed sh closing xs)
 
 either_fits : (b : Bool) (xs ys : List ShardState) → (b ≡ true → length xs ≤ 2 ^ 64) → length ys ≤ 2 ^ 64 → length (if b then xs else ys) ≤ 2 ^ 64
 either_fits true xs ys h g = h refl
 either_fits false xs ys h g = g
-
-pub not_past : (n m : ℕ) → nat_lt m n ≡ false → n ≤ m
-not_past n m h = grind (arith, nat_tests)
 
 shards_by : (log : Journal) (line : Line) (e : Entry) (reply : Reply) (s start : ℕ) → IsInRange e → told log line e ≡ Accepted (line ∷ []) reply
     → length (shards log s) ≤ 2 ^ 64 → length (shards_after line e s start (shards log s)) ≤ 2 ^ 64
@@ -107,7 +82,7 @@ shards_by log line (entry.Split stream sh at number low high) reply s start rang
     let g = passes _ _ _ _ reply f.1 in
     let room = not_past (length (shards log stream) + 1) last_number (or_parts _ _ g.0).0 in
     either_fits (stream == s) _ _
-    (λ is. omega (arith, room, ap (λ k. length (shards log k)) (equal_so stream s is), length_split (shards log s) sh at (record { number = number; clock = line.clock }) start)) le
+    (λ is. omega (arith, room, ap (λ k. length (shards log k)) (equal_so stream s is), length_split sh at start (closing_of line number) (shards log s))) le
 shards_by log line (entry.Merged stream sh other number child) reply s start range h le =
     let a = passes _ _ _ _ reply h in
     let b = passes _ _ _ _ reply a.1 in
@@ -116,7 +91,7 @@ shards_by log line (entry.Merged stream sh other number child) reply s start ran
     let f = passes _ _ _ _ reply e.1 in
     let room = not_past (length (shards log stream)) last_number (or_parts _ _ f.0).0 in
     either_fits (stream == s) _ _
-    (λ is. omega (arith, room, ap (λ k. length (shards log k)) (equal_so stream s is), length_merged (shards log s) sh other (record { number = number; clock = line.clock }) start)) le
+    (λ is. omega (arith, room, ap (λ k. length (shards log k)) (equal_so stream s is), length_merged sh other start (closing_of line number) (shards log s))) le
 shards_by log line _ reply s start range h le = le
 
 pub shards_fit : (log : Journal) → IsLegal log → (s : ℕ) → length (shards log s) ≤ 2 ^ 64

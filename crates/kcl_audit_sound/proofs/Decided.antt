@@ -1,7 +1,7 @@
 -- The lines of each command that is accepted after a legal journal can be told.
-use Rattle.std.proofs.Common.{◌≡◌, ℕ, zero, suc, ◌+◌, ◌-◌, ◌^◌, ◌<◌, ◌≤◌, Bool, true, false, List, [], ◌∷◌, length, refl, arith}
-use Rattle.std.specs.Prelude.{Ok, Result, ◌==◌, ◌&&◌, not, nat_le, if◌then◌else◌}
-use Rattle.std.specs.List.{AllByRecursion, filter}
+use Rattle.std.proofs.Common.{◌≡◌, ℕ, ◌+◌, ◌^◌, ◌<◌, ◌≤◌, Bool, true, false, List, [], ◌∷◌, length, refl, arith}
+use Rattle.std.specs.Prelude.{Ok, Result, ◌==◌, ◌&&◌, not, if◌then◌else◌}
+use Rattle.std.specs.List.{AllByRecursion}
 use Rattle.std.proofs.lemmas.Bool.Decides.{nat_tests}
 use Rattle.std.proofs.lemmas.Bool.{or_parts}
 use Rattle.kds_defs.specs.declared.command.Command.{Command}
@@ -16,7 +16,7 @@ use Rattle.kds_defs.specs.Journal.{Journal, Line}
 use Rattle.kds_defs.specs.Lawful.{IsLawfulCommand}
 use Rattle.kds_defs.specs.LeaseCommands.{follows_parent}
 use Rattle.kds_defs.specs.Legal.{IsLegal}
-use Rattle.kds_defs.specs.Records.{Logged, batch, beginning, left_among, left_from, next_number, numbers_of, records}
+use Rattle.kds_defs.specs.Records.{Logged, batch, left_among, left_from, next_number, numbers_of, records}
 use Rattle.kds_defs.specs.Shards.{shards, start_of, shard_at}
 use Rattle.kds_defs.specs.StreamCommands.{last_number}
 use Rattle.kds_defs.specs.Streams.{is_live, trim_floor}
@@ -24,13 +24,15 @@ use Rattle.kds_defs.specs.Tiled.{AreNumbered}
 use Rattle.kds_defs.proofs.Decisions.{holds_so}
 use Rattle.kds_defs.proofs.Walk.{Outcome, Refuses, Answers, Adds, Stores, Scales, accepted}
 use Rattle.kds_defs.proofs.Walk.{Tells, Creates, Deletes, Puts, Splits, Merges, Keeps, Enforces, Makes, Takes, Renews, Frees, Opens, Reads, Gives, Marks, Cuts}
+use Rattle.kcl_laws.proofs.Added.{not_past}
 use Rattle.kcl_laws.specs.Recorded.{AreDrawn, RiseBetween}
 use Rattle.kcl_script_fields.specs.Commands.{AreNumbers}
 use Rattle.kcl_script_fields.specs.Origins.{IsOrigin}
 use Rattle.kcl_journal.specs.declared.line.TheConstants.{VERSION}
 use Rattle.kcl_journal.specs.Ranges.{Is64, IsEntryLine}
 use Rattle.kcl_sim_scribe.specs.Added.{told_by}
-use Rattle.kcl_audit_sound.proofs.Counts.{listed_fits, made_fits, named_fits, not_past, shards_fit, taken_fits}
+use Rattle.kcl_audit_streams.proofs.BatchSteps.{below, below_beginning, below_left}
+use Rattle.kcl_audit_sound.proofs.Counts.{listed_fits, made_fits, named_fits, shards_fit, taken_fits}
 use Rattle.kcl_audit_sound.proofs.Streams.{AreTold, IsBy, line_told, plan_at, put_told, puts_told, steps_told}
 
 -- the counter after a write, where the row's isn't the last number
@@ -61,36 +63,15 @@ rise_to : (first : ℕ) (rs : List Logged) (next : ℕ) → RiseBetween first rs
 rise_to first [] next h = h
 rise_to first (r ∷ rs) next h = omega (arith, h.0, rise_to (r.seq + 1) rs next h.1)
 
-abbrev AreBelow : ℕ → List Logged → Type 0
-AreBelow m rs = AllByRecursion (λ (r : Logged). r.seq < m) rs
-
-below_next : (first : ℕ) (rs : List Logged) (next : ℕ) → RiseBetween first rs next → AreBelow next rs
+below_next : (first : ℕ) (rs : List Logged) (next : ℕ) → RiseBetween first rs next → below next rs
 below_next first [] next h = tt
 below_next first (r ∷ rs) next h = (omega (arith, rise_to (r.seq + 1) rs next h.1), below_next (r.seq + 1) rs next h.1)
 
-kept_below : (keep : Bool) (m : ℕ) (r : Logged) (rs : List Logged) → r.seq < m → AreBelow m rs → AreBelow m (if keep then r ∷ rs else rs)
-kept_below true m r rs h g = (h, g)
-kept_below false m r rs h g = g
-
-filtered_below : (p : Logged → Bool) (m : ℕ) (rs : List Logged) → AreBelow m rs → AreBelow m (filter p rs)
-filtered_below p m [] h = tt
-filtered_below p m (r ∷ rs) h = kept_below (p r) m r (filter p rs) h.0 (filtered_below p m rs h.1)
-
-first_below : (fits : Bool) (m : ℕ) (r : Logged) (rs : List Logged) → r.seq < m → AreBelow m rs → AreBelow m (if fits then r ∷ rs else [])
-first_below true m r rs h g = (h, g)
-first_below false m r rs h g = tt
-
-beginning_below : (limit room m : ℕ) (rs : List Logged) → AreBelow m rs → AreBelow m (beginning limit room rs)
-beginning_below zero room m rs h = tt
-beginning_below (suc limit) room m [] h = tt
-beginning_below (suc limit) room m (r ∷ rs) h =
-    first_below (nat_le r.bytes room) m r (beginning limit (room - r.bytes) rs) h.0 (beginning_below limit (room - r.bytes) m rs h.1)
-
-live_below : (live : Bool) (m : ℕ) (rs : List Logged) → AreBelow m rs → AreBelow m (if live then rs else [])
+live_below : (live : Bool) (m : ℕ) (rs : List Logged) → below m rs → below m (if live then rs else [])
 live_below true m rs h = h
 live_below false m rs h = tt
 
-numbers_fit : (m : ℕ) (rs : List Logged) → m ≤ last_number → AreBelow m rs → AllByRecursion Is64 (numbers_of rs)
+numbers_fit : (m : ℕ) (rs : List Logged) → m ≤ last_number → below m rs → AllByRecursion Is64 (numbers_of rs)
 numbers_fit m [] le h = tt
 numbers_fit m (r ∷ rs) le h = (omega (arith, le, h.0), numbers_fit m rs le h.1)
 
@@ -105,9 +86,10 @@ module _
       let next = next_number log s in
       let left = left_among (trim_floor log c s) place (records log s sh) in
       numbers_fit next (batch log c s sh place limit) (next_fits log legal s)
-      (beginning_below limit _ next (left_from log c s sh place)
+      (below_beginning next limit _ (left_from log c s sh place)
       (live_below (is_live log s) next left
-      (filtered_below _ next (records log s sh) (below_next (start_of (shard_at log s sh)) (records log s sh) next (drawn log legal s sh)))))
+      (below_left next (trim_floor log c s) place (records log s sh)
+      (below_next (start_of (shard_at log s sh)) (records log s sh) next (drawn log legal s sh)))))
 
   -- the line of a command that is told in one
   told_one : (log : Journal) (c by : ℕ) (what : Command) (line : Line) (r : Reply) → Tells log c by what line r → IsLegal log → IsBy c by

@@ -1,11 +1,11 @@
 -- The lines of puts and of scalings can be told.
-use Rattle.std.proofs.Common.{◌≡◌, ℕ, ◌+◌, ◌-◌, ◌*◌, ◌^◌, ◌<◌, ◌≤◌, Bool, true, false, List, [], ◌∷◌, ◌++◌, length, map, refl, ap, ◌∙◌, arith}
-use Rattle.std.specs.Prelude.{cond, chars, if◌then◌else◌}
-use Rattle.std.specs.List.{AllByRecursion, filter}
+use Rattle.std.proofs.Common.{◌≡◌, ℕ, ◌+◌, ◌-◌, ◌*◌, ◌^◌, ◌<◌, ◌≤◌, Bool, true, false, List, [], ◌∷◌, ◌++◌, length, map, refl, ap, arith}
+use Rattle.std.specs.Prelude.{chars, if◌then◌else◌}
+use Rattle.std.specs.List.{AllByRecursion}
 use lib.Utf8.{encode, encodes}
 use Rattle.std.proofs.lemmas.List.{length-append}
 use Rattle.std.proofs.lemmas.Str.{encodes-chars, len_utf8_bounds, length-encode, length-le-encodes}
-use Rattle.kds_base.proofs.Facts.{is_itself}
+use Rattle.kds_base.proofs.Facts.{all_filter, is_itself}
 use Rattle.kds_defs.specs.declared.command.NewItem.{NewItem}
 use Rattle.kds_defs.specs.declared.entry.Entry.{Entry}
 use Rattle.kds_defs.specs.declared.scale.ScaleStep.{ScaleStep}
@@ -16,7 +16,7 @@ use Rattle.kds_defs.specs.PutCommands.{is_held_back, put_lines}
 use Rattle.kds_defs.specs.Records.{next_number}
 use Rattle.kds_defs.specs.ScaleCommands.{made_by, step_entry, step_lines}
 use Rattle.kds_defs.specs.Scaling.{left_out, scale, uniform_starts}
-use Rattle.kds_defs.specs.Shards.{home, merged_shards, shards, split_shards}
+use Rattle.kds_defs.specs.Shards.{shards}
 use Rattle.kds_defs.specs.StreamCommands.{last_number, put_line}
 use Rattle.kds_defs.specs.Tiled.{AreNumbered}
 use Rattle.kds_scale.proofs.Partitions.{below_wanted}
@@ -24,7 +24,8 @@ use Rattle.kcl_laws.proofs.Added.{draws_one}
 use Rattle.kcl_journal.specs.declared.line.TheConstants.{VERSION}
 use Rattle.kcl_journal.specs.Ranges.{AreSizes, IsEntryLine, IsTellable}
 use Rattle.kcl_sim_scribe.specs.Added.{told_by}
-use Rattle.kcl_audit_sound.proofs.Counts.{home_fits, length_merged, length_split}
+use Rattle.kds_defs.proofs.Counted.{length_merged, length_split}
+use Rattle.kcl_audit_sound.proofs.Counts.{home_fits}
 
 -- a text can tell these lines
 abbrev pub AreTold : List Line → Type 0
@@ -101,22 +102,10 @@ step_line log c by s step = plain_line c by (step_entry log s step)
 
 -- the shards after a merge and after a split of a scaling
 many_join : (log : Journal) (c by s b : ℕ) → length (shards (step_line log c by s (Join b) ∷ log) s) ≡ length (shards log s) + 1
-many_join log c by s b =
-    ap
-    (λ r. length (if r
-    then merged_shards (home log s (b - 1)) (home log s b) (record { number = next_number log s; clock = c }) (next_number (step_line log c by s (Join b) ∷ log) s) (shards log s)
-    else shards log s))
-    (is_itself s)
-    ∙ length_merged (shards log s) (home log s (b - 1)) (home log s b) (record { number = next_number log s; clock = c }) (next_number (step_line log c by s (Join b) ∷ log) s)
+many_join log c by s b = rw (is_itself s) (length_merged _ _ _ _ (shards log s))
 
 many_cut : (log : Journal) (c by s b : ℕ) → length (shards (step_line log c by s (Cut b) ∷ log) s) ≡ length (shards log s) + 2
-many_cut log c by s b =
-    ap
-    (λ r. length (if r
-    then split_shards (home log s b) b (record { number = next_number log s; clock = c }) (next_number (step_line log c by s (Cut b) ∷ log) s) (shards log s)
-    else shards log s))
-    (is_itself s)
-    ∙ length_split (shards log s) (home log s b) b (record { number = next_number log s; clock = c }) (next_number (step_line log c by s (Cut b) ∷ log) s)
+many_cut log c by s b = rw (is_itself s) (length_split _ _ _ _ (shards log s))
 
 module _ (numbered : (log : Journal) (s : ℕ) → AreNumbered 0 (shards log s)) where
   pub steps_told : (steps : List ScaleStep) (log : Journal) (c by s : ℕ) → IsBy c by → s < 2 ^ 64 → AllByRecursion IsAtKey steps
@@ -143,14 +132,6 @@ module _ (numbered : (log : Journal) (s : ℕ) → AreNumbered 0 (shards log s))
 abbrev AreBelow : List ℕ → Type 0
 AreBelow bs = AllByRecursion (λ b. b < 2 ^ 128) bs
 
-kept_below : (keep : Bool) (b : ℕ) (bs : List ℕ) → b < 2 ^ 128 → AreBelow bs → AreBelow (cond keep (b ∷ bs) bs)
-kept_below true b bs h g = (h, g)
-kept_below false b bs h g = g
-
-filtered_below : (p : ℕ → Bool) (bs : List ℕ) → AreBelow bs → AreBelow (filter p bs)
-filtered_below p [] h = tt
-filtered_below p (b ∷ bs) h = kept_below (p b) b (filter p bs) h.0 (filtered_below p bs h.1)
-
 cuts_at : (bs : List ℕ) → AreBelow bs → AllByRecursion IsAtKey (map Cut bs)
 cuts_at [] h = tt
 cuts_at (b ∷ bs) h = (h.0, cuts_at bs h.1)
@@ -163,4 +144,5 @@ joins_at (b ∷ bs) steps h = (tt, joins_at bs steps h)
 pub plan_at : (starts : List ℕ) (target : ℕ) → 1 ≤ target → target ≤ 500 → AllByRecursion IsAtKey (scale starts target)
 plan_at starts target least most =
     let wanted = uniform_starts target in
-    joins_at (left_out wanted starts) (map Cut (left_out starts wanted)) (cuts_at (left_out starts wanted) (filtered_below _ wanted (below_wanted target least most)))
+    joins_at (left_out wanted starts) (map Cut (left_out starts wanted)) (cuts_at (left_out starts wanted)
+    (all_filter (λ b. b < 2 ^ 128) _ wanted (below_wanted target least most)))

@@ -1,7 +1,8 @@
 -- Lists: what a test finds or keeps.
-use Rattle.std.proofs.Common.{◌≡◌, ℕ, zero, suc, ◌+◌, ◌<◌, ◌≤◌, List, [], ◌∷◌, ◌++◌, length, map, take, drop, get_or, slice_set, Bool, true, false}
+use Rattle.std.proofs.Common.{◌≡◌, ℕ, zero, suc, ◌+◌, ◌≤◌, List, [], ◌∷◌, ◌++◌, length, map, take, drop, Bool, true, false}
 use Rattle.std.proofs.Common.{Some, refl, ap, ◌∙◌, arith, inl, inr, subst}
 use Rattle.std.proofs.lemmas.Bool.{cases_Bool}
+use Rattle.std.proofs.lemmas.List.{append-nil, drop_all, take_all}
 use Rattle.std.specs.List.{AllByRecursion, filter, find}
 use Rattle.std.specs.Prelude.{◌&&◌}
 use Rattle.kds_defs.specs.Streams.{numbers_from}
@@ -22,18 +23,6 @@ mapped P Q f (x ∷ xs) each all = (each x all.0, mapped P Q f xs each all.1)
 pub unmapped : {A B : Type 0} (Q : B → Type 0) (f : A → B) (xs : List A) → AllByRecursion Q (map f xs) → AllByRecursion (λ x. Q (f x)) xs
 unmapped Q f [] all = tt
 unmapped Q f (x ∷ xs) all = (all.0, unmapped Q f xs all.1)
-
-pub both_all : {A : Type 0} (P Q : A → Type 0) (xs : List A) → AllByRecursion P xs → AllByRecursion Q xs → AllByRecursion (λ x. P x × Q x) xs
-both_all P Q [] a b = tt
-both_all P Q (x ∷ xs) a b = ((a.0, b.0), both_all P Q xs a.1 b.1)
-
-pub all_but : {A : Type 0} (P Q : A → Type 0) (xs : List A) → ((x : A) → P x → Q x) → AllByRecursion P xs → AllByRecursion Q xs
-all_but P Q [] each all = tt
-all_but P Q (x ∷ xs) each all = (each x all.0, all_but P Q xs each all.1)
-
-pub all_push : {A : Type 0} (P : A → Type 0) (xs : List A) (x : A) → AllByRecursion P xs → P x → AllByRecursion P (xs ++ x ∷ [])
-all_push P [] x all last = (last, tt)
-all_push P (y ∷ ys) x all last = (all.0, all_push P ys x all.1 last)
 
 -- two tests, one after the other
 pub both_tests : {A : Type 0} (p q : A → Bool) (xs : List A) → filter (λ x. q x && p x) xs ≡ filter q (filter p xs)
@@ -57,10 +46,6 @@ same_kept p q (x ∷ xs) all = elim (cases_Bool (q x)) [
   | inr there ↦ let out : p x ≡ false = all.0 ∙ there in rw (there, out) (same_kept p q xs all.1)
 ]
 
-pub map_push : {A B : Type 0} (f : A → B) (xs : List A) (x : A) → map f (xs ++ x ∷ []) ≡ map f xs ++ f x ∷ []
-map_push f [] x = refl
-map_push f (y ∷ ys) x = ap (λ zs. f y ∷ zs) (map_push f ys x)
-
 -- ---- numbers
 
 pub up_to : (n count most : ℕ) → n + count ≤ most + 1 → AllByRecursion (λ s. s ≤ most) (numbers_from n count)
@@ -75,24 +60,8 @@ one_more n (suc count) =
 
 -- ---- each is replaced, one after another
 
-set_next : {A : Type 0} (f : A → A) (xs : List A) (i : ℕ) (d : A) → i < length xs
-    → slice_set (map f (take i xs) ++ drop i xs) i (f (get_or (map f (take i xs) ++ drop i xs) i d)) ≡ map f (take (suc i) xs) ++ drop (suc i) xs
-set_next f [] i d h = absurd (omega (arith, h))
-set_next f (y ∷ ys) zero d h = refl
-set_next f (y ∷ ys) (suc i) d h = ap (λ zs. f y ∷ zs) (set_next f ys i d (omega (arith, h)))
-
--- one more is replaced
-pub set_rest : {A : Type 0} (f : A → A) (xs ys : List A) (i : ℕ) (d new : A) → i < length xs → ys ≡ map f (take i xs) ++ drop i xs → new ≡ f (get_or ys i d)
-    → slice_set ys i new ≡ map f (take (i + 1) xs) ++ drop (i + 1) xs
-set_rest f xs ys i d new h is made =
-    let one : suc i ≡ i + 1 = omega arith in
-    ap (slice_set ys i) made ∙ ap (λ zs. slice_set zs i (f (get_or zs i d))) is ∙ set_next f xs i d h ∙ ap (λ j. map f (take j xs) ++ drop j xs) one
-
 pub all_done : {A : Type 0} (f : A → A) (xs : List A) (i : ℕ) → length xs ≤ i → map f (take i xs) ++ drop i xs ≡ map f xs
-all_done f [] zero h = refl
-all_done f [] (suc i) h = refl
-all_done f (x ∷ xs) zero h = absurd (omega (arith, h))
-all_done f (x ∷ xs) (suc i) h = ap (λ ys. f x ∷ ys) (all_done f xs i (omega (arith, h)))
+all_done f xs i h = (λ j. map f (take_all i xs h j) ++ drop_all i xs h j) ∙ append-nil (map f xs)
 
 pub all_kept : {A : Type 0} (xs : List A) → filter (λ x. true) xs ≡ xs
 all_kept [] = refl

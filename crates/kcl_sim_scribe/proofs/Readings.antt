@@ -102,73 +102,38 @@ as_before log line e v k none shards_same = record {
   left = k.left;
 }
 
-put_kept : (log : Journal) (line : Line) (s sh q hash bytes key_bytes : ℕ) (v : Known) → Fits log (entry.Put s sh q hash bytes key_bytes) → IsKnown log v
-    → Kept log line (entry.Put s sh q hash bytes key_bytes) v (renumbered (entry.Put s sh q hash bytes key_bytes) v)
-put_kept log line s sh q hash bytes key_bytes v f k = elim (cases_Bool (s == v.no)) [
+-- ... where the entry draws a number of a stream, whose last shard is then this one
+drawn_kept : (log : Journal) (line : Line) (e : Entry) (s q last : ℕ) (v : Known) → IsKnown log v → q ≡ next_number log s → q < last_number
+    → draws e v.no ≡ (if s == v.no then 1 else 0)
+    → (s ≡ v.no → (s == v.no) ≡ true → (start : ℕ) → length (shards_after line e v.no start (shards log v.no)) ≡ last + 1)
+    → ((s == v.no) ≡ false → (start : ℕ) → shards_after line e v.no start (shards log v.no) ≡ shards log v.no)
+    → Kept log line e v (if s == v.no then record v { drawn = q; shard = last } else v)
+drawn_kept log line e s q last v k drawn left draws_is its_shards same_shards = elim (cases_Bool (s == v.no)) [
   | inl here ↦
-      let e : s ≡ v.no = eqb-true s v.no here in
-      let drawn : q ≡ next_number log v.no = f.1.0 ∙ ap (next_number log) e in
-      let one : draws (entry.Put s sh q hash bytes key_bytes) v.no ≡ 1 = rw here refl in
-      let next : draws (entry.Put s sh q hash bytes key_bytes) v.no + next_number log v.no ≡ q + 1 = omega (arith, one, drawn) in
-      rw here (record {
-        same = refl;
-        name = refl;
-        next = next;
-        many = λ start. k.many;
-        left = f.1.1;
-      })
-  | inr other ↦ rw other (as_before log line (entry.Put s sh q hash bytes key_bytes) v k (rw other refl) (λ start. refl))
-]
-
-split_kept : (log : Journal) (line : Line) (s sh at q low high : ℕ) (v : Known) → Fits log (entry.Split s sh at q low high) → IsKnown log v
-    → Kept log line (entry.Split s sh at q low high) v (renumbered (entry.Split s sh at q low high) v)
-split_kept log line s sh at q low high v f k = elim (cases_Bool (s == v.no)) [
-  | inl here ↦
-      let e : s ≡ v.no = eqb-true s v.no here in
-      let drawn : q ≡ next_number log v.no = f.1.0.0 ∙ ap (next_number log) e in
-      let last : high ≡ length (shards log v.no) + 1 = f.1.1 ∙ ap (λ n. length (shards log n) + 1) e in
-      let one : draws (entry.Split s sh at q low high) v.no ≡ 1 = rw here refl in
-      let next : draws (entry.Split s sh at q low high) v.no + next_number log v.no ≡ q + 1 = omega (arith, one, drawn) in
-      let two : length (shards log v.no) + 2 ≡ high + 1 = omega (arith, last) in
-      let many : (start : ℕ) → length (shards_after line (entry.Split s sh at q low high) v.no start (shards log v.no)) ≡ high + 1 =
-      λ start. rw here (length_split sh at start (closing_of line q) (shards log v.no) ∙ two) in
-      rw here (record {
-        same = refl;
-        name = refl;
-        next = next;
-        many = many;
-        left = f.1.0.1;
-      })
-  | inr other ↦ rw other (as_before log line (entry.Split s sh at q low high) v k (rw other refl) (λ start. rw other refl))
-]
-
-merged_kept : (log : Journal) (line : Line) (s sh other_sh q child : ℕ) (v : Known) → Fits log (entry.Merged s sh other_sh q child) → IsKnown log v
-    → Kept log line (entry.Merged s sh other_sh q child) v (renumbered (entry.Merged s sh other_sh q child) v)
-merged_kept log line s sh other_sh q child v f k = elim (cases_Bool (s == v.no)) [
-  | inl here ↦
-      let e : s ≡ v.no = eqb-true s v.no here in
-      let drawn : q ≡ next_number log v.no = f.1.0.0 ∙ ap (next_number log) e in
-      let last : child ≡ length (shards log v.no) = f.1.1 ∙ ap (λ n. length (shards log n)) e in
-      let one : draws (entry.Merged s sh other_sh q child) v.no ≡ 1 = rw here refl in
-      let next : draws (entry.Merged s sh other_sh q child) v.no + next_number log v.no ≡ q + 1 = omega (arith, one, drawn) in
-      let more : length (shards log v.no) + 1 ≡ child + 1 = omega (arith, last) in
-      let many : (start : ℕ) → length (shards_after line (entry.Merged s sh other_sh q child) v.no start (shards log v.no)) ≡ child + 1 =
-      λ start. rw here (length_merged sh other_sh start (closing_of line q) (shards log v.no) ∙ more) in
-      rw here (record {
-        same = refl;
-        name = refl;
-        next = next;
-        many = many;
-        left = f.1.0.1;
-      })
-  | inr other ↦ rw other (as_before log line (entry.Merged s sh other_sh q child) v k (rw other refl) (λ start. rw other refl))
+      let is : s ≡ v.no = eqb-true s v.no here in
+      let one : draws e v.no ≡ 1 = draws_is ∙ rw here refl in
+      let from : q ≡ next_number log v.no = drawn ∙ ap (next_number log) is in
+      let next : draws e v.no + next_number log v.no ≡ q + 1 = omega (arith, one, from) in
+      rw here (record { same = refl; name = refl; next = next; many = its_shards is here; left = left })
+  | inr other ↦ rw other (as_before log line e v k (draws_is ∙ rw other refl) (same_shards other))
 ]
 
 entry_kept : (log : Journal) (line : Line) (e : Entry) (v : Known) → Fits log e → IsKnown log v → Kept log line e v (renumbered e v)
 entry_kept log line (entry.Made s name count) v f k = absurd f
-entry_kept log line (entry.Put s sh q hash bytes key_bytes) v f k = put_kept log line s sh q hash bytes key_bytes v f k
-entry_kept log line (entry.Split s sh at q low high) v f k = split_kept log line s sh at q low high v f k
-entry_kept log line (entry.Merged s sh other q child) v f k = merged_kept log line s sh other q child v f k
+entry_kept log line (entry.Put s sh q hash bytes key_bytes) v f k =
+    drawn_kept log line (entry.Put s sh q hash bytes key_bytes) s q v.shard v k f.1.0 f.1.1 refl (λ is here start. k.many) (λ other start. refl)
+entry_kept log line (entry.Split s sh at q low high) v f k =
+    drawn_kept log line (entry.Split s sh at q low high) s q high v k f.1.0.0 f.1.0.1 refl
+    (λ is here start.
+    let last : high ≡ length (shards log v.no) + 1 = f.1.1 ∙ ap (λ n. length (shards log n) + 1) is in
+    rw here (length_split sh at start (closing_of line q) (shards log v.no) ∙ omega (arith, last)))
+    (λ other start. rw other refl)
+entry_kept log line (entry.Merged s sh other_sh q child) v f k =
+    drawn_kept log line (entry.Merged s sh other_sh q child) s q child v k f.1.0.0 f.1.0.1 refl
+    (λ is here start.
+    let last : child ≡ length (shards log v.no) = f.1.1 ∙ ap (λ n. length (shards log n)) is in
+    rw here (length_merged sh other_sh start (closing_of line q) (shards log v.no) ∙ omega (arith, last)))
+    (λ other start. rw other refl)
 entry_kept log line e v f k = as_before log line e v k refl (λ start. refl)
 
 known_after : (log : Journal) (line : Line) (v : Known) → Fits log line.what → IsKnown log v → IsKnown (line ∷ log) (renumbered line.what v)

@@ -1,9 +1,10 @@
-use Rattle.std.proofs.Common.{◌<◌, ◌≤◌, length, map, rules, sym, ap, ◌∙◌}
+use Rattle.std.proofs.Common.{◌<◌, ◌≤◌, length, map, slice_set, rules, sym, ap, ◌∙◌}
 use Rattle.std.proofs.lemmas.Fn.{filter_same}
+use Rattle.std.proofs.lemmas.List.Edits.{map_over_more}
 use Rattle.std.specs.List.{filter}
 use Rattle.std.specs.Prelude.{not}
 use Rattle.kcl_sim_scribe.specs.Known.{Known, is_gone, renumbered}
-use Rattle.kcl_sim_scribe.proofs.Lists.{all_done, set_rest}
+use Rattle.kcl_sim_scribe.proofs.Lists.{all_done}
 use Rattle.kcl_sim_scribe.proofs.Readings.{stay}
 use Rattle.kcl_sim_scribe.proofs.known.keep.Goals as goal
 
@@ -13,8 +14,8 @@ loop-i-preserved c =
     let xs = c.args.streams.now.items in
     let i = c.loop-i.i in
     let within : i < length xs = search rules in
-    let made = c.renumber.ensures ∙ ap f c.index_mut.ensures.value in
-    set_rest f xs c.loop-i.streams.items i _ _ within c.loop-i.invariant made
+    ap (slice_set c.loop-i.streams.items i) c.renumber.ensures
+    ∙ map_over_more f xs c.loop-i.streams.items i c.index_mut.result.now within c.loop-i.invariant c.index_mut.ensures.value
 
 pub returns-in-Gone : goal.returns-in-Gone
 returns-in-Gone c =
