@@ -1,5 +1,5 @@
 //! A stream, as a judge keeps it.
-ghost use Rattle.std.specs.Prelude.{◌≡◌, ◌≢◌, ◌+◌, ◌-◌, ◌*◌, ◌<◌, ◌≤◌, ◌^◌, if◌then◌else◌, slice_get, None, Some, IfOk, OnOk, OnErr};
+ghost use Rattle.std.specs.Prelude.{Bool, Ok, ◌≡◌, ◌≢◌, ◌+◌, ◌-◌, ◌*◌, ◌<◌, ◌≤◌, ◌^◌, if◌then◌else◌, slice_get, None, Some, IfOk, OnOk, OnErr};
 ghost use Rattle.std.specs.Option.{option_map};
 ghost use Rattle.std.specs.List.{AllByRecursion};
 ghost use Rattle.kds_defs.specs.declared.limits.TheConstants.{BATCH_BYTES, HOUR, MOST_SHARDS};
@@ -9,14 +9,15 @@ ghost use Rattle.kds_defs.specs.StreamCommands.{last_number};
 ghost use Rattle.kds_defs.specs.Streams.{floor_at, floor_of};
 ghost use Rattle.kds_tree.specs.Tree.{merge_refusal, split_refusal};
 ghost use Rattle.kcl_audit_streams.specs.declared.rule.Rule.TheVariants as rule;
-ghost use Rattle.kcl_audit_streams.specs.Judging.{agrees, is_end_in, is_spent, left_in, merge_verdict, new_stream, position_in, put_verdict, refused, split_verdict, with_gone, with_hours, with_limits, with_merge, with_put, with_split};
+ghost use Rattle.kcl_audit_streams.specs.Verdict.{IsFit};
+ghost use Rattle.kcl_audit_streams.specs.Judging.{agrees, entry_verdict, is_end_in, is_spent, left_in, merge_verdict, new_stream, position_in, put_verdict, refused, split_verdict, with_entry, with_gone, with_hours, with_limits, with_merge, with_put, with_split};
 ghost use Rattle.kcl_audit_streams.specs.Standing.{floor_in, is_listed_in};
 
 use crate::records::{Sized, batch, first_since, from_position, is_throttled, none_left};
 use crate::rule::Rule;
 use kds_base::{Items, Memory, Moment, Name, Seq, ShardNo};
 use kds_defs::limits::{FIRST_HOURS, HOUR};
-use kds_defs::{Origin, Refusal, Shard, place_after_numbers};
+use kds_defs::{Entry, Origin, Refusal, Shard, place_after_numbers};
 use kds_tree::ShardTree;
 use std::alloc::Global;
 use std::marker::Model;
@@ -347,5 +348,34 @@ impl Stream {
         let before = self.floor(clock);
         self.hours = hours;
         self.floor = before.max(floor_at(clock, hours));
+    }
+    /// After a good entry of this live stream, other than its making. After `Memory` it is as before.
+    pub fn add(&mut self, clock: Moment, what: &Entry) -> Result<(), Memory>
+        requires fit { IsFit what.now }
+        requires good { (full : Bool) × (entry_verdict full clock what.now self.old ≡ Ok tt) }
+        ensures ok { OnOk result (self.new ≡ with_entry clock what.now self.old) }
+        ensures err { OnErr result (self.new ≡ self.old) }
+    {
+        match what {
+            Entry::Gone { .. } => self.add_gone(),
+            Entry::Put {
+                shard,
+                seq,
+                bytes,
+                key_bytes,
+                ..
+            } => self.add_put(clock, *shard, *seq, *bytes + *key_bytes)?,
+            Entry::Split { shard, at, seq, .. } => self.add_split(clock, *shard, *at, *seq)?,
+            Entry::Merged {
+                shard,
+                other,
+                seq,
+                ..
+            } => self.add_merge(clock, *shard, *other, *seq)?,
+            Entry::Kept { hours, .. } => self.add_kept(clock, *hours),
+            Entry::Enforced { on, .. } => self.add_limits(*on),
+            _ => (),
+        }
+        Ok(())
     }
 }

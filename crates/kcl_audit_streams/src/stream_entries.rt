@@ -4,7 +4,7 @@ ghost use Rattle.kds_defs.specs.declared.limits.TheConstants.{MOST_SHARDS};
 ghost use Rattle.kds_defs.specs.declared.reply.Refusal.TheVariants as refusal;
 ghost use Rattle.kcl_audit_streams.specs.declared.rule.Rule.TheVariants as rule;
 ghost use Rattle.kcl_audit_streams.specs.Verdict.{IsFit};
-ghost use Rattle.kcl_audit_streams.specs.Judging.{changed_at, in_live, lacks_room, made_verdict, merge_verdict, new_stream, put_verdict, split_verdict, stream_verdict, streams_after, with_gone, with_hours, with_limits, with_merge, with_put, with_split};
+ghost use Rattle.kcl_audit_streams.specs.Judging.{changed_at, entry_verdict, in_live, lacks_room, made_verdict, merge_verdict, new_stream, put_verdict, split_verdict, stream_verdict, streams_after, with_entry};
 ghost use Rattle.kcl_audit_streams.specs.Standing.{live_at};
 
 use crate::rule::Rule;
@@ -109,76 +109,19 @@ fn add_made(alloc: Global, streams: &mut Vec<Stream>, name: Name, shards: u32) -
     Ok(())
 }
 
-/// After the deletion of a live stream.
-fn add_gone(streams: &mut Vec<Stream>, no: StreamNo)
-    requires { in_live (live_at streams.old.items no) (λ v. Ok tt) ≡ Ok tt }
-    ensures { streams.new.items ≡ changed_at (no - 1) with_gone streams.old.items }
-{
-    streams[(no.0 - 1) as usize].add_gone();
-}
-
-/// After a change of the retention of a live stream.
-fn add_kept(streams: &mut Vec<Stream>, clock: Moment, no: StreamNo, hours: u32)
-    requires { in_live (live_at streams.old.items no) (λ v. Ok tt) ≡ Ok tt }
-    ensures { streams.new.items ≡ changed_at (no - 1) (with_hours clock hours) streams.old.items }
-{
-    streams[(no.0 - 1) as usize].add_kept(clock, hours);
-}
-
-/// After the limits of a live stream were turned on or off.
-fn add_limits(streams: &mut Vec<Stream>, no: StreamNo, on: bool)
-    requires { in_live (live_at streams.old.items no) (λ v. Ok tt) ≡ Ok tt }
-    ensures { streams.new.items ≡ changed_at (no - 1) (with_limits on) streams.old.items }
-{
-    streams[(no.0 - 1) as usize].add_limits(on);
-}
-
-/// After a good put.
-fn add_put(
+/// After a good entry of the stream of a number, other than its making.
+fn add_later(
     streams: &mut Vec<Stream>,
     clock: Moment,
     no: StreamNo,
-    shard: ShardNo,
-    seq: Seq,
-    bytes: u64,
+    what: &Entry,
 ) -> Result<(), Memory>
-    requires { (hash : ℕ) × (in_live (live_at streams.old.items no) (λ v. put_verdict v clock shard seq hash bytes) ≡ Ok tt) }
-    ensures ok { OnOk result (streams.new.items ≡ changed_at (no - 1) (with_put (record { shard = shard; seq = seq; arrival = clock; bytes = bytes })) streams.old.items) }
+    requires fit { IsFit what.now }
+    requires good { (full : Bool) × (in_live (live_at streams.old.items no) (entry_verdict full clock what.now) ≡ Ok tt) }
+    ensures ok { OnOk result (streams.new.items ≡ changed_at (no - 1) (with_entry clock what.now) streams.old.items) }
     ensures err { OnErr result (streams.new.items ≡ streams.old.items) }
 {
-    streams[(no.0 - 1) as usize].add_put(clock, shard, seq, bytes)
-}
-
-/// After a good split.
-fn add_split(
-    streams: &mut Vec<Stream>,
-    clock: Moment,
-    no: StreamNo,
-    shard: ShardNo,
-    at: u128,
-    seq: Seq,
-) -> Result<(), Memory>
-    requires { (full : Bool) × ((low : ℕ) × ((high : ℕ) × (in_live (live_at streams.old.items no) (λ v. split_verdict v clock shard at full seq low high) ≡ Ok tt))) }
-    ensures ok { OnOk result (streams.new.items ≡ changed_at (no - 1) (with_split clock shard at seq) streams.old.items) }
-    ensures err { OnErr result (streams.new.items ≡ streams.old.items) }
-{
-    streams[(no.0 - 1) as usize].add_split(clock, shard, at, seq)
-}
-
-/// After a good merge.
-fn add_merge(
-    streams: &mut Vec<Stream>,
-    clock: Moment,
-    no: StreamNo,
-    shard: ShardNo,
-    other: ShardNo,
-    seq: Seq,
-) -> Result<(), Memory>
-    requires { (child : ℕ) × (in_live (live_at streams.old.items no) (λ v. merge_verdict v clock shard other seq child) ≡ Ok tt) }
-    ensures ok { OnOk result (streams.new.items ≡ changed_at (no - 1) (with_merge clock shard other seq) streams.old.items) }
-    ensures err { OnErr result (streams.new.items ≡ streams.old.items) }
-{
-    streams[(no.0 - 1) as usize].add_merge(clock, shard, other, seq)
+    streams[(no.0 - 1) as usize].add(clock, what)
 }
 
 /// Adds a good entry of a stream at a clock. After `Memory` the streams are as before.
@@ -194,34 +137,10 @@ pub fn add(
     ensures err { OnErr result (streams.new.items ≡ streams.old.items) }
 {
     match what {
-        Entry::Made { name, shards, .. } => add_made(alloc, streams, name, shards)?,
-        Entry::Gone { stream } => add_gone(streams, stream),
-        Entry::Put {
-            stream,
-            shard,
-            seq,
-            hash: _,
-            bytes,
-            key_bytes,
-        } => add_put(streams, clock, stream, shard, seq, bytes + key_bytes)?,
-        Entry::Split {
-            stream,
-            shard,
-            at,
-            seq,
-            low: _,
-            high: _,
-        } => add_split(streams, clock, stream, shard, at, seq)?,
-        Entry::Merged {
-            stream,
-            shard,
-            other,
-            seq,
-            child: _,
-        } => add_merge(streams, clock, stream, shard, other, seq)?,
-        Entry::Kept { stream, hours } => add_kept(streams, clock, stream, hours),
-        Entry::Enforced { stream, on } => add_limits(streams, stream, on),
-        _ => (),
+        Entry::Made { name, shards, .. } => add_made(alloc, streams, name, shards),
+        what => match what.stream() {
+            Some(no) => add_later(streams, clock, no, &what),
+            None => Ok(()),
+        },
     }
-    Ok(())
 }
