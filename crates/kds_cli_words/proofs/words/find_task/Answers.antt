@@ -1,5 +1,5 @@
 use Rattle.std.proofs.Common.{rules}
-use Rattle.kds_cli_words.proofs.Reading.{too_many, unseen}
+use Rattle.kds_cli_words.proofs.Unseen.{too_many, unseen}
 use Rattle.kds_cli_words.proofs.words.find_task.Goals as goal
 
 pub returns-then-len-gt4-clause-task : goal.returns-then-len-gt4-clause-task

@@ -1,11 +1,11 @@
 use Rattle.std.proofs.Common.{rules, ◌≡◌, [], sym, ap, ap₂, ◌∙◌}
 use Rattle.std.specs.Prelude.{map, string_bytes}
-use Rattle.clap.specs.Words.{fault_of, is_simple, is_simple_and_free, subcommand_of, takes}
+use Rattle.clap.specs.Words.{fault_of, is_simple, is_simple_and_free, subcommand_of}
 use Rattle.kds_cli_words.specs.Apps.{kds_app}
 use Rattle.kds_cli_tasks.specs.Words.{texts_of}
 use Rattle.kds_cli_words.specs.Words.{told}
+use Rattle.kds_cli_words.proofs.Exact.{free, simple}
 use Rattle.kds_cli_words.proofs.Reading.{read_words, refused}
-use Rattle.kds_cli_words.proofs.Refused.{free, simple}
 use Rattle.kds_cli_words.proofs.words.parse_task.Goals as goal
 
 pub returns-in-Ok-clause-task : goal.returns-in-Ok-clause-task
@@ -23,4 +23,5 @@ returns-clause-task c =
     let words = c.args.words.now.items in
     let app = c.in_ok-command.ensures.app in
     let texts : map string_bytes c.as_slice.result.now ≡ texts_of words = search rules in
-    refused (texts_of words) c.kind.result (λ t. c.kind.ensures ∙ c.in-Err.ensures.passes (ap₂ takes app texts ∙ t)) (search rules)
+    refused words _ c.kind.result _ c.requires.words c.requires.few (ap₂ fault_of app texts) c.kind.ensures (search rules)
+    (c.in-Err.ensures.kinds (ap is_simple_and_free app ∙ free))
