@@ -1,7 +1,5 @@
-pub mod FaultTexts
-pub mod Lawful
-pub mod LawfulRecords
-pub mod LawfulSteps
 pub mod ManyRecords
 pub mod Objects
-pub mod RecordTexts
+pub mod Puts
+pub mod Requests
+pub mod Steps

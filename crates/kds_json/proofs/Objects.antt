@@ -5,27 +5,19 @@ use Rattle.std.specs.Str.{IsUtf8, is_utf8}
 use Rattle.std.proofs.lemmas.Bool.{cases_Bool}
 use Rattle.std.proofs.lemmas.Str.{IsUtf8-from_is_utf8, is_utf8-from_IsUtf8}
 use Rattle.serde_json.specs.Read.{read}
-use Rattle.serde_json.specs.Data.{Data, null, boolean, number, string, array, object}
+use Rattle.serde_json.specs.Data.{Data, object}
 use Rattle.serde_json.specs.Find.{as_object}
 use Rattle.kds_json_members.specs.declared.problem.FaultKind.TheVariants.{Serialization}
 use Rattle.kds_json_members.specs.Reading.{fault_of}
 use Rattle.kds_json.specs.Asked.{if_object, read_body}
 
 pub object_is : (d : Data) → is_some (as_object d) ≡ true → if_object (Some d) ≡ Ok d
-object_is null h = cc
-object_is (boolean b) h = cc
-object_is (number n) h = cc
-object_is (string s) h = cc
-object_is (array ds) h = cc
 object_is (object ms) h = refl
+object_is _ h = cc
 
 pub other_is : (d : Data) → is_some (as_object d) ≡ false → if_object (Some d) ≡ Err (fault_of Serialization [])
-other_is null h = refl
-other_is (boolean b) h = refl
-other_is (number n) h = refl
-other_is (string s) h = refl
-other_is (array ds) h = refl
 other_is (object ms) h = cc
+other_is _ h = refl
 
 pub ruleset objects = (object_is, other_is)
 

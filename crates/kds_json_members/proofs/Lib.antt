@@ -1,3 +1,2 @@
 pub mod Digests
-pub mod LawfulMembers
-pub mod MemberTexts
+pub mod Members

@@ -1,5 +1,4 @@
-use Rattle.kds_json.proofs.Lawful.{asked_request}
-use Rattle.kds_json.proofs.FaultTexts.{fault_text}
+use Rattle.kds_json.proofs.Requests.{asked_request, fault_text}
 use Rattle.kds_json.proofs.request.ask.Goals as goal
 
 pub returns-in-Ok-clause-lawful : goal.returns-in-Ok-clause-lawful
