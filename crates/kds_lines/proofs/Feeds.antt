@@ -5,7 +5,7 @@ use Rattle.std.proofs.lemmas.List.{append_assoc, append-nil, length-append}
 use Rattle.std.specs.Io.KnownBytes.{Appends, IsAtEnd, Keeps}
 use Rattle.std.specs.Option.{IfSome}
 use Rattle.std.specs.Prelude.{◌==◌, if◌then◌else◌, OnOk, OnErr, IfErr, Result, Ok, Err}
-use Rattle.std.proofs.KnownBytes.{Appends-nil, Appends-trans, Consumes-nil, Consumes-kept}
+use Rattle.std.proofs.KnownBytes.{Appends-trans, Consumes-kept}
 use Rattle.kds_ends.specs.Causes.{AppendsFront}
 use Rattle.kds_defs.specs.declared.limits.TheConstants.{LINE_BYTES, INPUT_BYTES}
 use Rattle.kds_lines.specs.declared.outcome.Outcome.{Outcome}
@@ -16,7 +16,7 @@ use Rattle.kds_lines.specs.Writing.{Wrote, Loses}
 use Rattle.kds_lines.specs.LineBuffer.{Stands, Stops, Halted, HasTakenFed, FedLines, Running, HaltedAfter, HoldStops, IsOwnStop, IsFeedStop, IsStop, lost_after}
 use Rattle.kds_lines.specs.Taking.{Goes, Breaks}
 use Rattle.kds_lines.specs.Telling.{Because, HasTaken, Unwritten, Told}
-use Rattle.kds_lines.proofs.Pieces.{fed_nothing, line_fed, line_over, more_fed, more_over, at_end, lines_so_far, fed_begins, begins_more, too_long_more}
+use Rattle.kds_lines.proofs.Pieces.{line_fed, line_over, more_fed, more_over, at_end, lines_so_far, fed_begins, begins_more, too_long_more}
 
 -- ---- what is written
 
@@ -53,10 +53,6 @@ flush_err (Err x) before now piece waits e h = λ start whole missing w. lost st
 
 at_length : (len used : ℕ) (w : List ℕ) {b : Bool} → len ≡ length w → is_over len (used + len + 1) ≡ b → is_over (length w) (used + length w + 1) ≡ b
 at_length len used w {b} el h = subst (λ (z : ℕ). is_over z (used + z + 1) ≡ b) el h
-
--- a line within the limits
-pub within_limits : (len used : ℕ) → is_over len (used + len + 1) ≡ false → (len ≤ LINE_BYTES) × (used + len + 1 ≤ INPUT_BYTES)
-within_limits len used h = (grind (arith, common_steps), grind (arith, common_steps))
 
 module _ (before took : List (List ℕ) → Type 0) (broke refuses : List (List ℕ) → List ℕ → Type 0) (output : List (List ℕ) → List ℕ) where
   pub line_taken : (y a : List ℕ) (len : ℕ) (old new : LineBuffer) (start now : Option (List ℕ)) → len ≡ length (old.held ++ a)
@@ -206,12 +202,7 @@ module _ (before took : List (List ℕ) → Type 0) (broke refuses : List (List 
         wrote = l.1;
         unwritten = tt;
       }
-  halted_lost TooLong y waits start mid now h loses = lost_there y h.texts start now h.begins h.taken (loses (output h.texts) h.missing h.wrote)
-  halted_lost (Stopped n) y waits start mid now h loses = lost_there y h.texts start now h.begins h.taken (loses (output h.texts) h.missing h.wrote)
-  halted_lost Read y waits start mid now h loses = lost_there y h.texts start now h.begins h.taken (loses (output h.texts) h.missing h.wrote)
-  halted_lost Write y waits start mid now h loses = lost_there y h.texts start now h.begins h.taken (loses (output h.texts) h.missing h.wrote)
-  halted_lost Whole y waits start mid now h loses = lost_there y h.texts start now h.begins h.taken (loses (output h.texts) h.missing h.wrote)
-  halted_lost (Unfinished n) y waits start mid now h loses = lost_there y h.texts start now h.begins h.taken (loses (output h.texts) h.missing h.wrote)
+  halted_lost _ y waits start mid now h loses = lost_there y h.texts start now h.begins h.taken (loses (output h.texts) h.missing h.wrote)
 
   pub fed_lost : (r : Result (Unit {0}) Outcome) (piece : List ℕ) (old new : LineBuffer) (held mid now : Option (List ℕ))
       → OnOk r ((fed : List ℕ) (start : Option (List ℕ)) → Stands before output fed old start held → Stands took output (fed ++ piece) new start mid)
@@ -229,19 +220,12 @@ module _ (before took : List (List ℕ) → Type 0) (broke refuses : List (List 
   stops_more (Stopped n) y z ts k s = (s.0, begins_more y z _ s.1, s.2, s.3)
   stops_more Write y z ts k s = tt
   stops_more Memory y z ts k s = tt
-  stops_more Read y z ts k s = absurd k
-  stops_more Whole y z ts k s = absurd k
-  stops_more (Unfinished n) y z ts k s = absurd k
+  stops_more _ y z ts k s = absurd k
 
   taken_more : (o : Outcome) (y z : List ℕ) (ts : List (List ℕ)) → HasTakenFed o took broke y ts → HasTakenFed o took broke (y ++ z) ts
   taken_more Memory y z ts (inl t) = inl t
   taken_more Memory y z ts (inr part) = inr (part.0, begins_more y z _ part.1, part.2)
-  taken_more TooLong y z ts t = t
-  taken_more (Stopped n) y z ts t = t
-  taken_more Read y z ts t = t
-  taken_more Write y z ts t = t
-  taken_more Whole y z ts t = t
-  taken_more (Unfinished n) y z ts t = t
+  taken_more _ y z ts t = t
 
   -- where it stopped, more bytes change nothing
   pub halted_more : (o : Outcome) (y z waits : List ℕ) (start now : Option (List ℕ)) → IsFeedStop o → Halted o took broke refuses output y waits start now
@@ -300,11 +284,7 @@ module _ (before took : List (List ℕ) → Type 0) (broke refuses : List (List 
   held_stops : (o : Outcome) (y : List ℕ) (ts : List (List ℕ)) → took ts → HoldStops o y ts → Stops o refuses y ts × (Unwritten o [] × HasTakenFed o took broke y ts)
   held_stops TooLong y ts t h = (h, (refl, t))
   held_stops Memory y ts t h = (tt, (tt, inl t))
-  held_stops (Stopped n) y ts t h = absurd h
-  held_stops Read y ts t h = absurd h
-  held_stops Write y ts t h = absurd h
-  held_stops Whole y ts t h = absurd h
-  held_stops (Unfinished n) y ts t h = absurd h
+  held_stops _ y ts t h = absurd h
 
   pub piece_stops : (fed piece rest waits : List ℕ) (old : LineBuffer) (start now : Option (List ℕ)) (o : Outcome) → (f : FedLines took output fed piece rest old start now) → NoFeed rest
       → waits ≡ old.output → ((y : List ℕ) (ts : List (List ℕ)) → Fed y ts old.used old.held → NoFeed rest → HoldStops o (y ++ rest) ts)
@@ -343,24 +323,10 @@ own_is_feed (Stopped n) h = tt
 own_is_feed TooLong h = tt
 own_is_feed Memory h = tt
 own_is_feed Write h = tt
-own_is_feed Read h = absurd h
-own_is_feed Whole h = absurd h
-own_is_feed (Unfinished n) h = absurd h
+own_is_feed _ h = absurd h
 
 pub own_is_no_write : (o : Outcome) → IsOwnStop o → o ≡ Write → ⊥
 own_is_no_write o h e = let bad : IsOwnStop Write = subst (λ (z : Outcome). IsOwnStop z) e h in bad
-
-pub feed_is_stop : (o : Outcome) → IsFeedStop o → IsStop o
-feed_is_stop (Stopped n) h = tt
-feed_is_stop TooLong h = tt
-feed_is_stop Memory h = tt
-feed_is_stop Write h = tt
-feed_is_stop Read h = absurd h
-feed_is_stop Whole h = absurd h
-feed_is_stop (Unfinished n) h = absurd h
-
-pub feed_is_no_read : (o : Outcome) → IsFeedStop o → o ≡ Read → ⊥
-feed_is_no_read o h e = let bad : IsFeedStop Read = subst (λ (z : Outcome). IsFeedStop z) e h in bad
 
 -- ---- the source
 
@@ -370,21 +336,6 @@ not_over len used a b = grind (arith, common_steps)
 -- ---- what is told
 
 module _ (took : List (List ℕ) → Type 0) (broke refuses : List (List ℕ) → List ℕ → Type 0) (output : List (List ℕ) → List ℕ) where
-  pub runs_from : (left start : Option (List ℕ)) (reading : LineBuffer) → reading.held ≡ [] → reading.output ≡ [] → reading.count ≡ 0 → reading.used ≡ 0 → took []
-      → output [] ≡ [] → Running took output left left reading start start
-  runs_from left start reading eh eo ec eu t none = record {
-    fed = [];
-    consumed = Consumes-nil left;
-    stands = record {
-      texts = [];
-      bytes = rw (eh, eu) fed_nothing;
-      count = ec;
-      taken = t;
-      wrote = rw eo (record { front = []; parts = none; written = Appends-nil start });
-    };
-    flushed = eo;
-  }
-
   -- the source fails
   pub halted_read : (all left after start now : Option (List ℕ)) (reading : LineBuffer) → Running took output all left reading start now → Keeps left after
       → HaltedAfter Read took broke refuses output all after start now

@@ -136,9 +136,6 @@ lined_over used a (q ∷ r ∷ rs) c n h =
 
 -- ---- bytes that are fed
 
-pub fed_nothing : Fed [] [] 0 []
-fed_nothing = record { goes_on = λ more. refl; no_feed = tt }
-
 -- what a line feed makes of the lines
 feed_goes : (y a z : List ℕ) (ts : List (List ℕ)) (used : ℕ) (held : List ℕ) → Fed y ts used held → NoFeed a
     → lined ((y ++ (a ++ 10 ∷ [])) ++ z)
@@ -211,6 +208,3 @@ begins_more y z ts b = λ more. let r = b (z ++ more) in (r.0, ap (λ w. (lined 
 
 pub too_long_more : (y z : List ℕ) (ts : List (List ℕ)) → IsTooLong y ts → IsTooLong (y ++ z) ts
 too_long_more y z ts d = λ more. ap lined (append_assoc y z more) ∙ d (z ++ more)
-
-pub too_long_begins : (y : List ℕ) (ts : List (List ℕ)) → IsTooLong y ts → Begins y ts
-too_long_begins y ts d = λ more. ([], ap (λ l. l.texts) (d more) ∙ sym (append-nil ts))

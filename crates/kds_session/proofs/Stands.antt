@@ -342,10 +342,8 @@ answer_told s past a st waits new e = subst (λ (n : SessionState). StandsFor n 
           leads = l;
           written = sym (append_assoc past.sent s.output _) ∙ ap (λ z. z ++ answered (reply_of a) true) (t ∙ append-nil _) ∙ sym p.0 ∙ sym (append-nil _);
         }
-    by_waiting Answer Closed n v w l t = absurd (cc v)
-    by_waiting Answer (Refused status) n v w l t = absurd (cc v)
-    by_waiting LastAnswer Closed n v w l t = absurd (cc v)
-    by_waiting LastAnswer (Refused status) n v w l t = absurd (cc v)
+    by_waiting Answer _ n v w l t = absurd (cc v)
+    by_waiting LastAnswer _ n v w l t = absurd (cc v)
 
 -- the session is written to at the end
 pub told_state : (s : SessionState) (out text : List ℕ) (close : Bool) (d : Standing) (r : ℕ × List ℕ) → out ≡ s.output ++ text → text ≡ answered r close → close ≡ is_last s.waiting → d ≡ standing_after close s.standing
@@ -366,10 +364,6 @@ refused_not_live status e = cc
 -- the connection has ended
 pub less_ended : (s new : SessionState) → IsFree s → to_come new ≡ 0 → to_come new < to_come s
 less_ended s new free e = let all = all_to_come s free in omega (arith, all, e)
-
--- a message was read
-pub less_read : (s new : SessionState) → IsFree s → IsFree new → new.left < s.left → to_come new < to_come s
-less_read s new free after h = let all = all_to_come s free in let then = all_to_come new after in omega (arith, all, then, h)
 
 some_left_by : (h close : Bool) (left : ℕ) → close ≡ (h || nat_le left 1) → close ≡ false → 1 < left
 some_left_by true close left e f = absurd (cc (sym e ∙ f))
@@ -405,11 +399,9 @@ told_still left d new w close c waits e =
     by_waiting : (w : Waiting) (d : Standing) → w ≢ Nothing → still (stage_of (standing_after (is_last w) d) Nothing) left ≡ still (stage_of d w) left
     by_waiting Nothing d n = absurd (n refl)
     by_waiting Answer Live n = refl
-    by_waiting Answer Closed n = refl
-    by_waiting Answer (Refused status) n = refl
+    by_waiting Answer _ n = refl
     by_waiting LastAnswer Live n = refl
-    by_waiting LastAnswer Closed n = refl
-    by_waiting LastAnswer (Refused status) n = refl
+    by_waiting LastAnswer _ n = refl
 
 -- ---- what the reading comes to, of the session
 
