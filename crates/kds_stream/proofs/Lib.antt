@@ -15,3 +15,4 @@ pub mod Routings
 pub mod Rates
 pub mod Limits
 pub mod Scalings
+pub mod Serving

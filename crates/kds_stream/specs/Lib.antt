@@ -1,6 +1,7 @@
 pub mod Fields
 pub mod Reading
 pub mod Rating
-pub mod Value
+pub mod Serving
 pub mod Showing
 pub mod Steps
+pub mod Value

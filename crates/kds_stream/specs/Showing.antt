@@ -1,7 +1,6 @@
 -- Which journals a stream shows.
-use Rattle.std.specs.Prelude.{ℕ, ◌≡◌, ◌+◌, ◌≤◌, Bool, true, false, not, ◌||◌, nat_le, List, [], ◌∷◌, length, Option, Some, None, Result}
+use Rattle.std.specs.Prelude.{ℕ, ◌≡◌, ◌+◌, ◌≤◌, Bool, true, ◌||◌, nat_le, List, [], ◌∷◌, length, Option, Some, None, Result}
 use Rattle.std.specs.List.{filter}
-use Rattle.kds_defs.specs.declared.entry.Entry.{Entry}
 use Rattle.kds_defs.specs.declared.entry.Entry.TheVariants as entry
 use Rattle.kds_defs.specs.declared.limits.TheConstants.{OPEN_SHARDS}
 use Rattle.kds_defs.specs.declared.reply.Refusal.{Refusal}
@@ -10,11 +9,9 @@ use Rattle.kds_defs.specs.declared.reply.Reply.TheVariants as reply
 use Rattle.kds_defs.specs.Decision.{Accepted, Decision, Refused}
 use Rattle.kds_defs.specs.Histories.{answer_of, lines_of}
 use Rattle.kds_defs.specs.Journal.{Journal, Line, plain_line, with_lines}
-use Rattle.kds_defs.specs.PutCommands.{is_enforced}
-use Rattle.kds_defs.specs.Rates.{puts}
 use Rattle.kds_defs.specs.Records.{Logged, left_among, next_number, records}
 use Rattle.kds_defs.specs.Shards.{is_open, shards}
-use Rattle.kds_defs.specs.Streams.{floor_of, floor_of_lines, hours, is_live, made_at, name_of, trim_floor, was_made}
+use Rattle.kds_defs.specs.Streams.{floor_of, hours, is_live, made_at, name_of, trim_floor, was_made}
 use Rattle.kds_log.specs.Log.{LogValue}
 use Rattle.kds_stream.specs.Rating.{ShowsRates}
 use Rattle.kds_stream.specs.Value.{StreamValue}
@@ -58,9 +55,9 @@ IsDecidedBy None line d = d ≡ Accepted (line ∷ []) reply.Done
 abbrev pub RefusesAs : StreamValue → Option Refusal → (Journal → ℕ → ℕ → ℕ → Line) → (Journal → ℕ → ℕ → ℕ → Decision) → Type 0
 RefusesAs v o line d = (log : Journal) (by : ℕ) → Shows v log → IsDecidedBy o (line log v.clock by v.no) (d log v.clock by v.no)
 
--- no further shard may be open, as a caller tells, or since as many are open in this stream alone
-abbrev pub is_full : StreamValue → Bool → Bool
-is_full v room = not room || nat_le OPEN_SHARDS (length (filter is_open v.tree))
+-- no further shard may be open in the stream, where so many may be, or since as many are open in it alone
+abbrev pub is_full : StreamValue → ℕ → Bool
+is_full v room = nat_le room (length (filter is_open v.tree)) || nat_le OPEN_SHARDS (length (filter is_open v.tree))
 
 -- ---- the lines of a split and of a merge
 

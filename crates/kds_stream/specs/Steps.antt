@@ -1,6 +1,5 @@
 -- The scaling of a stream (Kinesis API Reference, UpdateShardCount).
 use Rattle.std.specs.Prelude.{ℕ, ◌≡◌, ◌+◌, Bool, false, ◌||◌, nat_lt, List, length, map}
-use Rattle.std.specs.List.{filter}
 use Rattle.kds_defs.specs.declared.reply.Refusal.TheVariants as refusal
 use Rattle.kds_defs.specs.declared.reply.Reply.TheVariants as reply
 use Rattle.kds_defs.specs.declared.scale.ScaleStep.{ScaleStep}
@@ -9,14 +8,14 @@ use Rattle.kds_defs.specs.Journal.{Journal}
 use Rattle.kds_defs.specs.Records.{next_number}
 use Rattle.kds_defs.specs.Scaling.{LeadTo, scale, uniform_starts}
 use Rattle.kds_defs.specs.ScaleCommands.{made_by, step_lines, steps_to}
-use Rattle.kds_defs.specs.Shards.{is_open, open_shards, shards}
+use Rattle.kds_defs.specs.Shards.{open_shards, shards}
 use Rattle.kds_defs.specs.StreamCommands.{last_number}
 use Rattle.kds_stream.specs.Value.{StreamValue}
 use Rattle.kds_stream_logs.specs.Steps.{starts_in}
 
--- so many open shards are too many, where only so many more may be open
-abbrev pub is_over : StreamValue → ℕ → ℕ → Bool
-is_over v target room = nat_lt (length (filter is_open v.tree) + room) target
+-- so many open shards are too many, where so many may be open
+abbrev pub is_over : ℕ → ℕ → Bool
+is_over target room = nat_lt room target
 
 -- the steps draw a number, or number a shard, above the greatest
 abbrev pub are_spent : ℕ → ℕ → List ScaleStep → Bool

@@ -17,6 +17,7 @@ mod puts;
 mod reads;
 mod retention;
 mod scales;
+mod serve;
 mod splits;
 
 use crate::stream::clock::cut_at;

@@ -6,7 +6,7 @@ ghost use Rattle.kds_defs.specs.Histories.{answer_of};
 ghost use Rattle.kds_defs.specs.Journal.{Journal};
 ghost use Rattle.kds_defs.specs.Keys.{ref};
 ghost use Rattle.kds_defs.specs.Lawful.{IsLimit};
-ghost use Rattle.kds_defs.specs.Listings.{get_iterator, get_records, list_shards, refs_of};
+ghost use Rattle.kds_defs.specs.Listings.{get_iterator, get_records, list_shards, more, refs_of};
 ghost use Rattle.kds_defs.specs.Origins.{origin_position};
 ghost use Rattle.kds_defs.specs.Records.{batch, stored};
 ghost use Rattle.kds_defs.specs.Shards.{listed_among, shown};
@@ -20,7 +20,7 @@ use crate::stream::Stream;
 use kds_base::{Items, Memory, ShardNo, ShardRef};
 use kds_defs::{Answer, Iter, Origin, Page, Refusal, Reply, Shard, Start, Stored};
 use kds_stream_logs::{batch_at, behind, is_end, last_no, origin_position, position};
-use kds_token::iter_expired;
+use kds_token::{iter_expired, page_expired};
 use std::alloc::Global;
 
 impl Stream {
@@ -136,6 +136,19 @@ impl Stream {
             shards,
             next: more.then_some(page),
         }))
+    }
+
+    /// The listing of shards goes on where a token of this stream says. `PageExpired` where the token is too old
+    /// (Kinesis API Reference, ListShards, NextToken).
+    pub fn more(&self, page: &Page, limit: u32) -> Result<Answer, Memory>
+        requires stream { page.now.stream ≡ self.now.no }
+        requires limit { IsLimit limit }
+        ensures { (log : Journal) → Shows self.now log → IfOk result (λ a. a ≡ answer_of (more log self.now.clock page.now limit)) }
+    {
+        if page_expired(page, self.clock) {
+            return Ok(Err(Refusal::PageExpired));
+        }
+        self.shards(Some(page.after), limit)
     }
 
     /// The position where reading of a listed shard begins from an origin: 0 at the trim horizon, the stream's next

@@ -14,18 +14,18 @@ use kds_stream_logs::{add_shards, is_spent, made_by, reserve_shards, take_steps}
 
 impl Stream {
     /// UpdateShardCount: merges and then splits its open shards to `target` uniform ranges, by as few steps as there
-    /// are. `room` tells how many shards more than its own may be open. All memory is taken before the first step.
-    /// `Full` exactly where `target` is above its open shards and `room` together, `Spent` where the steps would draw a
+    /// are. `room` tells how many shards may be open in it beside those of the other streams. All memory is taken before
+    /// the first step. `Full` exactly where `target` is above `room`, `Spent` where the steps would draw a
     /// number, or number a shard, above the greatest of a `u64` (Kinesis API Reference, UpdateShardCount).
-    pub fn scale(&mut self, target: u32, room: u32) -> Result<Answer, Memory>
+    pub fn scale(&mut self, target: u32, room: u64) -> Result<Answer, Memory>
         requires { IsShardCount target }
-        ensures answered { IfOk result (λ a. Decides self.old self.new a (λ log by. scale_where (is_over self.old target room) log self.old.clock by self.old.name self.old.no target)) }
+        ensures answered { IfOk result (λ a. Decides self.old self.new a (λ log by. scale_where (is_over target room) log self.old.clock by self.old.name self.old.no target)) }
         ensures fields { (self.new.no ≡ self.old.no) × (self.new.name ≡ self.old.name) × (self.new.clock ≡ self.old.clock) }
         ensures refused { IfOk result (λ a. OnErr a (self.new ≡ self.old)) }
         ensures changed { IfOk result (λ a. OnOk a (IsChangedAt self.old self.new)) }
         ensures kept { OnErr result (self.new ≡ self.old) }
     {
-        if u64::from(target) > u64::from(self.open_count()) + u64::from(room) {
+        if u64::from(target) > room {
             return Ok(Err(Refusal::Full));
         }
         let starts = self.tree.starts()?;

@@ -16,15 +16,16 @@ use kds_log::ShardLog;
 use kds_rate::Window;
 
 impl Stream {
-    /// Whether no further shard may be open: over all streams, as `room` tells, or in this one.
-    fn is_full(&self, room: bool) -> bool
+    /// Whether no further shard may be open in it, where `room` may be, or since as many as may be at all are open.
+    fn is_full(&self, room: u64) -> bool
         ensures { result ≡ is_full self.now room }
     {
-        !room || u64::from(self.open_count()) >= OPEN_SHARDS
+        let open = u64::from(self.open_count());
+        open >= room || open >= OPEN_SHARDS
     }
 
     /// Why a split of the shard at the key is refused, if it is.
-    fn split_refusal(&self, shard: ShardNo, at: u128, room: bool) -> Option<Refusal>
+    fn split_refusal(&self, shard: ShardNo, at: u128, room: u64) -> Option<Refusal>
         ensures decided { RefusesAs self.now result (λ log c by s. split_line log c by s shard at) (λ log c by s. split_where (is_full self.now room) log c by s shard at) }
         ensures splits { IfNone result (split_refusal self.now.tree shard at ≡ None) }
         ensures free { IfNone result (self.now.next ≢ last_number) }
@@ -46,11 +47,11 @@ impl Stream {
         None
     }
 
-    /// Splits a shard at a key: it is closed with the next number, and its two children come last. `room` tells
-    /// whether another shard may be open, over all live streams. `NoShard` where the shard isn't listed, `ShardClosed`
+    /// Splits a shard at a key: it is closed with the next number, and its two children come last. `room` tells how
+    /// many shards may be open in the stream beside those of the others. `NoShard` where the shard isn't listed, `ShardClosed`
     /// where it is closed, `BadSplit` where a part would be empty, `Full` without room, `Spent` where the next number
     /// is the greatest of a `u64` (Kinesis API Reference, SplitShard).
-    pub fn split(&mut self, shard: ShardNo, at: u128, room: bool) -> Result<Answer, Memory>
+    pub fn split(&mut self, shard: ShardNo, at: u128, room: u64) -> Result<Answer, Memory>
         ensures answered { IfOk result (λ a. Decides self.old self.new a (λ log by. split_where (is_full self.old room) log self.old.clock by self.old.no shard at)) }
         ensures fields { (self.new.no ≡ self.old.no) × (self.new.name ≡ self.old.name) × (self.new.clock ≡ self.old.clock) }
         ensures refused { IfOk result (λ a. OnErr a (self.new ≡ self.old)) }

@@ -1,0 +1,48 @@
+-- Which commands a stream serves, what it is told of the other streams, and what it then decides.
+use Rattle.std.specs.Prelude.{ℕ, ◌≡◌, ◌+◌, ◌-◌, Bool, true, false, ◌||◌, is_some, List, length, Option, Some, None, Result}
+use Rattle.std.specs.List.{filter}
+use Rattle.kds_defs.specs.declared.command.Command.{Command}
+use Rattle.kds_defs.specs.declared.command.Command.TheVariants as command
+use Rattle.kds_defs.specs.declared.limits.TheConstants.{OPEN_SHARDS}
+use Rattle.kds_defs.specs.declared.reply.Refusal.{Refusal}
+use Rattle.kds_defs.specs.declared.reply.Reply.{Reply}
+use Rattle.kds_defs.specs.Histories.{answer_of, decide, lines_of}
+use Rattle.kds_defs.specs.Journal.{Journal, with_lines}
+use Rattle.kds_defs.specs.ScaleCommands.{open_elsewhere}
+use Rattle.kds_defs.specs.Shards.{is_open, open_count}
+use Rattle.kds_defs.specs.Streams.{stream_named}
+use Rattle.kds_defs.specs.Subjects.{name_of_command}
+use Rattle.kds_stream.specs.Showing.{Shows}
+use Rattle.kds_stream.specs.Value.{StreamValue}
+
+-- the number of the stream that the command's token is of, if it has a token
+abbrev pub token_of : Command → Option ℕ
+token_of (command.Records iter limit) = Some iter.stream
+token_of (command.More page limit) = Some page.stream
+token_of _ = None
+
+-- the command is for one stream that must be there, and leaves it there
+abbrev pub is_of_stream : Command → Bool
+is_of_stream (command.Delete name) = false
+is_of_stream what = is_some (name_of_command what) || is_some (token_of what)
+
+-- the command may open shards
+abbrev pub asks_for_room : Command → Bool
+asks_for_room (command.Split name sh at) = true
+asks_for_room (command.Scale name target) = true
+asks_for_room _ = false
+
+-- a journal that the stream shows: the command's name is this stream's, and so many shards may be open in the stream
+-- beside those of the others, where the command asks for that
+pub record IsToldOf (what : Command) (room : ℕ) (v : StreamValue) (log : Journal) : Type 0 where
+  pub shown : Shows v log
+  pub named : (name : List ℕ) → name_of_command what ≡ Some name → (name ≡ v.name) × (stream_named log name ≡ Some v.no)
+  pub opened : open_count log ≡ open_elsewhere log v.no + length (filter is_open v.tree)
+  pub fits : asks_for_room what ≡ true → room ≡ OPEN_SHARDS - open_elsewhere log v.no
+
+-- what a stream that became another answered is what the machine decides after each such journal; and it shows the
+-- journal with the decision's lines
+abbrev pub Serves : Command → ℕ → StreamValue → StreamValue → Result Reply Refusal → Type 0
+Serves what room old new gives =
+    (log : Journal) (by : ℕ) → IsToldOf what room old log
+    → (gives ≡ answer_of (decide log old.clock by what)) × Shows new (with_lines (lines_of (decide log old.clock by what)) log)

@@ -1,0 +1,41 @@
+//! One command of a stream.
+ghost use Rattle.std.specs.Prelude.{◌≡◌, ℕ, Some, true, IfOk, OnErr};
+ghost use Rattle.kds_defs.specs.Lawful.{IsLawfulCommand};
+ghost use Rattle.kds_stream.specs.Serving.{Serves, is_of_stream, token_of};
+
+use crate::stream::Stream;
+use kds_base::Memory;
+use kds_defs::{Answer, Command};
+use std::alloc::Global;
+
+impl Stream {
+    /// Serves a command that is for this stream, by its name or by a token of it. `room` tells how many shards may be
+    /// open in it beside those of the other streams; only SplitShard and UpdateShardCount ask for that. After `Memory`,
+    /// which is want of memory, the stream is as before (Kinesis API Reference, the operations of the commands).
+    pub fn serve(&mut self, alloc: Global, what: Command, room: u64) -> Result<Answer, Memory>
+        requires lawful { IsLawfulCommand what }
+        requires own { is_of_stream what ≡ true }
+        requires token { (s : ℕ) → token_of what ≡ Some s → s ≡ self.old.no }
+        ensures answered { IfOk result (λ a. Serves what room self.old self.new a) }
+        ensures fields { (self.new.no ≡ self.old.no) × (self.new.name ≡ self.old.name) × (self.new.clock ≡ self.old.clock) }
+        ensures kept { OnErr result (self.new ≡ self.old) }
+    {
+        // Each arm takes the name too: the borrow checker doesn't follow a field that is left behind.
+        match what {
+            Command::Describe { name, after, limit } => self.describe(alloc, after, limit),
+            Command::Summary { name } => self.summary(alloc),
+            Command::Put { name, item } => self.put(item),
+            Command::PutMany { name, items } => self.put_many(items),
+            Command::GetIterator { name, shard, from } => Ok(self.iterator(shard, from)),
+            Command::Records { iter, limit } => self.records(alloc, &iter, limit),
+            Command::Split { name, shard, at } => self.split(shard, at, room),
+            Command::Merge { name, shard, other } => self.merge(shard, other),
+            Command::Keep { name, hours, raise } => Ok(self.keep(hours, raise)),
+            Command::Scale { name, target } => self.scale(target, room),
+            Command::Enforce { name, on } => Ok(self.enforce(on)),
+            Command::Shards { name, after, limit } => self.shards(after, limit),
+            Command::More { page, limit } => self.more(&page, limit),
+            _ => unreachable!(),
+        }
+    }
+}
