@@ -4,9 +4,9 @@ pub mod Deleting
 pub mod Entries
 pub mod KeyedShards
 pub mod Leading
-pub mod Lives
 pub mod Lists
+pub mod Lives
+pub mod Lookups
 pub mod NameOrder
 pub mod Names
-pub mod Numbers
 pub mod Readings

@@ -1,37 +1,30 @@
--- What the lines of one stream leave of the others, and which lines the commands write.
+-- What the lines of one stream leave of the others, and that a command which is for one stream writes such lines.
 use Rattle.std.proofs.Common.{◌≡◌, ◌≢◌, ℕ, zero, suc, ◌+◌, ◌<◌, ◌≤◌, Bool, true, false, ◌==◌, List, [], ◌∷◌, ◌++◌, remove, slice_get, slice_set}
-use Rattle.std.proofs.Common.{Option, Some, None, refl, sym, ap, subst, ◌∙◌, arith}
-use Rattle.std.specs.Prelude.{◌&&◌, not, if◌then◌else◌}
+use Rattle.std.proofs.Common.{Some, None, refl, sym, ap, subst, ◌∙◌, arith}
+use Rattle.std.specs.Prelude.{◌&&◌, not, Result}
 use Rattle.std.proofs.lemmas.Option.{none-some, same_Some}
 use Rattle.std.proofs.lemmas.Bool.{or_from}
 use Rattle.kds_defs.proofs.Elsewhere.{count_same, fresh_empty, fresh_other, of_no_stream, of_other}
 use Rattle.kds_defs.proofs.Elsewhere as elsewhere
-use Rattle.kds_defs.specs.declared.command.NewItem.{NewItem}
-use Rattle.kds_defs.specs.declared.command.Start.{Start}
+use Rattle.kds_defs.specs.declared.command.Command.{Command}
 use Rattle.kds_defs.specs.declared.entry.Entry.{Entry}
 use Rattle.kds_defs.specs.declared.entry.Entry.TheVariants as entry
-use Rattle.kds_defs.specs.declared.reply.Iter.{Iter}
-use Rattle.kds_defs.specs.declared.reply.Page.{Page}
 use Rattle.kds_defs.specs.declared.reply.Refusal.{Refusal}
-use Rattle.kds_defs.specs.declared.scale.ScaleStep.{ScaleStep}
-use Rattle.kds_defs.specs.declared.scale.ScaleStep.TheVariants.{Cut, Join}
-use Rattle.kds_defs.specs.Decision.{Decision, refuse◌if◌else◌, with◌or◌then◌}
-use Rattle.kds_defs.specs.Histories.{lines_of}
+use Rattle.kds_defs.specs.declared.reply.Reply.{Reply}
+use Rattle.kds_defs.specs.Histories.{decide, lines_of}
 use Rattle.kds_defs.specs.Journal.{Line, Journal, plain_line, with_lines}
-use Rattle.kds_defs.specs.Listings.{get_iterator, get_records, more}
-use Rattle.kds_defs.specs.PutCommands.{enforce, is_held_back, put, put_many}
-use Rattle.kds_defs.specs.PutCommands as command
-use Rattle.kds_defs.specs.Records.{next_number}
-use Rattle.kds_defs.specs.ScaleCommands.{scale_stream, step_entry, step_lines, steps_to}
-use Rattle.kds_defs.specs.StreamCommands.{keep, merge, put_line, split}
-use Rattle.kds_defs.specs.Streams.{is_live, is_live_after, made_count, made_count_after}
-use Rattle.kds_defs.specs.Subjects.{IsFresh, stream_of}
+use Rattle.kds_defs.specs.ScaleCommands.{steps_to}
+use Rattle.kds_defs.specs.Streams.{is_live, is_live_after, made_count, made_count_after, stream_named}
+use Rattle.kds_defs.specs.Subjects.{IsFresh, name_of_command, stream_of}
+use Rattle.kds_defs.proofs.Walk.{Adds, Answers, Outcome, Refuses, Scales, Stores, each_put, each_step, walk}
+use Rattle.kds_defs.proofs.Walk.{Tells, Puts, Splits, Merges, Keeps, Enforces}
+use Rattle.kds_stream.specs.Serving.{is_of_stream}
 use Rattle.kds_stream.specs.Showing.{Shows}
 use Rattle.kds_stream.specs.Value.{StreamValue}
 use Rattle.kds_service.proofs.Lists.{AreUpTo, among_push, among_remove, at_push, at_remove, at_set, map_push, map_same, either_way}
 use Rattle.kds_service.proofs.Lists.{rising_push, rising_remove, shown_push, shown_remove, shown_set}
 use Rattle.kds_service.proofs.Readings.{up_to}
-use Rattle.kds_service.specs.Lines.{AreOf, is_within_life}
+use Rattle.kds_service.specs.Lines.{AreOf, IsLineOf, is_within_life}
 use Rattle.kds_service.specs.Shown.{AreAt, AreShown, IsRising, ServiceValue, ShowsAll, is_among, numbers_of, service}
 
 -- ---- the law of a stream, as `other_lines` ensures it
@@ -45,12 +38,12 @@ shows_more : (v : StreamValue) (c s : ℕ) (lines : List Line) (log : Journal) �
     → Shows v (with_lines lines log)
 shows_more v c s [] log law clock differ of shown = shown
 shows_more v c s (line ∷ lines) log law clock differ of shown =
-    shows_more v c s lines (line ∷ log) law clock differ of.3 (law v log line shown (of.1 ∙ sym clock) (of_other line.what s v.no of.0 differ))
+    shows_more v c s lines (line ∷ log) law clock differ of.1 (law v log line shown (of.0.1 ∙ sym clock) (of_other line.what s v.no of.0.0 differ))
 
 fresh_more : (s t c : ℕ) (lines : List Line) (log : Journal) → s ≢ t → AreOf s c lines → IsFresh log t → IsFresh (with_lines lines log) t
 fresh_more s t c [] log differ of fresh = fresh
 fresh_more s t c (line ∷ lines) log differ of fresh =
-    fresh_more s t c lines (line ∷ log) differ of.3 (fresh_other log line t fresh (of_other line.what s t of.0 differ))
+    fresh_more s t c lines (line ∷ log) differ of.1 (fresh_other log line t fresh (of_other line.what s t of.0.0 differ))
 
 made_same : (what : Entry) (n : ℕ) → is_within_life what ≡ true → made_count_after what n ≡ n
 made_same (entry.Made s name count) n h = absurd cc
@@ -63,11 +56,11 @@ live_same _ s b h = refl
 
 made_more : (s c : ℕ) (lines : List Line) (log : Journal) → AreOf s c lines → made_count (with_lines lines log) ≡ made_count log
 made_more s c [] log of = refl
-made_more s c (line ∷ lines) log of = made_more s c lines (line ∷ log) of.3 ∙ made_same line.what (made_count log) of.2
+made_more s c (line ∷ lines) log of = made_more s c lines (line ∷ log) of.1 ∙ made_same line.what (made_count log) of.0.2
 
 live_more : (s t c : ℕ) (lines : List Line) (log : Journal) → AreOf s c lines → is_live (with_lines lines log) t ≡ is_live log t
 live_more s t c [] log of = refl
-live_more s t c (line ∷ lines) log of = live_more s t c lines (line ∷ log) of.3 ∙ live_same line.what t (is_live log t) of.2
+live_more s t c (line ∷ lines) log of = live_more s t c lines (line ∷ log) of.1 ∙ live_same line.what t (is_live log t) of.0.2
 
 -- a number above all others is none of theirs
 beyond : (n s t : ℕ) → s ≤ n → n < t → t ≡ s → ⊥
@@ -178,70 +171,29 @@ shows_lease w line log law all clock none = record {
 pub shows_none : (c b : ℕ) → ShowsAll (service c b 0 []) []
 shows_none c b = record { made = refl; at = tt; rising = tt; shown = tt; others = λ s out. refl; unmade = λ s later. fresh_empty s }
 
--- ---- the lines of the commands
+-- ---- the lines of a command that is for one stream
 
-refused_lines : (r : Refusal) (b : Bool) (d : Decision) (s c : ℕ) → AreOf s c (lines_of d) → AreOf s c (lines_of (refuse r if b else d))
-unfolding refuse◌if◌else◌
-refused_lines r true d s c h = tt
-refused_lines r false d s c h = h
+module _ (log : Journal) (c by s : ℕ) where
+  of_one : (what : Command) (line : Line) (r : Reply) → Tells log c by what line r → is_of_stream what ≡ true
+      → ((name : List ℕ) → name_of_command what ≡ Some name → stream_named log name ≡ Some s) → IsLineOf s c line
+  of_one _ _ _ (Puts name item t named fits) own here = (sym named ∙ here _ refl, refl, refl)
+  of_one _ _ _ (Splits name sh at t named listed fits) own here = (sym named ∙ here _ refl, refl, refl)
+  of_one _ _ _ (Merges name sh other t named listed fits) own here = (sym named ∙ here _ refl, refl, refl)
+  of_one _ _ _ (Keeps name wanted raise t named fits) own here = (sym named ∙ here _ refl, refl, refl)
+  of_one _ _ _ (Enforces name on t named) own here = (sym named ∙ here _ refl, refl, refl)
+  of_one _ _ _ _ own here = absurd cc
 
-pub put_lines : (log : Journal) (c by s : ℕ) (item : NewItem) → AreOf s c (lines_of (put log c by s item))
-put_lines log c by s item = refused_lines _ _ _ _ _ (refused_lines _ _ _ _ _ (refl, refl, refl, tt))
+  of_all : (what : Command) (lines : List Line) (answer : Result Reply Refusal) → Outcome log c by what lines answer → is_of_stream what ≡ true
+      → ((name : List ℕ) → name_of_command what ≡ Some name → stream_named log name ≡ Some s) → AreOf s c lines
+  of_all _ _ _ (Refuses what r may) own here = tt
+  of_all _ _ _ (Answers what r is) own here = tt
+  of_all _ _ _ (Adds what line r tells) own here = (of_one what line r tells own here, tt)
+  of_all _ _ _ (Stores name items t named fits) own here =
+      each_put (IsLineOf s c) c by t items log (λ before n item among. (sym named ∙ here _ refl, refl, refl))
+  of_all _ _ _ (Scales name goal t named few fits) own here =
+      each_step (IsLineOf s c) c by t (steps_to log t goal) log (λ sh other n child. (sym named ∙ here _ refl, refl, refl))
+      (λ sh at n low high. (sym named ∙ here _ refl, refl, refl))
 
-held_or : (b : Bool) (line : Line) (xs ys : List Line) (s c : ℕ) → AreOf s c xs → AreOf s c (line ∷ ys) → AreOf s c (if b then xs else line ∷ ys)
-held_or true line xs ys s c held stored = held
-held_or false line xs ys s c held stored = stored
-
-lines_of_puts : (log : Journal) (c by s : ℕ) (items : List NewItem) → AreOf s c (command.put_lines log c by s items)
-lines_of_puts log c by s [] = tt
-lines_of_puts log c by s (item ∷ items) =
-    let line : Line = put_line log c by s (next_number log s) item in
-    held_or (is_held_back log c s item) line _ _ s c (lines_of_puts log c by s items) (refl, refl, refl, lines_of_puts (line ∷ log) c by s items)
-
-pub put_many_lines : (log : Journal) (c by s : ℕ) (items : List NewItem) → AreOf s c (lines_of (put_many log c by s items))
-put_many_lines log c by s items = refused_lines _ _ _ _ _ (lines_of_puts log c by s items)
-
-pub split_lines : (log : Journal) (c by s sh at : ℕ) → AreOf s c (lines_of (split log c by s sh at))
-split_lines log c by s sh at =
-    refused_lines _ _ _ _ _ (refused_lines _ _ _ _ _ (refused_lines _ _ _ _ _ (refused_lines _ _ _ _ _ (refused_lines _ _ _ _ _ (refl, refl, refl, tt)))))
-
-pub merge_lines : (log : Journal) (c by s sh other : ℕ) → AreOf s c (lines_of (merge log c by s sh other))
-merge_lines log c by s sh other =
-    refused_lines _ _ _ _ _ (refused_lines _ _ _ _ _ (refused_lines _ _ _ _ _ (refused_lines _ _ _ _ _ (refl, refl, refl, tt))))
-
-pub keep_lines : (log : Journal) (c by s wanted : ℕ) (raise : Bool) → AreOf s c (lines_of (keep log c by s wanted raise))
-keep_lines log c by s wanted raise = refused_lines _ _ _ _ _ (refl, refl, refl, tt)
-
-pub enforce_lines : (log : Journal) (c by s : ℕ) (on : Bool) → AreOf s c (lines_of (enforce log c by s on))
-enforce_lines log c by s on = (refl, refl, refl, tt)
-
-step_first : (log : Journal) (c by s : ℕ) (step : ScaleStep) (rest : List Line) → AreOf s c rest → AreOf s c (plain_line c by (step_entry log s step) ∷ rest)
-step_first log c by s (Join b) rest h = (refl, refl, refl, h)
-step_first log c by s (Cut b) rest h = (refl, refl, refl, h)
-
-lines_of_steps : (log : Journal) (c by s : ℕ) (steps : List ScaleStep) → AreOf s c (step_lines log c by s steps)
-lines_of_steps log c by s [] = tt
-lines_of_steps log c by s (step ∷ steps) = step_first log c by s step _ (lines_of_steps (plain_line c by (step_entry log s step) ∷ log) c by s steps)
-
-pub scale_lines : (log : Journal) (c by : ℕ) (name : List ℕ) (s target : ℕ) → AreOf s c (lines_of (scale_stream log c by name s target))
-scale_lines log c by name s target = refused_lines _ _ _ _ _ (refused_lines _ _ _ _ _ (lines_of_steps log c by s (steps_to log s target)))
-
--- ... and those that only read write none
-refused_none : (r : Refusal) (b : Bool) (d : Decision) → lines_of d ≡ [] → lines_of (refuse r if b else d) ≡ []
-unfolding refuse◌if◌else◌
-refused_none r true d h = refl
-refused_none r false d h = h
-
-with_lines_none : {A : Type 0} (o : Option A) (r : Refusal) (d : A → Decision) → ((x : A) → lines_of (d x) ≡ []) → lines_of (with o or r then d) ≡ []
-unfolding with◌or◌then◌
-with_lines_none None r d h = refl
-with_lines_none (Some x) r d h = h x
-
-pub iterator_none : (log : Journal) (c s sh : ℕ) (from : Start) → lines_of (get_iterator log c s sh from) ≡ []
-iterator_none log c s sh from = refused_none _ _ _ (with_lines_none _ _ _ (λ x. refused_none _ _ _ refl))
-
-pub records_none : (log : Journal) (c : ℕ) (iter : Iter) (limit : ℕ) → lines_of (get_records log c iter limit) ≡ []
-records_none log c iter limit = refused_none _ _ _ (refused_none _ _ _ (refused_none _ _ _ refl))
-
-pub more_none : (log : Journal) (c : ℕ) (page : Page) (limit : ℕ) → lines_of (more log c page limit) ≡ []
-more_none log c page limit = refused_none _ _ _ (refused_none _ _ _ refl)
+  pub own_lines : (what : Command) → is_of_stream what ≡ true → ((name : List ℕ) → name_of_command what ≡ Some name → stream_named log name ≡ Some s)
+      → AreOf s c (lines_of (decide log c by what))
+  own_lines what own here = of_all what _ _ (walk log c by what) own here

@@ -4,10 +4,9 @@ use Rattle.std.specs.Prelude.{Ok}
 use Rattle.kds_defs.specs.declared.command.Command.TheVariants as command
 use Rattle.kds_defs.specs.declared.reply.Reply.TheVariants as reply
 use Rattle.kds_defs.specs.Journal.{Journal}
-use Rattle.kds_defs.specs.Listings.{are_more, is_after_name, names_after, names_in_order, streams}
+use Rattle.kds_defs.specs.Listings.{are_more, is_after_name, names_after, names_in_order}
 use Rattle.kds_defs.specs.Streams.{name_of}
 use Rattle.kds_stream.specs.Value.{StreamValue}
-use Rattle.kds_service.proofs.Leading.{read_leads}
 use Rattle.kds_service.proofs.Readings.{live_are}
 use Rattle.kds_service.specs.Shown.{AreShown, LeadsTo, ServiceValue, ShowsAll, names_of, numbers_of, service}
 
@@ -22,9 +21,9 @@ after_are w log after all =
 
 pub streams_listed : (c : ℕ) (vs : List StreamValue) (after : Option (List ℕ)) (limit : ℕ) (names : List (List ℕ)) (more : Bool) → names ≡ take limit (filter (is_after_name after) (names_in_order (names_of vs)))
     → more ≡ are_more limit (filter (is_after_name after) (names_in_order (names_of vs))) → LeadsTo c vs vs (command.Streams after limit) (Ok (reply.Streams names more))
-streams_listed c vs after limit names more first rest = λ b n.
-    read_leads (service c b n vs) (command.Streams after limit) (Ok (reply.Streams names more)) (λ log. streams log after limit) (λ log by all. refl) (λ log. refl)
-    (λ log all.
-    ap (λ ns. Ok (reply.Streams ns more)) first
-    ∙ ap (λ m. Ok (reply.Streams (take limit (filter (is_after_name after) (names_in_order (names_of vs)))) m)) rest
-    ∙ ap (λ ns. Ok (reply.Streams (take limit ns) (are_more limit ns))) (sym (after_are (service c b n vs) log after all)))
+streams_listed c vs after limit names more first rest = λ b n log by all. (
+  ap (λ ns. Ok (reply.Streams ns more)) first
+      ∙ ap (λ m. Ok (reply.Streams (take limit (filter (is_after_name after) (names_in_order (names_of vs)))) m)) rest
+      ∙ ap (λ ns. Ok (reply.Streams (take limit ns) (are_more limit ns))) (sym (after_are (service c b n vs) log after all)),
+  all,
+)

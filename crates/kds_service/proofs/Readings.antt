@@ -1,24 +1,23 @@
 -- What the streams of a service say of the journal that they show.
 use Rattle.std.proofs.Common.{◌≡◌, ◌≢◌, ℕ, zero, suc, ◌+◌, ◌<◌, ◌≤◌, Bool, true, false, ◌==◌, cond, List, [], ◌∷◌, length, slice_get, Option, Some}
 use Rattle.std.proofs.Common.{None, refl, sym, ap, subst, ◌∙◌, arith}
-use Rattle.std.specs.Prelude.{◌||◌, if◌then◌else◌, is_some, nat_le, nat_lt, not}
+use Rattle.std.specs.Prelude.{if◌then◌else◌, is_some, nat_le, not}
 use Rattle.std.specs.Cmp.Lexicographic.{bytes_decides, nat_list_eq_equiv}
 use Rattle.std.specs.List.{find, filter, position_from}
 use Rattle.std.proofs.lemmas.Bool.{eqb-false, eqb-true, or_from}
 use Rattle.std.proofs.lemmas.Bool.Decides.{nat_tests}
 use Rattle.std.proofs.lemmas.List.{length-map}
 use Rattle.std.proofs.lemmas.Option.{none-some}
-use Rattle.kds_base.proofs.Facts.{same_some, is_other}
-use Rattle.kds_defs.specs.declared.limits.TheConstants.{MOST_SHARDS, OPEN_SHARDS}
+use Rattle.kds_base.proofs.Facts.{chosen, is_itself, is_other, not_chosen, same_some}
 use Rattle.kds_defs.specs.Journal.{Journal}
 use Rattle.kds_defs.specs.Shards.{is_open, open_count, open_in}
 use Rattle.kds_defs.specs.Streams.{is_live, live_streams, name_of, numbers_from, same_name, stream_named}
 use Rattle.kds_defs.specs.Subjects.{IsFresh}
-use Rattle.kds_stream.specs.Showing.{Shows, is_full}
+use Rattle.kds_stream.specs.Showing.{Shows}
 use Rattle.kds_stream.specs.Value.{StreamValue}
-use Rattle.kds_service.proofs.Lists.{AreUpTo, either_way, not_below}
+use Rattle.kds_service.proofs.Lists.{AreUpTo, above, either_way, not_below, rising_from}
 use Rattle.kds_defs.specs.ScaleCommands.{open_elsewhere}
-use Rattle.kds_service.specs.Places.{open_beside, open_total, place_of}
+use Rattle.kds_service.specs.Places.{open_beside, open_total, open_unless, place_of}
 use Rattle.kds_service.specs.Shown.{AreShown, IsRising, ServiceValue, ShowsAll, is_among, names_of, numbers_of}
 
 -- ---- the live streams
@@ -103,33 +102,6 @@ opens log (v ∷ vs) shown = omega (arith, ap (λ xs. length (filter is_open xs)
 
 pub open_are : (w : ServiceValue) (log : Journal) → ShowsAll w log → open_count log ≡ open_total w.streams
 open_are w log all = ap (open_in log) (live_are w log all) ∙ opens log w.streams all.shown
-
--- those of one stream are among them
-pub open_at : (i : ℕ) (vs : List StreamValue) (x : StreamValue) → slice_get vs i ≡ Some x → length (filter is_open x.tree) ≤ open_total vs
-open_at i [] x here = absurd (none-some x here)
-open_at zero (v ∷ vs) x here = omega (arith, ap (λ (u : StreamValue). length (filter is_open u.tree)) (same_some v x here))
-open_at (suc i) (v ∷ vs) x here = let rest = open_at i vs x here in omega (arith, rest)
-
-pub open_within : (w : ServiceValue) (log : Journal) (i : ℕ) (x : StreamValue) → ShowsAll w log → slice_get w.streams i ≡ Some x
-    → length (filter is_open x.tree) ≤ open_count log
-open_within w log i x all here = let few = open_at i w.streams x here in omega (arith, few, open_are w log all)
-
--- one more shard may be open where fewer than the limit are
-pub room_is : (w : ServiceValue) (log : Journal) (room : Bool) → room ≡ nat_le (open_total w.streams + 1) OPEN_SHARDS → ShowsAll w log
-    → room ≡ not (nat_le OPEN_SHARDS (open_count log))
-room_is w log room is all = is ∙ below (open_total w.streams) ∙ ap (λ n. not (nat_le OPEN_SHARDS n)) (sym (open_are w log all))
-  where
-    below : (n : ℕ) → nat_le (n + 1) OPEN_SHARDS ≡ not (nat_le OPEN_SHARDS n)
-    below n = grind (arith, nat_tests)
-
--- so a stream's own count adds nothing to what the service tells
-pub full_is : (log : Journal) (x : StreamValue) (room : Bool) → room ≡ not (nat_le OPEN_SHARDS (open_count log))
-    → length (filter is_open x.tree) ≤ open_count log → is_full x room ≡ nat_le OPEN_SHARDS (open_count log)
-full_is log x room is within =
-    ap (λ b. not b || nat_le OPEN_SHARDS (length (filter is_open x.tree))) is ∙ by (length (filter is_open x.tree)) (open_count log) within
-  where
-    by : (own all : ℕ) → own ≤ all → (not (not (nat_le OPEN_SHARDS all)) || nat_le OPEN_SHARDS own) ≡ nat_le OPEN_SHARDS all
-    by own all h = grind (arith, nat_tests)
 
 -- ---- the stream of a name
 
@@ -245,14 +217,27 @@ beside log s (v ∷ vs) shown = by (v.no == s) (beside log s vs shown.1)
 pub beside_is : (w : ServiceValue) (log : Journal) (s : ℕ) → ShowsAll w log → open_elsewhere log s ≡ open_beside w.streams s
 beside_is w log s all = ap (λ ns. open_in log (filter (λ t. not (t == s)) ns)) (live_are w log all) ∙ beside log s w.streams all.shown
 
--- where they leave room for so many, a stream that is told of room for as many more than its own isn't over it
-pub fits_beside : (own target others elsewhere : ℕ) → target ≤ MOST_SHARDS → elsewhere ≡ others → nat_le (others + target) OPEN_SHARDS ≡ true
-    → nat_lt (own + MOST_SHARDS) target ≡ nat_lt OPEN_SHARDS (elsewhere + target)
-fits_beside own target others elsewhere small same fits = grind (arith, nat_tests)
+-- those and its own are all
+all_beside : (s : ℕ) (vs : List StreamValue) → IsRising s (numbers_of vs) → open_beside vs s ≡ open_total vs
+all_beside s [] rising = refl
+all_beside s (v ∷ vs) rising =
+    let own : open_unless v s ≡ length (filter is_open v.tree) = not_chosen (v.no == s) 0 _ (is_other v.no s (λ e. absurd (omega (arith, rising.0, e)))) in
+    omega (arith, own, all_beside s vs (rising_from s v.no (numbers_of vs) (omega (arith, rising.0)) rising.1))
 
-pub fits_not : (target others elsewhere : ℕ) → elsewhere ≡ others → nat_le (others + target) OPEN_SHARDS ≡ false
-    → nat_lt OPEN_SHARDS (elsewhere + target) ≡ true
-fits_not target others elsewhere same fits = grind (arith, nat_tests)
+pub own_and_beside : (i low : ℕ) (vs : List StreamValue) (x : StreamValue) → IsRising low (numbers_of vs) → slice_get vs i ≡ Some x
+    → open_total vs ≡ open_beside vs x.no + length (filter is_open x.tree)
+own_and_beside i low [] x rising here = absurd (none-some x here)
+own_and_beside zero low (v ∷ vs) x rising here =
+    subst (λ (u : StreamValue). open_total (v ∷ vs) ≡ open_beside (v ∷ vs) u.no + length (filter is_open u.tree)) (same_some v x here) own
+  where
+    own : open_total (v ∷ vs) ≡ open_beside (v ∷ vs) v.no + length (filter is_open v.tree)
+    own =
+        let none : open_unless v v.no ≡ 0 = chosen (v.no == v.no) 0 _ (is_itself v.no) in
+        omega (arith, none, all_beside v.no vs rising.1)
+own_and_beside (suc i) low (v ∷ vs) x rising here =
+    let below = above v.no i vs x rising.1 here in
+    let all : open_unless v x.no ≡ length (filter is_open v.tree) = not_chosen (v.no == x.no) 0 _ (is_other v.no x.no (λ e. absurd (omega (arith, below, e)))) in
+    omega (arith, all, own_and_beside i v.no vs x rising.1 here)
 
 -- ---- the stream of a name has just this name
 

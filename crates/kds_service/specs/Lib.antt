@@ -1,4 +1,3 @@
-pub mod Acting
 pub mod Clocks
 pub mod Keyed
 pub mod Lines

@@ -1,5 +1,6 @@
 -- The lines that a command to one stream may write.
-use Rattle.std.specs.Prelude.{ℕ, ◌≡◌, Bool, true, false, List, [], ◌∷◌, Some}
+use Rattle.std.specs.Prelude.{ℕ, ◌≡◌, Bool, true, false, List, Some}
+use Rattle.std.specs.List.{AllByRecursion}
 use Rattle.kds_defs.specs.declared.entry.Entry.{Entry}
 use Rattle.kds_defs.specs.declared.entry.Entry.TheVariants as entry
 use Rattle.kds_defs.specs.Journal.{Line}
@@ -11,7 +12,10 @@ is_within_life (entry.Made s name count) = false
 is_within_life (entry.Gone s) = false
 is_within_life _ = true
 
--- each of the lines speaks of this stream, which lives before and after it, and is written at this clock
+-- the line speaks of this stream, which lives before and after it, and is written at this clock
+abbrev pub IsLineOf : ℕ → ℕ → Line → Type 0
+IsLineOf s c line = (stream_of line.what ≡ Some s) × (line.clock ≡ c) × (is_within_life line.what ≡ true)
+
+-- each of the lines does
 abbrev pub AreOf : ℕ → ℕ → List Line → Type 0
-AreOf s c [] = Unit {0}
-AreOf s c (line ∷ lines) = (stream_of line.what ≡ Some s) × (line.clock ≡ c) × (is_within_life line.what ≡ true) × AreOf s c lines
+AreOf s c lines = AllByRecursion (IsLineOf s c) lines

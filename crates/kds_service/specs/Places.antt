@@ -1,10 +1,17 @@
 -- Where a stream stands among those of the service, and how much they are together.
-use Rattle.std.specs.Prelude.{ℕ, ◌≡◌, ◌+◌, ◌==◌, Bool, ◌||◌, nat_le, nat_lt, if◌then◌else◌, List, [], ◌∷◌, length, Option}
+use Rattle.std.specs.Prelude.{ℕ, ◌≡◌, ◌+◌, ◌==◌, Bool, ◌||◌, nat_le, nat_lt, if◌then◌else◌, List, [], ◌∷◌, length, Option, Some, None}
 use Rattle.std.specs.List.{filter, position_from}
 use Rattle.std.specs.Map.{keys_of, values_of}
+use Rattle.kds_defs.specs.declared.command.Command.{Command}
+use Rattle.kds_defs.specs.declared.command.Command.TheVariants as command
 use Rattle.kds_defs.specs.declared.limits.TheConstants.{LIVE_STREAMS, OPEN_SHARDS}
+use Rattle.kds_defs.specs.declared.reply.Refusal.{Refusal}
+use Rattle.kds_defs.specs.declared.reply.Refusal.TheVariants as refusal
+use Rattle.kds_defs.specs.Listings.{is_old}
 use Rattle.kds_defs.specs.Shards.{is_open}
 use Rattle.kds_defs.specs.Streams.{same_name}
+use Rattle.kds_defs.specs.Subjects.{name_of_command}
+use Rattle.kds_stream.specs.Serving.{token_of}
 use Rattle.kds_stream.specs.Value.{StreamValue}
 use Rattle.kds_service.specs.Shown.{AreAt, names_of, numbers_of}
 
@@ -15,6 +22,21 @@ place_of vs name = position_from (same_name name) 0 (names_of vs)
 -- the place of the first stream of a number
 abbrev pub place_at : List StreamValue → ℕ → Option ℕ
 place_at vs s = position_from (λ n. n == s) 0 (numbers_of vs)
+
+-- the place of the stream that a command is for: by its token, and else by its name
+abbrev pub place_by : List StreamValue → Option ℕ → Option (List ℕ) → Option ℕ
+place_by vs (Some s) name = place_at vs s
+place_by vs None (Some name) = place_of vs name
+place_by vs None None = None
+
+abbrev pub place_for : List StreamValue → Command → Option ℕ
+place_for vs what = place_by vs (token_of what) (name_of_command what)
+
+-- why the command's token is refused, if it is too old
+abbrev pub expiry : ℕ → Command → Option Refusal
+expiry c (command.Records iter limit) = if is_old c iter.issued then Some refusal.Expired else None
+expiry c (command.More page limit) = if is_old c page.issued then Some refusal.PageExpired else None
+expiry c _ = None
 
 -- how many shards are open in all of them
 abbrev pub open_total : List StreamValue → ℕ

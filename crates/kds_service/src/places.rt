@@ -1,5 +1,5 @@
 //! Where a stream stands among those of the service.
-ghost use Rattle.std.specs.Prelude.{◌≡◌, ◌+◌, ◌<◌, IfSome, length, nat_le};
+ghost use Rattle.std.specs.Prelude.{◌≡◌, ◌+◌, ◌-◌, ◌<◌, IfSome, length, nat_le};
 ghost use Rattle.kds_defs.specs.declared.limits.TheConstants.{OPEN_SHARDS};
 ghost use Rattle.indexmap.specs.IndexMap.{keys, values};
 ghost use Rattle.kds_service.specs.Places.{is_full, open_beside, open_total, open_unless, place_at, place_of};
@@ -64,22 +64,16 @@ fn open_unless(stream: &Stream, no: StreamNo) -> u64
     }
 }
 
-/// Whether so many shards may be open beside those of all streams but the one of this number.
-pub fn has_room_beside(streams: &Streams, no: StreamNo, count: u64) -> bool
-    ensures { result ≡ nat_le (open_beside (values streams.now) no + count) OPEN_SHARDS }
+/// How many shards may be open beside those of all streams but the one of this number.
+pub fn room_beside(streams: &Streams, no: StreamNo) -> u64
+    ensures { result ≡ OPEN_SHARDS - open_beside (values streams.now) no }
 {
-    if count > OPEN_SHARDS {
-        return false;
-    }
-    let mut left = OPEN_SHARDS - count;
+    let mut left = OPEN_SHARDS;
     for i in 0..streams.len() {
         let open = open_unless(&streams[i], no);
-        if open > left {
-            return false;
-        }
-        left -= open;
+        left = left.saturating_sub(open);
     }
-    true
+    left
 }
 
 /// Whether a stream of so many shards would be one too many, or would have too many shards.

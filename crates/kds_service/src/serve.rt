@@ -3,16 +3,17 @@ ghost use Rattle.std.specs.Prelude.{◌≡◌, ℕ, true, IfOk, OnErr};
 ghost use Rattle.indexmap.specs.IndexMap.{values};
 ghost use Rattle.kds_defs.specs.Kinds.{is_service};
 ghost use Rattle.kds_defs.specs.Lawful.{IsLawfulCommand};
+ghost use Rattle.kds_stream.specs.Serving.{is_of_stream};
 ghost use Rattle.kds_service.specs.Places.{ArePlaced};
-ghost use Rattle.kds_service.specs.Shown.{Leads, service};
+ghost use Rattle.kds_service.specs.Shown.{Leads, LeadsTo, service};
 
-use crate::changes::{enforce, keep, merge, put, put_many, scale, split};
-use crate::life::{create, delete};
-use crate::naming::streams as list_streams;
+use crate::creation::{create, delete};
+use crate::laws;
+use crate::listing::streams as list_streams;
+use crate::lookup::{expired, find, room_for};
 use crate::places::Streams;
-use crate::reads::{describe, iterator, more, records, shards, summary};
 use kds_base::{Memory, Moment};
-use kds_defs::{Answer, Command};
+use kds_defs::{Answer, Command, Refusal};
 use std::alloc::Global;
 
 /// Serves a command that isn't of leases, at the clock at which all streams stand.
@@ -34,21 +35,35 @@ pub fn serve(
         Command::Create { name, shards } => create(alloc, streams, made, clock, name, shards),
         Command::Delete { name } => Ok(delete(streams, clock, &name)),
         Command::Streams { after, limit } => list_streams(alloc, streams, clock, &after, limit),
-        Command::Describe { name, after, limit } => {
-            describe(alloc, streams, clock, &name, after, limit)
+        other => serve_one(alloc, streams, clock, other),
+    }
+}
+
+/// Serves a command of one stream that must be there. A token that is too old is refused before its stream is looked
+/// for, and any other command with `NoStream` where there is no such stream.
+fn serve_one(
+    alloc: Global,
+    streams: &mut Streams,
+    clock: Moment,
+    what: Command,
+) -> Result<Answer, Memory>
+    requires placed { ArePlaced clock streams.old.entries }
+    requires lawful { IsLawfulCommand what }
+    requires own { is_of_stream what ≡ true }
+    ensures leads { IfOk result (LeadsTo clock (values streams.old) (values streams.new) what) }
+    ensures placed { ArePlaced clock streams.new.entries }
+    ensures kept { OnErr result (values streams.new ≡ values streams.old) }
+{
+    laws::others();
+    if let Some(refusal) = expired(&what, clock) {
+        return Ok(Err(refusal));
+    }
+    match find(streams, &what) {
+        None => Ok(Err(Refusal::NoStream)),
+        Some(i) => {
+            let no = streams[i].no();
+            let room = room_for(streams, no, &what);
+            streams[i].serve(alloc, what, room)
         }
-        Command::Summary { name } => summary(alloc, streams, clock, &name),
-        Command::Put { name, item } => put(streams, clock, &name, item),
-        Command::PutMany { name, items } => put_many(streams, clock, &name, items),
-        Command::GetIterator { name, shard, from } => iterator(streams, clock, &name, shard, from),
-        Command::Records { iter, limit } => records(alloc, streams, clock, &iter, limit),
-        Command::Split { name, shard, at } => split(streams, clock, &name, shard, at),
-        Command::Merge { name, shard, other } => merge(streams, clock, &name, shard, other),
-        Command::Keep { name, hours, raise } => keep(streams, clock, &name, hours, raise),
-        Command::Scale { name, target } => scale(streams, clock, &name, target),
-        Command::Enforce { name, on } => Ok(enforce(streams, clock, &name, on)),
-        Command::Shards { name, after, limit } => shards(streams, clock, &name, after, limit),
-        Command::More { page, limit } => more(streams, clock, &page, limit),
-        _ => unreachable!(),
     }
 }

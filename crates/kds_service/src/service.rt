@@ -17,10 +17,9 @@ ghost use Rattle.kds_service.specs.Keyed.{is_listed_in, live_shard};
 ghost use Rattle.kds_service.specs.Shown.{Leads, ShowsAll, service};
 
 use crate::clocks::{advance_all, place_in_turn, retreat_all, settle_at};
-use crate::keyed;
-use crate::others::others;
 use crate::places::Streams;
 use crate::serve::serve;
+use crate::{laws, lease_keys};
 use indexmap::IndexMap;
 use kds_base::{Items, Memory, Moment, ShardRef};
 use kds_defs::{Answer, Command, Origin, Shard, Stored};
@@ -57,7 +56,7 @@ impl Service {
         ensures value { result ≡ service 0 0 0 [] }
         ensures shows { ShowsAll result [] }
     {
-        others();
+        laws::others();
         Service {
             clock: Moment::start(),
             clock_before: Moment::start(),
@@ -122,21 +121,21 @@ impl Service {
         ensures value { result ≡ is_listed_in self.now.streams key }
         ensures shown { (log : Journal) → ShowsAll self.now log → result ≡ is_listed_key log self.now.clock key }
     {
-        keyed::is_listed(&self.streams, &key)
+        lease_keys::is_listed(&self.streams, &key)
     }
 
     /// The shard of a key. `None` exactly where its stream is gone, or it was never made.
     pub fn shard(&self, key: ShardRef) -> Option<&Shard>
         ensures { (log : Journal) → ShowsAll self.now log → option_map (λ x. x.now) result ≡ option_map shown (live_shard log key) }
     {
-        keyed::shard(&self.streams, &key)
+        lease_keys::shard(&self.streams, &key)
     }
 
     /// The keys of all listed shards, in order.
     pub fn listed(&self) -> Result<Items<ShardRef>, Memory>
         ensures { (log : Journal) → ShowsAll self.now log → IfOk result (λ keys. keys ≡ listed_in log self.now.clock (live_streams log)) }
     {
-        keyed::listed(*self.streams.allocator(), &self.streams)
+        lease_keys::listed(*self.streams.allocator(), &self.streams)
     }
 
     /// The position where reading of a listed shard begins from an origin: 0 at the trim horizon, its stream's next
@@ -146,7 +145,7 @@ impl Service {
         requires { is_listed_in self.now.streams key ≡ true }
         ensures { (log : Journal) → ShowsAll self.now log → result ≡ origin_position log self.now.clock key from }
     {
-        keyed::position(&self.streams, &key, from)
+        lease_keys::position(&self.streams, &key, from)
     }
 
     /// A batch of a listed shard at a position, and whether the shard ends after it: it is closed, and no
@@ -162,7 +161,7 @@ impl Service {
         ensures numbers { IfOk result (λ r. AllByRecursion (λ x. x.seq < 2 ^ 64 - 1) r.0) }
         ensures end { (log : Journal) → ShowsAll self.now log → IfOk result (λ r. r.1 ≡ read_ends log self.now.clock key.stream key.shard position limit) }
     {
-        keyed::read(
+        lease_keys::read(
             *self.streams.allocator(),
             &self.streams,
             &key,

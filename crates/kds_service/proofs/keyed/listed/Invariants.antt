@@ -1,8 +1,0 @@
-use Rattle.std.proofs.Common.{◌≡◌, ◌++◌, drop}
-use Rattle.indexmap.specs.IndexMap.{values}
-use Rattle.kds_service.specs.Keyed.{listed_keys}
-use Rattle.kds_service.proofs.keyed.listed.Given as goal
-
--- with the keys that are left, the keys so far are all of them
-abbrev pub invariant-loop-i : goal.invariant-loop-i
-invariant-loop-i l = l.keys ++ listed_keys (drop l.i (values l.streams)) ≡ listed_keys (values l.streams)

@@ -1,9 +1,0 @@
-use Rattle.std.proofs.Common.{◌≡◌, ◌+◌, drop}
-use Rattle.kds_defs.specs.declared.limits.TheConstants.{OPEN_SHARDS}
-use Rattle.indexmap.specs.IndexMap.{values}
-use Rattle.kds_service.specs.Places.{open_beside}
-use Rattle.kds_service.proofs.places.has_room_beside.Given as goal
-
--- what may still be open, less what is open in the streams that are left
-abbrev pub invariant-loop-i : goal.invariant-loop-i
-invariant-loop-i l = l.left + open_beside (values l.streams) l.no + l.count ≡ OPEN_SHARDS + open_beside (drop l.i (values l.streams)) l.no

@@ -1,0 +1,10 @@
+use Rattle.std.proofs.Common.{◌≡◌, drop}
+use Rattle.std.specs.Prelude.{◌-◌}
+use Rattle.kds_defs.specs.declared.limits.TheConstants.{OPEN_SHARDS}
+use Rattle.indexmap.specs.IndexMap.{values}
+use Rattle.kds_service.specs.Places.{open_beside}
+use Rattle.kds_service.proofs.places.room_beside.Given as goal
+
+-- less what is open in the streams that are left, what may still be open is what may be beside all
+abbrev pub invariant-loop-i : goal.invariant-loop-i
+invariant-loop-i l = l.left - open_beside (drop l.i (values l.streams)) l.no ≡ OPEN_SHARDS - open_beside (values l.streams) l.no

@@ -1,0 +1,64 @@
+//! The making and the end of streams.
+ghost use Rattle.std.specs.Prelude.{◌≡◌, ℕ, IfOk, OnErr};
+ghost use Rattle.indexmap.specs.IndexMap.{values};
+ghost use Rattle.kds_defs.specs.declared.command.Command.TheVariants as command;
+ghost use Rattle.kds_defs.specs.Lawful.{IsShardCount};
+ghost use Rattle.kds_service.specs.Places.{ArePlaced};
+ghost use Rattle.kds_service.specs.Shown.{Leads, LeadsTo, service};
+
+use crate::laws;
+use crate::places::{Streams, find_name, is_full};
+use kds_base::{Memory, Moment, Name, StreamNo};
+use kds_defs::{Answer, Refusal, Reply};
+use kds_stream::Stream;
+use std::alloc::Global;
+
+/// CreateStream: the stream comes last, with the number after the last one that was ever given
+/// (Kinesis API Reference, CreateStream).
+pub fn create(
+    alloc: Global,
+    streams: &mut Streams,
+    made: &mut u64,
+    clock: Moment,
+    name: Name,
+    shards: u32,
+) -> Result<Answer, Memory>
+    requires placed { ArePlaced clock streams.old.entries }
+    requires count { IsShardCount shards }
+    ensures leads { (before : ℕ) → IfOk result (Leads (service clock before made.old (values streams.old)) (service clock before made.new (values streams.new)) (command.Create name shards)) }
+    ensures placed { ArePlaced clock streams.new.entries }
+    ensures kept { OnErr result ((values streams.new ≡ values streams.old) × (made.new ≡ made.old)) }
+{
+    laws::others();
+    if find_name(streams, &name).is_some() {
+        return Ok(Err(Refusal::StreamThere));
+    }
+    if is_full(streams, shards as u64) {
+        return Ok(Err(Refusal::Full));
+    }
+    let last = *made;
+    if last == u64::MAX {
+        return Ok(Err(Refusal::Spent));
+    }
+    let key = name.copy(alloc)?;
+    let stream = Stream::new(alloc, StreamNo(last + 1), name, clock, shards)?;
+    streams.insert(key, stream)?;
+    *made = last + 1;
+    Ok(Ok(Reply::Done))
+}
+
+/// DeleteStream: the others keep their order (Kinesis API Reference, DeleteStream).
+pub fn delete(streams: &mut Streams, clock: Moment, name: &Name) -> Answer
+    requires { ArePlaced clock streams.old.entries }
+    ensures leads { LeadsTo clock (values streams.old) (values streams.new) (command.Delete name.now) result }
+    ensures placed { ArePlaced clock streams.new.entries }
+{
+    laws::others();
+    match find_name(streams, name) {
+        None => Err(Refusal::NoStream),
+        Some(i) => {
+            streams.shift_remove_index(i);
+            Ok(Reply::Done)
+        }
+    }
+}
