@@ -1,7 +1,6 @@
 -- The streams of a service at a later clock, and back at the earlier one.
 use Rattle.std.proofs.Common.{◌≡◌, ℕ, zero, suc, ◌<◌, ◌≤◌, List, [], ◌∷◌, length, map, slice_get, slice_set, Some, refl, sym, ap, subst, ◌∙◌, arith}
 use Rattle.kds_defs.specs.Journal.{Journal}
-use Rattle.kds_stream.specs.Showing.{Shows}
 use Rattle.kds_stream.specs.Value.{StreamValue, settled}
 use Rattle.kds_service.specs.Clocks.{advanced, retreated, settled_in}
 use Rattle.kds_service.specs.Shown.{AreAt, AreShown, IsRising, ServiceValue, ShowsAll, is_among, numbers_of}
@@ -59,22 +58,7 @@ shows_along w u log made numbers at shown all = record {
   unmade = λ s later. all.unmade s (subst (λ n. n < s) made later);
 }
 
--- a stream shows the same with the clock that it had, whatever it remembers
-back_shows : (clock : ℕ) (v : StreamValue) (log : Journal) → Shows v log → Shows (retreated (advanced clock v)) log
-back_shows clock v log shown = record {
-  live = shown.live;
-  was = shown.was;
-  named = shown.named;
-  made_is = shown.made_is;
-  hours_are = shown.hours_are;
-  shards_are = shown.shards_are;
-  next_is = shown.next_is;
-  floor_is = shown.floor_is;
-  kept = shown.kept;
-  none_beyond = shown.none_beyond;
-  rates = shown.rates;
-}
-
+-- each shows the same with the clock that it had, whatever it remembers
 pub back_shown : (clock : ℕ) (vs : List StreamValue) (log : Journal) → AreShown log vs → AreShown log (map retreated (map (advanced clock) vs))
 back_shown clock [] log shown = tt
-back_shown clock (v ∷ vs) log shown = (back_shows clock v log shown.0, back_shown clock vs log shown.1)
+back_shown clock (v ∷ vs) log shown = (record { stored = shown.0.stored; rates = shown.0.rates }, back_shown clock vs log shown.1)

@@ -79,13 +79,13 @@ unlisted_by log c s None dead = refl
 unlisted_by log c s (Some x) dead = sym (ap (λ b. not (not b || is_closed_below (trim_floor log c s) x)) dead)
 
 floor_by : (log : Journal) (c s : ℕ) (x : StreamValue) → IsOf log c s x → trim_floor log c s ≡ floor_of x.cut
-floor_by log c s x of = ap (λ n. trim_floor log n s) (sym of.clock) ∙ ap (trim_floor log x.clock) (sym of.no) ∙ of.shown.floor_is
+floor_by log c s x of = ap (λ n. trim_floor log n s) (sym of.clock) ∙ ap (trim_floor log x.clock) (sym of.no) ∙ of.shown.stored.floor_is
 
 live_by : (log : Journal) (c s : ℕ) (x : StreamValue) → IsOf log c s x → is_live log s ≡ true
-live_by log c s x of = ap (is_live log) (sym of.no) ∙ of.shown.live
+live_by log c s x of = ap (is_live log) (sym of.no) ∙ of.shown.stored.live
 
 shards_by : (log : Journal) (c s : ℕ) (x : StreamValue) → IsOf log c s x → shards log s ≡ x.tree
-shards_by log c s x of = ap (shards log) (sym of.no) ∙ of.shown.shards_are
+shards_by log c s x of = ap (shards log) (sym of.no) ∙ of.shown.stored.shards_are
 
 module _ (w : ServiceValue) (log : Journal) (all : ShowsAll w log) (key : ShardRef) where
   listed_of : (o : Option StreamValue) → stream_at w.streams key.stream ≡ o → is_listed_of o key.shard ≡ is_listed_key log w.clock key
@@ -120,9 +120,9 @@ keys_by log c [] at shown = refl
 keys_by log c (v ∷ vs) at shown =
     let of : IsOf log c v.no v = record { no = refl; clock = at.0; shown = shown.0 } in
     let are : listed_shards log c v.no ≡ listed_among (floor_of v.cut) v.tree =
-    ap (λ b. if b then listed_among (trim_floor log c v.no) (shards log v.no) else []) shown.0.live
+    ap (λ b. if b then listed_among (trim_floor log c v.no) (shards log v.no) else []) shown.0.stored.live
     ∙ ap (λ f. listed_among f (shards log v.no)) (floor_by log c v.no v of)
-    ∙ ap (listed_among (floor_of v.cut)) shown.0.shards_are in
+    ∙ ap (listed_among (floor_of v.cut)) shown.0.stored.shards_are in
     ap (λ xs. refs_of v.no xs ++ listed_keys vs) (sym are) ∙ ap (λ ks. refs_of v.no (listed_shards log c v.no) ++ ks) (keys_by log c vs at.1 shown.1)
 
 pub keys_are : (w : ServiceValue) (log : Journal) → ShowsAll w log → listed_keys w.streams ≡ listed_in log w.clock (live_streams log)

@@ -12,7 +12,7 @@ use Rattle.kds_service.specs.Shown.{AreShown, LeadsTo, ServiceValue, ShowsAll, n
 
 named : (log : Journal) (vs : List StreamValue) → AreShown log vs → map (name_of log) (numbers_of vs) ≡ names_of vs
 named log [] shown = refl
-named log (v ∷ vs) shown = ap (λ n. n ∷ map (name_of log) (numbers_of vs)) shown.0.named ∙ ap (λ ns. v.name ∷ ns) (named log vs shown.1)
+named log (v ∷ vs) shown = ap (λ n. n ∷ map (name_of log) (numbers_of vs)) shown.0.stored.named ∙ ap (λ ns. v.name ∷ ns) (named log vs shown.1)
 
 -- the names of the live streams are those of the service
 after_are : (w : ServiceValue) (log : Journal) (after : Option (List ℕ)) → ShowsAll w log → names_after log after ≡ filter (is_after_name after) (names_in_order (names_of w.streams))

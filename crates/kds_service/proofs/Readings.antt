@@ -29,7 +29,7 @@ live_or_dead log s live dead = absurd cc
 pub up_to : (n : ℕ) (vs : List StreamValue) (log : Journal) → AreShown log vs → ((s : ℕ) → n < s → IsFresh log s) → AreUpTo n vs
 up_to n [] log shown unmade = tt
 up_to n (v ∷ vs) log shown unmade =
-    let low = either_way (nat_le v.no n) (λ e. within v.no n e) (λ e. absurd (live_or_dead log v.no shown.0.live (unmade v.no (over v.no n e)).gone)) in
+    let low = either_way (nat_le v.no n) (λ e. within v.no n e) (λ e. absurd (live_or_dead log v.no shown.0.stored.live (unmade v.no (over v.no n e)).gone)) in
     (low, up_to n vs log shown.1 unmade)
   where
     within : (a b : ℕ) → nat_le a b ≡ true → a ≤ b
@@ -55,7 +55,7 @@ live_above log low (suc count) (v ∷ vs) rising below shown others =
     either_way (v.no == low + 1)
     (λ e.
     let same = is_next v.no low e in
-    let live : is_live log (low + 1) ≡ true = ap (is_live log) (sym same) ∙ shown.0.live in
+    let live : is_live log (low + 1) ≡ true = ap (is_live log) (sym same) ∙ shown.0.stored.live in
     let after =
     live_above log (low + 1) count vs (subst (λ n. IsRising n (numbers_of vs)) same rising.1) (subst (λ n. AreUpTo n vs) (end low count) below.1) shown.1
     (λ s above out. others s (omega arith) (or_from (v.no == s) (is_among (numbers_of vs) s) (is_other v.no s (λ is. apart v.no s low same above is)) out)) in
@@ -98,7 +98,7 @@ live_count w log all = ap length (live_are w log all) ∙ length-map w.streams (
 
 opens : (log : Journal) (vs : List StreamValue) → AreShown log vs → open_in log (numbers_of vs) ≡ open_total vs
 opens log [] shown = refl
-opens log (v ∷ vs) shown = omega (arith, ap (λ xs. length (filter is_open xs)) shown.0.shards_are, opens log vs shown.1)
+opens log (v ∷ vs) shown = omega (arith, ap (λ xs. length (filter is_open xs)) shown.0.stored.shards_are, opens log vs shown.1)
 
 pub open_are : (w : ServiceValue) (log : Journal) → ShowsAll w log → open_count log ≡ open_total w.streams
 open_are w log all = ap (open_in log) (live_are w log all) ∙ opens log w.streams all.shown
@@ -140,7 +140,7 @@ pub none_passes : {X : Type 0} (p : X → Bool) (n : ℕ) (x : X) (xs : List X) 
 none_passes p n x xs none = either_way (p x) (λ e. absurd (none-some n (sym none ∙ hit p n x xs e))) (λ e. (e, sym (missed p n x xs e) ∙ none))
 
 same_names : (log : Journal) (v : StreamValue) (name : List ℕ) → Shows v log → same_name (name_of log v.no) name ≡ same_name name v.name
-same_names log v name shown = ap (λ n. same_name n name) shown.named ∙ nat_list_eq_equiv.symm v.name name
+same_names log v name shown = ap (λ n. same_name n name) shown.stored.named ∙ nat_list_eq_equiv.symm v.name name
 
 module _ (log : Journal) (name : List ℕ) where
   here_or_rest : (v : StreamValue) (vs : List StreamValue) (b : Bool) → Shows v log → same_name name v.name ≡ b
@@ -212,7 +212,7 @@ beside log s (v ∷ vs) shown = by (v.no == s) (beside log s vs shown.1)
         → open_in log (cond (not b) (v.no ∷ filter (λ t. not (t == s)) (numbers_of vs)) (filter (λ t. not (t == s)) (numbers_of vs)))
         ≡ (if b then 0 else length (filter is_open v.tree)) + open_beside vs s
     by true rest = omega (arith, rest)
-    by false rest = omega (arith, ap (λ xs. length (filter is_open xs)) shown.0.shards_are, rest)
+    by false rest = omega (arith, ap (λ xs. length (filter is_open xs)) shown.0.stored.shards_are, rest)
 
 pub beside_is : (w : ServiceValue) (log : Journal) (s : ℕ) → ShowsAll w log → open_elsewhere log s ≡ open_beside w.streams s
 beside_is w log s all = ap (λ ns. open_in log (filter (λ t. not (t == s)) ns)) (live_are w log all) ∙ beside log s w.streams all.shown

@@ -26,16 +26,18 @@ pub shows_advanced : (v : StreamValue) (log : Journal) (clock : ℕ) (cut : Opti
 shows_advanced v log clock cut is later shown =
     let higher : floor_of v.cut ≤ floor_of cut = omega (arith, ap floor_of is, later_floor v.cut (cut_at clock v.hours)) in
     record {
-      live = shown.live;
-      was = shown.was;
-      named = shown.named;
-      made_is = shown.made_is;
-      hours_are = shown.hours_are;
-      shards_are = shown.shards_are;
-      next_is = shown.next_is;
-      floor_is = advanced_floor log v.clock clock v.no v.hours v.cut later shown.hours_are shown.floor_is ∙ ap floor_of (sym is);
-      kept = kept_higher (floor_of v.cut) (floor_of cut) log v.no 0 v.logs higher shown.kept;
-      none_beyond = shown.none_beyond;
+      stored = record {
+        live = shown.stored.live;
+        was = shown.stored.was;
+        named = shown.stored.named;
+        made_is = shown.stored.made_is;
+        hours_are = shown.stored.hours_are;
+        shards_are = shown.stored.shards_are;
+        next_is = shown.stored.next_is;
+        floor_is = advanced_floor log v.clock clock v.no v.hours v.cut later shown.stored.hours_are shown.stored.floor_is ∙ ap floor_of (sym is);
+        kept = kept_higher (floor_of v.cut) (floor_of cut) log v.no 0 v.logs higher shown.stored.kept;
+        none_beyond = shown.stored.none_beyond;
+      };
       rates = shown.rates;
     }
 
@@ -87,16 +89,18 @@ settled_place v i clock cut turn = record v { logs = settled_at (floor_of v.cut)
 
 pub shows_settled : (v : StreamValue) (i clock : ℕ) (cut : Option ℕ) (turn : ℕ) (log : Journal) → Shows v log → Shows (settled_place v i clock cut turn) log
 shows_settled v i clock cut turn log shown = record {
-  live = shown.live;
-  was = shown.was;
-  named = shown.named;
-  made_is = shown.made_is;
-  hours_are = shown.hours_are;
-  shards_are = shown.shards_are;
-  next_is = shown.next_is;
-  floor_is = shown.floor_is;
-  kept = kept_settled (floor_of v.cut) log v.no 0 i v.logs shown.kept;
-  none_beyond = shown.none_beyond;
+  stored = record {
+    live = shown.stored.live;
+    was = shown.stored.was;
+    named = shown.stored.named;
+    made_is = shown.stored.made_is;
+    hours_are = shown.stored.hours_are;
+    shards_are = shown.stored.shards_are;
+    next_is = shown.stored.next_is;
+    floor_is = shown.stored.floor_is;
+    kept = kept_settled (floor_of v.cut) log v.no 0 i v.logs shown.stored.kept;
+    none_beyond = shown.stored.none_beyond;
+  };
   rates = shown.rates;
 }
 

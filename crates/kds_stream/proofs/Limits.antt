@@ -27,16 +27,18 @@ pub enforce_done : (v : StreamValue) (log : Journal) (by : ℕ) (on : Bool) → 
 enforce_done v log by on shown = (
   refl,
   record {
-    live = shown.live;
-    was = shown.was;
-    named = shown.named;
-    made_is = shown.made_is;
-    hours_are = shown.hours_are;
-    shards_are = shown.shards_are;
-    next_is = omega (arith, shown.next_is);
-    floor_is = same_floor_at log (limits_line v by on) v.clock v.no refl refl ∙ shown.floor_is;
-    kept = kept_along (floor_of v.cut) log (limits_line v by on ∷ log) v.no 0 v.logs (λ sh. refl) shown.kept;
-    none_beyond = shown.none_beyond;
+    stored = record {
+      live = shown.stored.live;
+      was = shown.stored.was;
+      named = shown.stored.named;
+      made_is = shown.stored.made_is;
+      hours_are = shown.stored.hours_are;
+      shards_are = shown.stored.shards_are;
+      next_is = omega (arith, shown.stored.next_is);
+      floor_is = same_floor_at log (limits_line v by on) v.clock v.no refl refl ∙ shown.stored.floor_is;
+      kept = kept_along (floor_of v.cut) log (limits_line v by on ∷ log) v.no 0 v.logs (λ sh. refl) shown.stored.kept;
+      none_beyond = shown.stored.none_beyond;
+    };
     rates = record { enforced_is = chosen (v.no == v.no) on (is_enforced log v.no) (is_itself v.no); stand = shown.rates.stand; none_beyond = shown.rates.none_beyond };
   },
 )

@@ -85,13 +85,13 @@ none_of o false h = sym (ap not h)
 
 module _ (v : StreamValue) (log : Journal) (show : Shows v log) where
   pub shard_is : (sh : ℕ) → shard_at log v.no sh ≡ slice_get v.tree sh
-  shard_is sh = ap (λ xs. slice_get xs sh) show.shards_are
+  shard_is sh = ap (λ xs. slice_get xs sh) show.stored.shards_are
 
   listed_by : (o : Option ShardState) → is_listed_state log v.clock v.no o ≡ is_listed_at (floor_of v.cut) o
   listed_by None = refl
   listed_by (Some x) =
-      ap (λ b. not (not b || is_closed_below (trim_floor log v.clock v.no) x)) show.live
-      ∙ ap (λ f. not (is_closed_below f x)) show.floor_is
+      ap (λ b. not (not b || is_closed_below (trim_floor log v.clock v.no) x)) show.stored.live
+      ∙ ap (λ f. not (is_closed_below f x)) show.stored.floor_is
 
   pub listed_is : (sh : ℕ) → is_listed log v.clock v.no sh ≡ is_listed_at (floor_of v.cut) (slice_get v.tree sh)
   listed_is sh = ap (is_listed_state log v.clock v.no) (shard_is sh) ∙ listed_by (slice_get v.tree sh)
@@ -105,10 +105,10 @@ module _ (v : StreamValue) (log : Journal) (show : Shows v log) where
   position_is sh (start.At q) l below is = refl
   position_is sh (start.After q) l below is = refl
   position_is sh start.TrimHorizon l below is = refl
-  position_is sh start.Latest l below is = show.next_is
+  position_is sh start.Latest l below is = show.stored.next_is
   position_is sh (start.Time moment) l below is =
       ap (λ rs. first_at rs moment (next_number log v.no)) (left_is v log show sh l below is 0)
-      ∙ ap (λ n. first_at (left_among (floor_of v.cut) 0 l.kept) moment n) show.next_is
+      ∙ ap (λ n. first_at (left_among (floor_of v.cut) 0 l.kept) moment n) show.stored.next_is
 
   iterator_by : (sh : ℕ) (from : Start) (y : Shard) (l : LogValue) (below : sh < length v.logs) (is : l ≡ get_or v.logs sh l) (b : Bool) (has : HasState (floor_of v.cut) (slice_get v.tree sh) y) → is_good_start from v.next has.state ≡ b
       → answer_of (get_iterator log v.clock v.no sh from) ≡ (if b then Ok (reply.Iterator (iterator_at v.clock v.no sh (position_from v.next (left_among (floor_of v.cut) 0 l.kept) from))) else Err refusal.BadNumber)
@@ -116,13 +116,13 @@ module _ (v : StreamValue) (log : Journal) (show : Shows v log) where
       ap answer_of
       (passed_if _ _ _ (ap not (listed_is sh ∙ has.listed))
       ∙ with_some _ _ _ has.state (shard_is sh ∙ has.at)
-      ∙ passed_if _ _ _ (ap not (ap (λ n. is_good_start from n has.state) show.next_is ∙ good)))
+      ∙ passed_if _ _ _ (ap not (ap (λ n. is_good_start from n has.state) show.stored.next_is ∙ good)))
       ∙ ap (λ p. Ok (reply.Iterator (iterator_at v.clock v.no sh p))) (position_is sh from l below is)
   iterator_by sh from y l below is false has good =
       ap answer_of
       (passed_if _ _ _ (ap not (listed_is sh ∙ has.listed))
       ∙ with_some _ _ _ has.state (shard_is sh ∙ has.at)
-      ∙ refused_if _ _ _ (ap not (ap (λ n. is_good_start from n has.state) show.next_is ∙ good)))
+      ∙ refused_if _ _ _ (ap not (ap (λ n. is_good_start from n has.state) show.stored.next_is ∙ good)))
 
   chosen_some : (b : Bool) (n p : ℕ) → Some p ≡ (if b then Some n else None) → (b ≡ true) × (p ≡ n)
   chosen_some true n p h = (refl, same p n h)
@@ -201,7 +201,7 @@ module _ (v : StreamValue) (log : Journal) (show : Shows v log) where
   records_unlisted iter limit own young h =
       sym (ap answer_of (sym (records_by iter limit own)
       ∙ passed_if _ _ _ (sym young)
-      ∙ passed_if _ _ _ (ap not show.live)
+      ∙ passed_if _ _ _ (ap not show.stored.live)
       ∙ refused_if _ _ _ (ap not (listed_is iter.shard ∙ unlisted (floor_of v.cut) (slice_get v.tree iter.shard) h))))
 
   -- the reply, by whether the shard ends
@@ -218,7 +218,7 @@ module _ (v : StreamValue) (log : Journal) (show : Shows v log) where
         let has = has_state (floor_of v.cut) (slice_get v.tree iter.shard) y is in
         sym (records_by iter limit own)
         ∙ passed_if _ _ _ (sym young)
-        ∙ passed_if _ _ _ (ap not show.live)
+        ∙ passed_if _ _ _ (ap not show.stored.live)
         ∙ passed_if _ _ _ (ap not (listed_is iter.shard ∙ has.listed))
         ∙ ap (λ rs. records_reply log v.clock v.no iter.shard rs (place_after iter.position (numbers_of rs))) (batch_is v log show iter.shard l below at iter.position limit)
         ∙ ap (λ p. records_reply log v.clock v.no iter.shard (batch_among (floor_of v.cut) iter.position limit l.kept) p) (sym after)
@@ -237,7 +237,7 @@ module _ (v : StreamValue) (log : Journal) (show : Shows v log) where
         sym (ap answer_of (replied ∙ reply_by true iter.shard place (batch_among (floor_of v.cut) iter.position limit l.kept) (ends ∙ sym ended))
         ∙ ap (λ xs. Ok (reply.Records xs None (behind v.clock (left_from log v.clock v.no iter.shard place)) (map shown (children log v.no iter.shard)))) (sym taken)
         ∙ ap (λ n. Ok (reply.Records items None n (map shown (children log v.no iter.shard)))) behind_is
-        ∙ ap (λ xs. Ok (reply.Records items None ago (map shown (children_among iter.shard xs)))) show.shards_are
+        ∙ ap (λ xs. Ok (reply.Records items None ago (map shown (children_among iter.shard xs)))) show.stored.shards_are
         ∙ ap (λ xs. Ok (reply.Records items None ago xs)) (sym are))
 
     pub records_more : (none : List Shard) → false ≡ (is_some y.end && is_none left) → none ≡ []

@@ -108,18 +108,20 @@ module _ (log : Journal) (by s : ℕ) (name : List ℕ) (made count : ℕ) (fres
       → logs ≡ replicate count empty_log → AllByRecursion IsUnused windows → cut ≡ cut_at made FIRST_HOURS
       → Shows (new_value s made name tree logs windows cut cut_before) (plain_line made by (entry.Made s name count) ∷ log)
   shows_new tree logs windows cut cut_before shards_are logs_are unused is = record {
-    live = or_left (s == s) (is_live log s) (is_itself s);
-    was = or_left (s == s) (was_made log s) (is_itself s);
-    named = chosen (s == s) name (name_of log s) (is_itself s);
-    made_is = chosen (s == s) made (made_at log s) (is_itself s);
-    hours_are = chosen (s == s) FIRST_HOURS (hours log s) (is_itself s);
-    shards_are = chosen (s == s) _ (shards log s) (is_itself s) ∙ ap (made_shards count) drawn ∙ sym shards_are;
-    next_is = drawn;
-    floor_is = floor_made cut is;
-    kept =
-        subst (AreKept (floor_of cut) (plain_line made by (entry.Made s name count) ∷ log) s 0) (sym logs_are)
-        (kept_none (floor_of cut) (plain_line made by (entry.Made s name count) ∷ log) s 0 count fresh.no_records);
-    none_beyond = λ sh beyond. fresh.no_records sh;
+    stored = record {
+      live = or_left (s == s) (is_live log s) (is_itself s);
+      was = or_left (s == s) (was_made log s) (is_itself s);
+      named = chosen (s == s) name (name_of log s) (is_itself s);
+      made_is = chosen (s == s) made (made_at log s) (is_itself s);
+      hours_are = chosen (s == s) FIRST_HOURS (hours log s) (is_itself s);
+      shards_are = chosen (s == s) _ (shards log s) (is_itself s) ∙ ap (made_shards count) drawn ∙ sym shards_are;
+      next_is = drawn;
+      floor_is = floor_made cut is;
+      kept =
+          subst (AreKept (floor_of cut) (plain_line made by (entry.Made s name count) ∷ log) s 0) (sym logs_are)
+          (kept_none (floor_of cut) (plain_line made by (entry.Made s name count) ∷ log) s 0 count fresh.no_records);
+      none_beyond = λ sh beyond. fresh.no_records sh;
+    };
     rates =
         record {
           enforced_is = fresh.not_enforced;

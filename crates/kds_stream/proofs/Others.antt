@@ -23,16 +23,18 @@ pub shows_other : (v : StreamValue) (log : Journal) (line : Line) → Shows v lo
 shows_other v log line shown at other =
     let same = same_stream log line v.no other in
     record {
-      live = same.live ∙ shown.live;
-      was = same.was ∙ shown.was;
-      named = same.named ∙ shown.named;
-      made_is = same.made_is ∙ shown.made_is;
-      hours_are = same.hours_are ∙ shown.hours_are;
-      shards_are = same.shards_are ∙ shown.shards_are;
-      next_is = same.next_is ∙ shown.next_is;
-      floor_is = floor_same log line v.no v.clock (omega (arith, at)) same.hours_are ∙ shown.floor_is;
-      kept = kept_along (floor_of v.cut) log (line ∷ log) v.no 0 v.logs same.records_are shown.kept;
-      none_beyond = λ sh beyond. same.records_are sh ∙ shown.none_beyond sh beyond;
+      stored = record {
+        live = same.live ∙ shown.stored.live;
+        was = same.was ∙ shown.stored.was;
+        named = same.named ∙ shown.stored.named;
+        made_is = same.made_is ∙ shown.stored.made_is;
+        hours_are = same.hours_are ∙ shown.stored.hours_are;
+        shards_are = same.shards_are ∙ shown.stored.shards_are;
+        next_is = same.next_is ∙ shown.stored.next_is;
+        floor_is = floor_same log line v.no v.clock (omega (arith, at)) same.hours_are ∙ shown.stored.floor_is;
+        kept = kept_along (floor_of v.cut) log (line ∷ log) v.no 0 v.logs same.records_are shown.stored.kept;
+        none_beyond = λ sh beyond. same.records_are sh ∙ shown.stored.none_beyond sh beyond;
+      };
       rates =
           record {
             enforced_is = same.enforced_is ∙ shown.rates.enforced_is;

@@ -21,7 +21,7 @@ use Rattle.kds_defs.specs.Rates.{SizedPut, is_throttled, puts}
 use Rattle.kds_defs.specs.Records.{Logged, is_left, left_among, next_number, records}
 use Rattle.kds_defs.specs.Shards.{Closing, ShardState, home, home_among, is_open, shards}
 use Rattle.kds_defs.specs.StreamCommands.{last_number, put_line, put_place}
-use Rattle.kds_defs.specs.Streams.{floor_of, hours, is_live, made_at, name_of, trim_floor, was_made}
+use Rattle.kds_defs.specs.Streams.{floor_of}
 use Rattle.kds_log.specs.Log.{LogValue}
 use Rattle.kds_rate.specs.Windows.{WindowValue}
 use Rattle.kds_stream.proofs.Cuts.{same_floor_at}
@@ -29,7 +29,7 @@ use Rattle.kds_stream.proofs.LogLemmas.{all-appended, arrived_later, length-appe
 use Rattle.kds_stream_logs.proofs.Rates.{put_elsewhere, stand_along}
 use Rattle.kds_stream_logs.specs.Rating.{StandFor, with_put}
 use Rattle.kds_stream.specs.Rating.{AreRated, ShowsRates}
-use Rattle.kds_stream.specs.Showing.{AreKept, IsKept, Shows}
+use Rattle.kds_stream.specs.Showing.{AreKept, IsKept, Shows, ShowsStored}
 use Rattle.kds_stream_logs.specs.Logs.{HasArrived, IsBelow, IsUnder, with_appended}
 use Rattle.kds_stream.specs.Value.{EndsUnder, IsClosedUnder, IsStream, StreamValue}
 
@@ -73,49 +73,6 @@ kept_put floor log log' s n (suc i) at r (l ∷ ls) late is here others h =
   where
     apart : (at n i : ℕ) → at ≡ n + suc i → at ≡ n → ⊥
     apart at n i is e = omega (arith, is, e)
-
--- ---- what is shown, the throughput aside
-
-pub record ShowsStored (v : StreamValue) (log : Journal) : Type 0 where
-  pub live : is_live log v.no ≡ true
-  pub was : was_made log v.no ≡ true
-  pub named : name_of log v.no ≡ v.name
-  pub made_is : made_at log v.no ≡ v.made
-  pub hours_are : hours log v.no ≡ v.hours
-  pub shards_are : shards log v.no ≡ v.tree
-  pub next_is : next_number log v.no ≡ v.next
-  pub floor_is : trim_floor log v.clock v.no ≡ floor_of v.cut
-  pub kept : AreKept (floor_of v.cut) log v.no 0 v.logs
-  pub none_beyond : (sh : ℕ) → length v.tree ≤ sh → records log v.no sh ≡ []
-
-pub stored_part : (v : StreamValue) (log : Journal) → Shows v log → ShowsStored v log
-stored_part v log shown = record {
-  live = shown.live;
-  was = shown.was;
-  named = shown.named;
-  made_is = shown.made_is;
-  hours_are = shown.hours_are;
-  shards_are = shown.shards_are;
-  next_is = shown.next_is;
-  floor_is = shown.floor_is;
-  kept = shown.kept;
-  none_beyond = shown.none_beyond;
-}
-
-pub with_rates : (v : StreamValue) (log : Journal) (windows : List WindowValue) → ShowsStored v log → ShowsRates log v.no v.enforced (length v.tree) windows → Shows (record v { windows = windows }) log
-with_rates v log windows shown rates = record {
-  live = shown.live;
-  was = shown.was;
-  named = shown.named;
-  made_is = shown.made_is;
-  hours_are = shown.hours_are;
-  shards_are = shown.shards_are;
-  next_is = shown.next_is;
-  floor_is = shown.floor_is;
-  kept = shown.kept;
-  none_beyond = shown.none_beyond;
-  rates = rates;
-}
 
 -- ---- the throughput
 
@@ -166,11 +123,11 @@ module _ (v : StreamValue) (log : Journal) (by : ℕ) (item : NewItem) (shown : 
       → (Err (refusal.Throttled sh) ≡ answer_of (put log v.clock by v.no item)) × Shows v (with_lines (lines_of (put log v.clock by v.no item)) log)
   put_throttled sh at held =
       let both = after_refused _ (refusal.Throttled (home log v.no item.hash)) log (λ l. Shows v l) (refused_if _ _ _ held) shown in
-      (ap (λ n. Err (refusal.Throttled n)) (at ∙ sym (home_so v log by 0 item shown.shards_are)) ∙ both.0, both.1)
+      (ap (λ n. Err (refusal.Throttled n)) (at ∙ sym (home_so v log by 0 item shown.stored.shards_are)) ∙ both.0, both.1)
 
   pub put_spent : is_held_back log v.clock v.no item ≡ false → v.next ≡ last_number → (Err refusal.Spent ≡ answer_of (put log v.clock by v.no item)) × Shows v (with_lines (lines_of (put log v.clock by v.no item)) log)
   put_spent free spent =
-      after_refused _ refusal.Spent log (λ l. Shows v l) (passed_if _ _ _ free ∙ refused_if _ _ _ (is_equal (next_number log v.no) last_number (shown.next_is ∙ spent))) shown
+      after_refused _ refusal.Spent log (λ l. Shows v l) (passed_if _ _ _ free ∙ refused_if _ _ _ (is_equal (next_number log v.no) last_number (shown.stored.next_is ∙ spent))) shown
 
 module _ (v : StreamValue) (log : Journal) (by : ℕ) (item : NewItem) (shown : ShowsStored v log) where
   home_is : home log v.no item.hash ≡ home_among (filter is_open v.tree) item.hash
@@ -230,7 +187,8 @@ module _ (v : StreamValue) (log : Journal) (by : ℕ) (item : NewItem) (shown : 
       let stored = shows_put sh at within trims in
       let inside : home_among (filter is_open v.tree) item.hash < length v.tree = subst (λ n. n < length v.tree) at within in
       let stand' = subst (λ n. StandFor (with_put n (put_of v item) (puts log v.no)) 0 windows) at stand in
-      let full = with_rates _ after windows stored (rates_put v log by (next_number log v.no) item shown.shards_are windows inside rates stand') in
+      let full : Shows (record v { logs = with_appended sh (put_record v item) v.logs; windows = windows; next = v.next + 1; clock_before = v.clock; cut_before = v.cut }) after =
+      record { stored = stored; rates = rates_put v log by (next_number log v.no) item shown.shards_are windows inside rates stand' } in
       subst (λ (n : ℕ). Shows (record v { logs = logs; windows = windows; next = n; clock_before = v.clock; cut_before = v.cut }) after) (sym drawn)
       (subst (λ (ls : List LogValue). Shows (record v { logs = ls; windows = windows; next = v.next + 1; clock_before = v.clock; cut_before = v.cut }) after) (sym are) full)
 

@@ -85,16 +85,18 @@ shows_grown : (v : StreamValue) (log : Journal) (line : Line) (tree : List Shard
     → ((sh : ℕ) → records (line ∷ log) v.no sh ≡ records log v.no sh) → ((sh : ℕ) → puts (line ∷ log) v.no sh ≡ puts log v.no sh) → shards (line ∷ log) v.no ≡ tree → next_number (line ∷ log) v.no ≡ next → AllByRecursion (λ l. l ≡ empty_log) new → AllByRecursion IsUnused ws → length tree ≡ length v.tree + length new → length v.logs ≡ length v.tree → length v.windows ≡ length v.tree → Shows v log
     → Shows (record v { tree = tree; logs = v.logs ++ new; windows = v.windows ++ ws; next = next; clock_before = v.clock; cut_before = v.cut }) (line ∷ log)
 shows_grown v log line tree new ws next at live was named made lasts enforces same same_puts shards_are next_is empty unused grown as_many as_wide show = record {
-  live = live ∙ show.live;
-  was = was ∙ show.was;
-  named = named ∙ show.named;
-  made_is = made ∙ show.made_is;
-  hours_are = lasts ∙ show.hours_are;
-  shards_are = shards_are;
-  next_is = next_is;
-  floor_is = same_floor_at log line v.clock v.no at lasts ∙ show.floor_is;
-  kept = kept_along (floor_of v.cut) log (line ∷ log) v.no 0 (v.logs ++ new) same (kept_grown (floor_of v.cut) log v.no 0 v.logs new empty (λ sh beyond. show.none_beyond sh (omega (arith, beyond, as_many))) show.kept);
-  none_beyond = λ sh beyond. same sh ∙ show.none_beyond sh (omega (arith, beyond, grown));
+  stored = record {
+    live = live ∙ show.stored.live;
+    was = was ∙ show.stored.was;
+    named = named ∙ show.stored.named;
+    made_is = made ∙ show.stored.made_is;
+    hours_are = lasts ∙ show.stored.hours_are;
+    shards_are = shards_are;
+    next_is = next_is;
+    floor_is = same_floor_at log line v.clock v.no at lasts ∙ show.stored.floor_is;
+    kept = kept_along (floor_of v.cut) log (line ∷ log) v.no 0 (v.logs ++ new) same (kept_grown (floor_of v.cut) log v.no 0 v.logs new empty (λ sh beyond. show.stored.none_beyond sh (omega (arith, beyond, as_many))) show.stored.kept);
+    none_beyond = λ sh beyond. same sh ∙ show.stored.none_beyond sh (omega (arith, beyond, grown));
+  };
   rates =
       record {
         enforced_is = enforces ∙ show.rates.enforced_is;
@@ -113,12 +115,12 @@ module _ (v : StreamValue) (log : Journal) (by : ℕ) (show : Shows v log) (as_m
   pub shows_split : (sh at next : ℕ) (tree : List ShardState) (logs : List LogValue) (windows ws : List WindowValue) → next ≡ v.next + 1 → tree ≡ split_shards sh at (record { number = v.next; clock = v.clock }) (v.next + 1) v.tree → logs ≡ v.logs ++ (empty_log ∷ empty_log ∷ []) → windows ≡ v.windows ++ ws → AllByRecursion IsUnused ws
       → Shows (record v { tree = tree; logs = logs; windows = windows; next = next; clock_before = v.clock; cut_before = v.cut }) (split_line log v.clock by v.no sh at ∷ log)
   shows_split sh at next tree logs windows ws drawn tree_is logs_are windows_are unused =
-      let more : next_number (split_line log v.clock by v.no sh at ∷ log) v.no ≡ v.next + 1 = one_more (v.no == v.no) (next_number log v.no) v.next (is_itself v.no) show.next_is in
+      let more : next_number (split_line log v.clock by v.no sh at ∷ log) v.no ≡ v.next + 1 = one_more (v.no == v.no) (next_number log v.no) v.next (is_itself v.no) show.stored.next_is in
       let after : shards (split_line log v.clock by v.no sh at ∷ log) v.no ≡ tree =
       chosen (v.no == v.no) _ (shards log v.no) (is_itself v.no)
-      ∙ ap (λ n. split_shards sh at (record { number = n; clock = v.clock }) (next_number (split_line log v.clock by v.no sh at ∷ log) v.no) (shards log v.no)) show.next_is
+      ∙ ap (λ n. split_shards sh at (record { number = n; clock = v.clock }) (next_number (split_line log v.clock by v.no sh at ∷ log) v.no) (shards log v.no)) show.stored.next_is
       ∙ ap (λ n. split_shards sh at (record { number = v.next; clock = v.clock }) n (shards log v.no)) more
-      ∙ ap (split_shards sh at (record { number = v.next; clock = v.clock }) (v.next + 1)) show.shards_are
+      ∙ ap (split_shards sh at (record { number = v.next; clock = v.clock }) (v.next + 1)) show.stored.shards_are
       ∙ sym tree_is in
       subst (λ (us : List WindowValue). Shows (record v { tree = tree; logs = logs; windows = us; next = next; clock_before = v.clock; cut_before = v.cut }) (split_line log v.clock by v.no sh at ∷ log)) (sym windows_are)
       (subst (λ (ls : List LogValue). Shows (record v { tree = tree; logs = ls; windows = v.windows ++ ws; next = next; clock_before = v.clock; cut_before = v.cut }) (split_line log v.clock by v.no sh at ∷ log)) (sym logs_are)
@@ -128,12 +130,12 @@ module _ (v : StreamValue) (log : Journal) (by : ℕ) (show : Shows v log) (as_m
   pub shows_merged : (sh other next : ℕ) (tree : List ShardState) (logs : List LogValue) (windows ws : List WindowValue) → next ≡ v.next + 1 → tree ≡ merged_shards sh other (record { number = v.next; clock = v.clock }) (v.next + 1) v.tree → logs ≡ v.logs ++ (empty_log ∷ []) → windows ≡ v.windows ++ ws → AllByRecursion IsUnused ws
       → Shows (record v { tree = tree; logs = logs; windows = windows; next = next; clock_before = v.clock; cut_before = v.cut }) (merge_line log v.clock by v.no sh other ∷ log)
   shows_merged sh other next tree logs windows ws drawn tree_is logs_are windows_are unused =
-      let more : next_number (merge_line log v.clock by v.no sh other ∷ log) v.no ≡ v.next + 1 = one_more (v.no == v.no) (next_number log v.no) v.next (is_itself v.no) show.next_is in
+      let more : next_number (merge_line log v.clock by v.no sh other ∷ log) v.no ≡ v.next + 1 = one_more (v.no == v.no) (next_number log v.no) v.next (is_itself v.no) show.stored.next_is in
       let after : shards (merge_line log v.clock by v.no sh other ∷ log) v.no ≡ tree =
       chosen (v.no == v.no) _ (shards log v.no) (is_itself v.no)
-      ∙ ap (λ n. merged_shards sh other (record { number = n; clock = v.clock }) (next_number (merge_line log v.clock by v.no sh other ∷ log) v.no) (shards log v.no)) show.next_is
+      ∙ ap (λ n. merged_shards sh other (record { number = n; clock = v.clock }) (next_number (merge_line log v.clock by v.no sh other ∷ log) v.no) (shards log v.no)) show.stored.next_is
       ∙ ap (λ n. merged_shards sh other (record { number = v.next; clock = v.clock }) n (shards log v.no)) more
-      ∙ ap (merged_shards sh other (record { number = v.next; clock = v.clock }) (v.next + 1)) show.shards_are
+      ∙ ap (merged_shards sh other (record { number = v.next; clock = v.clock }) (v.next + 1)) show.stored.shards_are
       ∙ sym tree_is in
       subst (λ (us : List WindowValue). Shows (record v { tree = tree; logs = logs; windows = us; next = next; clock_before = v.clock; cut_before = v.cut }) (merge_line log v.clock by v.no sh other ∷ log)) (sym windows_are)
       (subst (λ (ls : List LogValue). Shows (record v { tree = tree; logs = ls; windows = v.windows ++ ws; next = next; clock_before = v.clock; cut_before = v.cut }) (merge_line log v.clock by v.no sh other ∷ log)) (sym logs_are)

@@ -72,13 +72,13 @@ few_one n h = grind (arith, nat_tests)
 
 module _ (v : StreamValue) (log : Journal) (by : ℕ) (show : Shows v log) where
   spent_next : (a : Bool) → v.next ≡ last_number → (a || next_number log v.no == last_number) ≡ true
-  spent_next a spent = or_right a (next_number log v.no == last_number) (is_equal (next_number log v.no) last_number (show.next_is ∙ spent))
+  spent_next a spent = or_right a (next_number log v.no == last_number) (is_equal (next_number log v.no) last_number (show.stored.next_is ∙ spent))
 
   free_next : (a : Bool) → a ≡ false → v.next ≢ last_number → (a || next_number log v.no == last_number) ≡ false
-  free_next a is free = or_from a (next_number log v.no == last_number) is (is_other (next_number log v.no) last_number (λ e. free (sym show.next_is ∙ e)))
+  free_next a is free = or_from a (next_number log v.no == last_number) is (is_other (next_number log v.no) last_number (λ e. free (sym show.stored.next_is ∙ e)))
 
   few_shards : length v.tree < 2 ^ 63 → length (shards log v.no) < 2 ^ 63
-  few_shards h = subst (λ (xs : List ShardState). length xs < 2 ^ 63) (sym show.shards_are) h
+  few_shards h = subst (λ (xs : List ShardState). length xs < 2 ^ 63) (sym show.stored.shards_are) h
 
   module _ (full : Bool) (sh at : ℕ) where
     -- what follows a listed shard

@@ -27,7 +27,7 @@ kept_line v by wanted = plain_line v.clock by (entry.Kept v.no wanted)
 module _ (v : StreamValue) (log : Journal) (by wanted : ℕ) (raise : Bool) (shown : Shows v log) where
   -- the test as the code makes it
   tested : (b : Bool) → b ≡ (if raise then nat_lt wanted v.hours else nat_lt v.hours wanted) → (if raise then nat_lt wanted (hours log v.no) else nat_lt (hours log v.no) wanted) ≡ b
-  tested b is = ap (λ n. if raise then nat_lt wanted n else nat_lt n wanted) shown.hours_are ∙ sym is
+  tested b is = ap (λ n. if raise then nat_lt wanted n else nat_lt n wanted) shown.stored.hours_are ∙ sym is
 
   pub keep_refused : true ≡ (if raise then nat_lt wanted v.hours else nat_lt v.hours wanted)
       → (Err refusal.BadRetention ≡ answer_of (keep log v.clock by v.no wanted raise)) × Shows v (with_lines (lines_of (keep log v.clock by v.no wanted raise)) log)
@@ -38,8 +38,8 @@ module _ (v : StreamValue) (log : Journal) (by wanted : ℕ) (raise : Bool) (sho
 
   floor_kept : trim_floor (kept_line v by wanted ∷ log) v.clock v.no ≡ floor_of (later_cut v.cut (cut_at v.clock wanted))
   floor_kept =
-      changed_floor log (kept_line v by wanted) v.no shown.was shown.was
-      ∙ ap (λ n. max n (floor_at v.clock (hours (kept_line v by wanted ∷ log) v.no * HOUR))) shown.floor_is
+      changed_floor log (kept_line v by wanted) v.no shown.stored.was shown.stored.was
+      ∙ ap (λ n. max n (floor_at v.clock (hours (kept_line v by wanted ∷ log) v.no * HOUR))) shown.stored.floor_is
       ∙ ap (λ h. max (floor_of v.cut) (floor_at v.clock (h * HOUR))) lasts
       ∙ ap (λ n. max (floor_of v.cut) n) (sym (cut_floor v.clock wanted))
       ∙ sym (later_floor v.cut (cut_at v.clock wanted))
@@ -49,16 +49,18 @@ module _ (v : StreamValue) (log : Journal) (by wanted : ℕ) (raise : Bool) (sho
   shows_kept cut is =
       let higher : floor_of v.cut ≤ floor_of cut = omega (arith, ap floor_of is, later_floor v.cut (cut_at v.clock wanted)) in
       record {
-        live = shown.live;
-        was = shown.was;
-        named = shown.named;
-        made_is = shown.made_is;
-        hours_are = lasts;
-        shards_are = shown.shards_are;
-        next_is = omega (arith, shown.next_is);
-        floor_is = floor_kept ∙ ap floor_of (sym is);
-        kept = kept_along (floor_of cut) log (kept_line v by wanted ∷ log) v.no 0 v.logs (λ sh. refl) (kept_higher (floor_of v.cut) (floor_of cut) log v.no 0 v.logs higher shown.kept);
-        none_beyond = shown.none_beyond;
+        stored = record {
+          live = shown.stored.live;
+          was = shown.stored.was;
+          named = shown.stored.named;
+          made_is = shown.stored.made_is;
+          hours_are = lasts;
+          shards_are = shown.stored.shards_are;
+          next_is = omega (arith, shown.stored.next_is);
+          floor_is = floor_kept ∙ ap floor_of (sym is);
+          kept = kept_along (floor_of cut) log (kept_line v by wanted ∷ log) v.no 0 v.logs (λ sh. refl) (kept_higher (floor_of v.cut) (floor_of cut) log v.no 0 v.logs higher shown.stored.kept);
+          none_beyond = shown.stored.none_beyond;
+        };
         rates = record { enforced_is = shown.rates.enforced_is; stand = shown.rates.stand; none_beyond = shown.rates.none_beyond };
       }
 

@@ -24,7 +24,7 @@ use Rattle.kds_log.specs.Log.{LogValue}
 use Rattle.kds_stream.proofs.Clocks.{settled_stream, shows_settled}
 use Rattle.kds_stream.proofs.LogLemmas.{arrived_later, below_higher}
 use Rattle.kds_rate.specs.Windows.{WindowValue}
-use Rattle.kds_stream.proofs.Puts.{ShowsStored, held_is, home_so, put_of, put_record, puts_more, shows_put, stored_part, stream_put, with_rates}
+use Rattle.kds_stream.proofs.Puts.{held_is, home_so, put_of, put_record, puts_more, shows_put, stream_put}
 use Rattle.kds_stream_logs.proofs.Rates.{put_elsewhere, stand_along}
 use Rattle.kds_stream.proofs.Rates.{rated_later}
 use Rattle.kds_stream_logs.specs.declared.routes.Routed.{Routed}
@@ -32,7 +32,7 @@ use Rattle.kds_stream_logs.specs.declared.routes.Routes.{Routes}
 use Rattle.kds_stream_logs.specs.Rating.{StandFor}
 use Rattle.kds_stream.specs.Rating.{AreRated, ShowsRates}
 use Rattle.kds_stream_logs.specs.Routes.{AreInTurn, AreRouted, CanTake, GoesOn, IsWithin, after_item, after_items, after_number, is_held, outcome_of, outcomes, taken, routed_items, settled_each, with_each}
-use Rattle.kds_stream.specs.Showing.{Shows}
+use Rattle.kds_stream.specs.Showing.{Shows, ShowsStored}
 use Rattle.kds_stream_logs.specs.Logs.{IsBelow, settled_at, with_appended}
 use Rattle.kds_stream.specs.Value.{EndsUnder, IsStream, StreamValue}
 use Rattle.kds_stream_logs.proofs.Routings.{IsFrom, all_from, apart, turns}
@@ -78,19 +78,12 @@ in_turn v items rs are = subst AreInTurn (sym are) (turns v.tree v.clock v.next 
 
 -- ---- what the stream shows after them
 
+-- the stream with these logs and windows and this next number, which remembers no earlier clock
+abbrev pub with_logs : StreamValue → List LogValue → List WindowValue → ℕ → StreamValue
+with_logs v ls ws next = record v { logs = ls; windows = ws; next = next; clock_before = v.clock; cut_before = v.cut }
+
 shows_none : (v : StreamValue) (next : ℕ) (log : Journal) → next ≡ v.next → ShowsStored v log → ShowsStored (record v { next = next; clock_before = v.clock; cut_before = v.cut }) log
-shows_none v next log is shown = record {
-  live = shown.live;
-  was = shown.was;
-  named = shown.named;
-  made_is = shown.made_is;
-  hours_are = shown.hours_are;
-  shards_are = shown.shards_are;
-  next_is = shown.next_is ∙ sym is;
-  floor_is = shown.floor_is;
-  kept = shown.kept;
-  none_beyond = shown.none_beyond;
-}
+shows_none v next log is shown = subst (λ n. ShowsStored (record v { next = n; clock_before = v.clock; cut_before = v.cut }) log) (sym is) shown
 
 -- what one put makes of a stream, its windows aside
 after_one : StreamValue → NewItem → StreamValue
@@ -276,13 +269,13 @@ is_not_past n h = grind (arith, nat_tests, h)
 
 module _ (v : StreamValue) (log : Journal) (by : ℕ) (items : List NewItem) (shown : Shows v log) where
   told : Told v log by v.next (puts log v.no) items
-  told = puts_told items v log by v.next (puts log v.no) shown.shards_are shown.rates.enforced_is shown.next_is (λ m. refl)
+  told = puts_told items v log by v.next (puts log v.no) shown.stored.shards_are shown.rates.enforced_is shown.stored.next_is (λ m. refl)
 
   pub puts_spent : 2 ^ 64 ≤ v.next + length (taken v.tree v.clock v.enforced (puts log v.no) items)
       → (Err refusal.Spent ≡ answer_of (put_many log v.clock by v.no items)) × Shows v (with_lines (lines_of (put_many log v.clock by v.no items)) log)
   puts_spent spent =
       after_refused _ refusal.Spent log (λ l. Shows v l)
-      (refused_if _ _ _ (ap (λ n. nat_lt last_number (n + length (put_lines log v.clock by v.no items))) shown.next_is ∙ ap (λ n. nat_lt last_number (v.next + n)) told.many ∙ is_past (v.next + length (taken v.tree v.clock v.enforced (puts log v.no) items)) spent)) shown
+      (refused_if _ _ _ (ap (λ n. nat_lt last_number (n + length (put_lines log v.clock by v.no items))) shown.stored.next_is ∙ ap (λ n. nat_lt last_number (v.next + n)) told.many ∙ is_past (v.next + length (taken v.tree v.clock v.enforced (puts log v.no) items)) spent)) shown
 
   pub puts_done : (r : Routes) (logs : List LogValue) (windows : List WindowValue) → r.next < 2 ^ 64 → floor_of v.cut ≤ v.clock → AreRouted v.tree v.clock v.enforced (puts log v.no) v.next items r windows → AllByRecursion (IsWithin (length v.tree)) r.routed.items → logs ≡ with_each r.routed.items v.logs
       → (Ok (reply.PutMany r.outcomes) ≡ answer_of (put_many log v.clock by v.no items))
@@ -292,19 +285,16 @@ module _ (v : StreamValue) (log : Journal) (by : ℕ) (items : List NewItem) (sh
       let lines = put_lines log v.clock by v.no items in
       let ts = taken v.tree v.clock v.enforced (puts log v.no) items in
       let inside : AllByRecursion (IsWithin (length v.tree)) (routed_items v.tree v.clock v.next ts) = subst (AllByRecursion (IsWithin (length v.tree))) made.routed within in
-      let after = shows_puts items v log by (puts log v.no) shown.rates.enforced_is (λ m. refl) shown.rates.none_beyond inside trims (stored_part v log shown) in
-      let full = with_rates _ (with_lines lines log) windows (after.stored r.next made.next_is) (after.rates windows made.stand) in
+      let after = shows_puts items v log by (puts log v.no) shown.rates.enforced_is (λ m. refl) shown.rates.none_beyond inside trims shown.stored in
+      let full : Shows (with_logs v (with_each (routed_items v.tree v.clock v.next ts) v.logs) windows r.next) (with_lines lines log) =
+      record { stored = after.stored r.next made.next_is; rates = after.rates windows made.stand } in
       let shows : Shows w (with_lines lines log) =
       subst (λ (ls : List LogValue). Shows (record v { logs = ls; windows = windows; next = r.next; clock_before = v.clock; cut_before = v.cut }) (with_lines lines log)) (sym (stored ∙ ap (λ (qs : List Routed). with_each qs v.logs) made.routed)) full in
       let both = after_accepted (put_many log v.clock by v.no items) lines (reply.PutMany (put_outcomes log v.clock by v.no items)) log (λ l. Shows w l)
-      (passed_if _ _ _ (ap (λ n. nat_lt last_number (n + length lines)) shown.next_is ∙ ap (λ n. nat_lt last_number (v.next + n)) told.many ∙ is_not_past (v.next + length ts) (omega (arith, made.next_is, fits)))) shows in
+      (passed_if _ _ _ (ap (λ n. nat_lt last_number (n + length lines)) shown.stored.next_is ∙ ap (λ n. nat_lt last_number (v.next + n)) told.many ∙ is_not_past (v.next + length ts) (omega (arith, made.next_is, fits)))) shows in
       (ap (λ (os : List Outcome). Ok (reply.PutMany os)) (made.outcomes_are ∙ sym told.so) ∙ both.0, both.1)
 
 -- ---- what is trimmed at their places is dropped
-
--- the stream with these logs and windows and this next number, which remembers no earlier clock
-abbrev pub with_logs : StreamValue → List LogValue → List WindowValue → ℕ → StreamValue
-with_logs v ls ws next = record v { logs = ls; windows = ws; next = next; clock_before = v.clock; cut_before = v.cut }
 
 pub stream_each : (v : StreamValue) (ws : List WindowValue) (next : ℕ) (ps : List Place) (ls : List LogValue) → IsStream (with_logs v ls ws next) → IsStream (with_logs v (settled_each (floor_of v.cut) ps ls) ws next)
 stream_each v ws next [] ls is = is

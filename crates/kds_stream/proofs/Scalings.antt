@@ -82,26 +82,11 @@ pub record ScalesSo (v : StreamValue) (log : Journal) (by : ℕ) (steps : List S
   pub shows : (next : ℕ) → next ≡ v.next + length steps → Shows (record v { tree = scaled steps v.next v.clock v.tree; logs = v.logs ++ replicate (made_by steps) empty_log; windows = v.windows ++ ws; next = next; clock_before = v.clock; cut_before = v.cut }) (with_lines (step_lines log v.clock by v.no steps) log)
   pub entries_are : map (λ line. line.what) (step_lines log v.clock by v.no steps) ≡ entries_in v.no steps v.next v.clock v.tree
 
-shows_since : (v : StreamValue) (log : Journal) → Shows v log → Shows (record v { clock_before = v.clock; cut_before = v.cut }) log
-shows_since v log show = record {
-  live = show.live;
-  was = show.was;
-  named = show.named;
-  made_is = show.made_is;
-  hours_are = show.hours_are;
-  shards_are = show.shards_are;
-  next_is = show.next_is;
-  floor_is = show.floor_is;
-  kept = show.kept;
-  none_beyond = show.none_beyond;
-  rates = show.rates;
-}
-
 shows_unscaled : (v : StreamValue) (log : Journal) (logs : List LogValue) (windows : List WindowValue) (next : ℕ) → logs ≡ v.logs → windows ≡ v.windows → next ≡ v.next → Shows v log → Shows (record v { logs = logs; windows = windows; next = next; clock_before = v.clock; cut_before = v.cut }) log
 shows_unscaled v log logs windows next logs_are windows_are drawn show =
     subst (λ (n : ℕ). Shows (record v { logs = logs; windows = windows; next = n; clock_before = v.clock; cut_before = v.cut }) log) (sym drawn)
     (subst (λ (us : List WindowValue). Shows (record v { logs = logs; windows = us; clock_before = v.clock; cut_before = v.cut }) log) (sym windows_are)
-    (subst (λ (ls : List LogValue). Shows (record v { logs = ls; clock_before = v.clock; cut_before = v.cut }) log) (sym logs_are) (shows_since v log show)))
+    (subst (λ (ls : List LogValue). Shows (record v { logs = ls; clock_before = v.clock; cut_before = v.cut }) log) (sym logs_are) (record { stored = show.stored; rates = show.rates })))
 
 pub scales_so : (steps : List ScaleStep) (v : StreamValue) (log : Journal) (by : ℕ) (ws : List WindowValue) → AllByRecursion IsUnused ws → length ws ≡ made_by steps → length v.logs ≡ length v.tree → length v.windows ≡ length v.tree → Shows v log → ScalesSo v log by steps ws
 scales_so [] v log by [] unused many as_many as_wide show = record {
@@ -116,7 +101,7 @@ scales_so (Join b ∷ steps) v log by (w ∷ ws) unused many as_many as_wide sho
     let tree : List ShardState = stepped (Join b) v.next v.clock v.tree in
     let line : Line = merge_line log v.clock by v.no sh other in
     let after : StreamValue = record v { tree = tree; logs = v.logs ++ (empty_log ∷ []); windows = v.windows ++ (w ∷ []); next = v.next + 1; clock_before = v.clock; cut_before = v.cut } in
-    let same : plain_line v.clock by (step_entry log v.no (Join b)) ≡ line = ap (λ xs. merge_line log v.clock by v.no (home_in xs (b - 1)) (home_in xs b)) show.shards_are in
+    let same : plain_line v.clock by (step_entry log v.no (Join b)) ≡ line = ap (λ xs. merge_line log v.clock by v.no (home_in xs (b - 1)) (home_in xs b)) show.stored.shards_are in
     let grown = length_merged sh other (v.next + 1) (record { number = v.next; clock = v.clock }) v.tree in
     let rest : ScalesSo after (line ∷ log) by steps ws = scales_so steps after (line ∷ log) by ws unused.1 (omega (arith, many)) (omega (arith, length-append v.logs (empty_log ∷ []), as_many, grown)) (omega (arith, length-append v.windows (w ∷ []), as_wide, grown))
     (shows_merged v log by show as_many as_wide sh other (v.next + 1) tree (v.logs ++ (empty_log ∷ [])) (v.windows ++ (w ∷ [])) (w ∷ []) refl refl refl refl (unused.0, tt)) in
@@ -130,8 +115,8 @@ scales_so (Join b ∷ steps) v log by (w ∷ ws) unused many as_many as_wide sho
           (append_assoc v.windows (w ∷ []) ws) (rest.shows next (omega (arith, drawn)))));
       entries_are =
           ap (λ l. l.what ∷ map (λ k. k.what) (step_lines (l ∷ log) v.clock by v.no steps)) same
-          ∙ ap (λ n. entry.Merged v.no sh other n (length (shards log v.no)) ∷ map (λ k. k.what) (step_lines (line ∷ log) v.clock by v.no steps)) show.next_is
-          ∙ ap (λ xs. entry.Merged v.no sh other v.next (length xs) ∷ map (λ k. k.what) (step_lines (line ∷ log) v.clock by v.no steps)) show.shards_are
+          ∙ ap (λ n. entry.Merged v.no sh other n (length (shards log v.no)) ∷ map (λ k. k.what) (step_lines (line ∷ log) v.clock by v.no steps)) show.stored.next_is
+          ∙ ap (λ xs. entry.Merged v.no sh other v.next (length xs) ∷ map (λ k. k.what) (step_lines (line ∷ log) v.clock by v.no steps)) show.stored.shards_are
           ∙ ap (λ es. entry.Merged v.no sh other v.next (length v.tree) ∷ es) rest.entries_are;
     }
 scales_so (Cut b ∷ steps) v log by [] unused many as_many as_wide show = absurd (omega (arith, many))
@@ -142,7 +127,7 @@ scales_so (Cut b ∷ steps) v log by (w ∷ u ∷ ws) unused many as_many as_wid
     let line : Line = split_line log v.clock by v.no sh b in
     let both : List LogValue = empty_log ∷ empty_log ∷ [] in
     let after : StreamValue = record v { tree = tree; logs = v.logs ++ (empty_log ∷ empty_log ∷ []); windows = v.windows ++ (w ∷ u ∷ []); next = v.next + 1; clock_before = v.clock; cut_before = v.cut } in
-    let same : plain_line v.clock by (step_entry log v.no (Cut b)) ≡ line = ap (λ xs. split_line log v.clock by v.no (home_in xs b) b) show.shards_are in
+    let same : plain_line v.clock by (step_entry log v.no (Cut b)) ≡ line = ap (λ xs. split_line log v.clock by v.no (home_in xs b) b) show.stored.shards_are in
     let grown = length_split sh b (v.next + 1) (record { number = v.next; clock = v.clock }) v.tree in
     let rest : ScalesSo after (line ∷ log) by steps ws = scales_so steps after (line ∷ log) by ws unused.1.1 (omega (arith, many)) (omega (arith, length-append v.logs both, as_many, grown)) (omega (arith, length-append v.windows (w ∷ u ∷ []), as_wide, grown))
     (shows_split v log by show as_many as_wide sh b (v.next + 1) tree (v.logs ++ (empty_log ∷ empty_log ∷ [])) (v.windows ++ (w ∷ u ∷ [])) (w ∷ u ∷ []) refl refl refl refl (unused.0, (unused.1.0, tt))) in
@@ -156,8 +141,8 @@ scales_so (Cut b ∷ steps) v log by (w ∷ u ∷ ws) unused many as_many as_wid
           (append_assoc v.windows (w ∷ u ∷ []) ws) (rest.shows next (omega (arith, drawn)))));
       entries_are =
           ap (λ l. l.what ∷ map (λ k. k.what) (step_lines (l ∷ log) v.clock by v.no steps)) same
-          ∙ ap (λ n. entry.Split v.no sh b n (length (shards log v.no)) (length (shards log v.no) + 1) ∷ map (λ k. k.what) (step_lines (line ∷ log) v.clock by v.no steps)) show.next_is
-          ∙ ap (λ xs. entry.Split v.no sh b v.next (length xs) (length xs + 1) ∷ map (λ k. k.what) (step_lines (line ∷ log) v.clock by v.no steps)) show.shards_are
+          ∙ ap (λ n. entry.Split v.no sh b n (length (shards log v.no)) (length (shards log v.no) + 1) ∷ map (λ k. k.what) (step_lines (line ∷ log) v.clock by v.no steps)) show.stored.next_is
+          ∙ ap (λ xs. entry.Split v.no sh b v.next (length xs) (length xs + 1) ∷ map (λ k. k.what) (step_lines (line ∷ log) v.clock by v.no steps)) show.stored.shards_are
           ∙ ap (λ es. entry.Split v.no sh b v.next (length v.tree) (length v.tree + 1) ∷ es) rest.entries_are;
     }
 
@@ -169,12 +154,12 @@ module _ (v : StreamValue) (log : Journal) (by target : ℕ) (show : Shows v log
   scale_full full is = after_refused _ refusal.Full log (λ l. Shows v l) (refused_if _ _ _ is) show
 
   steps_are : steps_to log v.no target ≡ scale (starts_in v.tree) target
-  steps_are = ap (λ xs. scale (starts_in xs) target) show.shards_are
+  steps_are = ap (λ xs. scale (starts_in xs) target) show.stored.shards_are
 
   spent_is : (steps : List ScaleStep) → steps ≡ scale (starts_in v.tree) target → are_spent (next_number log v.no) (length (shards log v.no)) (steps_to log v.no target) ≡ are_spent v.next (length v.tree) steps
   spent_is steps are =
-      ap (λ n. are_spent n (length (shards log v.no)) (steps_to log v.no target)) show.next_is
-      ∙ ap (λ (xs : List ShardState). are_spent v.next (length xs) (steps_to log v.no target)) show.shards_are
+      ap (λ n. are_spent n (length (shards log v.no)) (steps_to log v.no target)) show.stored.next_is
+      ∙ ap (λ (xs : List ShardState). are_spent v.next (length xs) (steps_to log v.no target)) show.stored.shards_are
       ∙ ap (λ ts. are_spent v.next (length v.tree) ts) (steps_are ∙ sym are)
 
   pub scale_spent : (full : Bool) (steps : List ScaleStep) → full ≡ false → steps ≡ scale (starts_in v.tree) target → are_spent v.next (length v.tree) steps ≡ true
@@ -197,7 +182,7 @@ module _ (v : StreamValue) (log : Journal) (by target : ℕ) (show : Shows v log
       let both = after_accepted (scale_where full log v.clock by v.name v.no target) _ _ log (λ l. Shows w l) (passed_if _ _ _ free ∙ passed_if _ _ _ (spent_is steps are ∙ unspent)) (subst (λ ls. Shows w (with_lines ls log)) (sym lines_are) shown) in
       let answer : reply.Scaled name before target entries ≡ reply.Scaled v.name (length (filter is_open (shards log v.no))) target (map (λ line. line.what) (step_lines log v.clock by v.no (steps_to log v.no target))) =
       ap (λ (n : List ℕ). reply.Scaled n before target entries) named
-      ∙ ap (λ (n : ℕ). reply.Scaled v.name n target entries) (counted ∙ ap (λ (xs : List ShardState). length (filter is_open xs)) (sym show.shards_are))
+      ∙ ap (λ (n : ℕ). reply.Scaled v.name n target entries) (counted ∙ ap (λ (xs : List ShardState). length (filter is_open xs)) (sym show.stored.shards_are))
       ∙ ap (λ (es : List Entry). reply.Scaled v.name (length (filter is_open (shards log v.no))) target es) (told ∙ sym so.entries_are ∙ ap (map (λ line. line.what)) (sym lines_are)) in
       (ap Ok answer ∙ both.0, both.1)
 

@@ -1,5 +1,5 @@
 -- Which journals a stream shows.
-use Rattle.std.specs.Prelude.{ℕ, ◌≡◌, ◌+◌, ◌≤◌, Bool, true, ◌||◌, nat_le, List, [], ◌∷◌, length, Option, Some, None, Result}
+use Rattle.std.specs.Prelude.{ℕ, ◌≡◌, ◌+◌, ◌≤◌, Bool, true, false, ◌||◌, nat_le, List, [], ◌∷◌, length, Option, Some, None, Result}
 use Rattle.std.specs.List.{filter}
 use Rattle.kds_defs.specs.declared.entry.Entry.TheVariants as entry
 use Rattle.kds_defs.specs.declared.limits.TheConstants.{OPEN_SHARDS}
@@ -27,8 +27,12 @@ abbrev pub AreKept : ℕ → Journal → ℕ → ℕ → List LogValue → Type 
 AreKept floor log s n [] = Unit {0}
 AreKept floor log s n (l ∷ ls) = IsKept floor (records log s n) l.kept × AreKept floor log s (n + 1) ls
 
--- the stream's readings of the journal at its clock are its fields
-pub record Shows (v : StreamValue) (log : Journal) : Type 0 where
+-- the stream without what it takes within a second, and without what it remembers: its earlier clock and whose turn it is
+abbrev pub bare : StreamValue → StreamValue
+bare v = record v { windows = []; enforced = false; clock_before = 0; cut_before = None; turn = 0 }
+
+-- the stream's readings of the journal at its clock are its fields, throughput aside
+pub record ShowsFields (v : StreamValue) (log : Journal) : Type 0 where
   pub live : is_live log v.no ≡ true
   pub was : was_made log v.no ≡ true
   pub named : name_of log v.no ≡ v.name
@@ -39,6 +43,14 @@ pub record Shows (v : StreamValue) (log : Journal) : Type 0 where
   pub floor_is : trim_floor log v.clock v.no ≡ floor_of v.cut
   pub kept : AreKept (floor_of v.cut) log v.no 0 v.logs
   pub none_beyond : (sh : ℕ) → length v.tree ≤ sh → records log v.no sh ≡ []
+
+-- ... so that whatever a stream takes or remembers, it shows the same
+abbrev pub ShowsStored : StreamValue → Journal → Type 0
+ShowsStored v log = ShowsFields (bare v) log
+
+-- with what its shards take within a second
+pub record Shows (v : StreamValue) (log : Journal) : Type 0 where
+  pub stored : ShowsStored v log
   pub rates : ShowsRates log v.no v.enforced (length v.tree) v.windows
 
 -- what a call that made one stream of another answered is the decision at it, of every journal that it showed; and it

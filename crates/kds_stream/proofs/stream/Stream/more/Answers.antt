@@ -19,6 +19,6 @@ returns c log show =
     let young = subst (λ (u : StreamValue). is_old u.clock page.issued ≡ false) c.self.view_is (sym c.if-page_expired.ensures) in
     let decided : more log v.clock page c.args.limit ≡ list_shards log v.clock v.no (Some page.after) c.args.limit =
     passed_if _ _ _ young
-    ∙ passed_if _ _ _ (ap not (ap (is_live log) c.requires.stream ∙ show.live))
+    ∙ passed_if _ _ _ (ap not (ap (is_live log) c.requires.stream ∙ show.stored.live))
     ∙ ap (λ s. list_shards log v.clock s (Some page.after) c.args.limit) c.requires.stream in
     subst (λ d. IfOk c.shards.result (λ a. a ≡ answer_of d)) (sym decided) (c.shards.ensures log show)
