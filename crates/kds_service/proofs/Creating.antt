@@ -10,7 +10,7 @@ use Rattle.kds_defs.specs.Decision.{Accepted}
 use Rattle.kds_defs.specs.Journal.{Journal, plain_line}
 use Rattle.kds_defs.specs.Shards.{open_count}
 use Rattle.kds_defs.specs.StreamCommands.{create, last_number}
-use Rattle.kds_defs.specs.Streams.{live_streams, made_count, stream_named}
+use Rattle.kds_defs.specs.Streams.{live_streams, made_count}
 use Rattle.kds_defs.proofs.Decisions.{after_accepted, passed_if, refused_if}
 use Rattle.kds_defs.specs.Subjects.{IsFresh}
 use Rattle.kds_stream.specs.Showing.{Shows}
@@ -18,11 +18,7 @@ use Rattle.kds_stream.specs.Value.{StreamValue}
 use Rattle.kds_service.proofs.Leading.{refused_leads}
 use Rattle.kds_service.proofs.Readings.{live_count, open_are, some_named}
 use Rattle.kds_service.specs.Places.{is_full, place_of}
-use Rattle.kds_service.specs.Shown.{Leads, ServiceValue, ShowsAll, service}
-
--- a live stream has the name exactly where one of the service's has it
-there : (w : ServiceValue) (log : Journal) (name : List ℕ) → ShowsAll w log → is_some (stream_named log name) ≡ is_some (place_of w.streams name)
-there w log name all = some_named w log name all
+use Rattle.kds_service.specs.Shown.{Leads, ServiceValue, ShowsAll, StaysShownWith, service}
 
 -- the limits are those of the service
 full : (w : ServiceValue) (log : Journal) (count : ℕ) → ShowsAll w log
@@ -33,30 +29,27 @@ full w log count all =
 
 -- what `others` ensures of a stream that is added
 abbrev pub Adds : Type 0
-Adds =
-    (c b n by count : ℕ) (name : List ℕ) (vs : List StreamValue) (v : StreamValue) (log : Journal) → ShowsAll (service c b n vs) log → v.no ≡ n + 1
-    → v.clock ≡ c
-    → Shows v (plain_line c by (entry.Made (n + 1) name count) ∷ log)
-    → ShowsAll (service c b (n + 1) (vs ++ (v ∷ []))) (plain_line c by (entry.Made (n + 1) name count) ∷ log)
+Adds = (c b n by count : ℕ) (name : List ℕ) (vs : List StreamValue) (v : StreamValue) (log : Journal) → ShowsAll (service c b n vs) log
+    → StaysShownWith c b n vs log v by name count
 
 module _ (c b n : ℕ) (vs : List StreamValue) (name : List ℕ) (count : ℕ) where
   pub create_there : is_some (place_of vs name) ≡ true → Leads (service c b n vs) (service c b n vs) (command.Create name count) (Err refusal.StreamThere)
   create_there is =
       refused_leads (service c b n vs) (command.Create name count) refusal.StreamThere
-      (λ log by all. refused_if _ _ _ (there (service c b n vs) log name all ∙ is))
+      (λ log by all. refused_if _ _ _ (some_named (service c b n vs) log name all ∙ is))
 
   pub create_full : is_some (place_of vs name) ≡ false → is_full vs count ≡ true
       → Leads (service c b n vs) (service c b n vs) (command.Create name count) (Err refusal.Full)
   create_full is at_limit =
       refused_leads (service c b n vs) (command.Create name count) refusal.Full
-      (λ log by all. passed_if _ _ _ (there (service c b n vs) log name all ∙ is) ∙ refused_if _ _ _ (full (service c b n vs) log count all ∙ at_limit))
+      (λ log by all. passed_if _ _ _ (some_named (service c b n vs) log name all ∙ is) ∙ refused_if _ _ _ (full (service c b n vs) log count all ∙ at_limit))
 
   pub create_spent : is_some (place_of vs name) ≡ false → is_full vs count ≡ false → (n == last_number) ≡ true
       → Leads (service c b n vs) (service c b n vs) (command.Create name count) (Err refusal.Spent)
   create_spent is room last =
       refused_leads (service c b n vs) (command.Create name count) refusal.Spent
       (λ log by all.
-      passed_if _ _ _ (there (service c b n vs) log name all ∙ is)
+      passed_if _ _ _ (some_named (service c b n vs) log name all ∙ is)
       ∙ passed_if _ _ _ (full (service c b n vs) log count all ∙ room)
       ∙ refused_if _ _ _ (ap (λ m. m == last_number) all.made ∙ last))
 
@@ -73,7 +66,7 @@ module _ (c b n : ℕ) (vs : List StreamValue) (name : List ℕ) (count : ℕ) w
       let shown : Shows v (here ∷ log) =
       subst (λ k. Shows v (plain_line c by (entry.Made k name count) ∷ log)) next (shows log by (all.unmade m (later m n next))) in
       let decided : create log c by name count ≡ Accepted (line ∷ []) reply.Done =
-      passed_if _ _ _ (there w log name all ∙ is)
+      passed_if _ _ _ (some_named w log name all ∙ is)
       ∙ passed_if _ _ _ (full w log count all ∙ room)
       ∙ passed_if _ _ _ (ap (λ k. k == last_number) all.made ∙ more) in
       after_accepted (create log c by name count) (line ∷ []) reply.Done log (ShowsAll (service c b m ws)) decided

@@ -3,10 +3,11 @@ use Rattle.std.proofs.Common.{◌≡◌, ℕ, zero, suc, ◌+◌, Bool, cond, Li
 use Rattle.std.specs.Prelude.{Result, Ok, Err, OnErr}
 use Rattle.std.specs.List.{position_from}
 use Rattle.std.specs.Map.{keys_of, values_of}
+use Rattle.std.proofs.lemmas.List.{map-append}
 use Rattle.std.proofs.lemmas.Option.{none-some}
 use Rattle.indexmap.specs.IndexMap.{insert_entry, set_value_at}
 use Rattle.kds_stream.specs.Value.{StreamValue}
-use Rattle.kds_service.proofs.Lists.{at_push, at_remove, at_set, either_way, map_push, map_same, set_same}
+use Rattle.kds_service.proofs.Lists.{at_push, at_remove, at_set, either_way, map_same, set_same}
 use Rattle.kds_service.specs.Places.{ArePlaced}
 use Rattle.kds_service.specs.Shown.{AreAt, names_of}
 
@@ -21,12 +22,6 @@ module _ {K X : Type 0} where
   keys_set (e ∷ es) zero w = refl
   keys_set (e ∷ es) (suc i) w = ap (λ ys. e.0 ∷ ys) (keys_set es i w)
 
-  pub map_take_out : {Y : Type 0} (f : K × X → Y) (es : List (K × X)) (i : ℕ) → map f (remove es i) ≡ remove (map f es) i
-  map_take_out f [] zero = refl
-  map_take_out f [] (suc i) = refl
-  map_take_out f (e ∷ es) zero = refl
-  map_take_out f (e ∷ es) (suc i) = ap (λ ys. f e ∷ ys) (map_take_out f es i)
-
   -- a new key goes last
   pub insert_last : (eq : K → K → Bool) (n : ℕ) (es : List (K × X)) (k : K) (v : X) → position_from (eq k) n (keys_of es) ≡ None → insert_entry eq es k v ≡ es ++ ((k, v) ∷ [])
   insert_last eq n [] k v none = refl
@@ -37,15 +32,11 @@ module _ {K X : Type 0} where
       let rest = sym (ap (λ b. cond b (Some n) (position_from (eq k) (n + 1) (keys_of es))) is) ∙ none in
       ap (λ b. cond b ((e.0, v) ∷ es) (e ∷ insert_entry eq es k v)) is ∙ ap (λ ys. e ∷ ys) (insert_last eq (n + 1) es k v rest))
 
-  pub map_last : {Y : Type 0} (f : K × X → Y) (es : List (K × X)) (e : K × X) → map f (es ++ (e ∷ [])) ≡ map f es ++ (f e ∷ [])
-  map_last f [] e = refl
-  map_last f (d ∷ es) e = ap (λ ys. f d ∷ ys) (map_last f es e)
-
-names_take_out : (vs : List StreamValue) (i : ℕ) → names_of (remove vs i) ≡ remove (names_of vs) i
-names_take_out [] zero = refl
-names_take_out [] (suc i) = refl
-names_take_out (v ∷ vs) zero = refl
-names_take_out (v ∷ vs) (suc i) = ap (λ ys. v.name ∷ ys) (names_take_out vs i)
+pub map_take_out : {X Y : Type 0} (f : X → Y) (xs : List X) (i : ℕ) → map f (remove xs i) ≡ remove (map f xs) i
+map_take_out f [] zero = refl
+map_take_out f [] (suc i) = refl
+map_take_out f (x ∷ xs) zero = refl
+map_take_out f (x ∷ xs) (suc i) = ap (λ ys. f x ∷ ys) (map_take_out f xs i)
 
 -- ---- the streams stand where they did
 
@@ -64,12 +55,12 @@ pub placed_push : (c : ℕ) (es fs : List (List ℕ × StreamValue)) (k : List �
 placed_push c es fs k v placed pushed name clock = record {
   named =
       ap keys_of pushed
-      ∙ map_last (λ e. e.0) es (k, v)
+      ∙ map-append (λ e. e.0) es ((k, v) ∷ [])
       ∙ ap (λ ks. ks ++ (k ∷ [])) placed.named
       ∙ ap (λ n. names_of (values_of es) ++ (n ∷ [])) name
-      ∙ sym (map_push (λ u. u.name) (values_of es) v)
-      ∙ ap names_of (sym (ap values_of pushed ∙ map_last (λ e. e.1) es (k, v)));
-  at = subst (AreAt c) (sym (ap values_of pushed ∙ map_last (λ e. e.1) es (k, v))) (at_push c (values_of es) v placed.at clock);
+      ∙ sym (map-append (λ u. u.name) (values_of es) (v ∷ []))
+      ∙ ap names_of (sym (ap values_of pushed ∙ map-append (λ e. e.1) es ((k, v) ∷ [])));
+  at = subst (AreAt c) (sym (ap values_of pushed ∙ map-append (λ e. e.1) es ((k, v) ∷ []))) (at_push c (values_of es) v placed.at clock);
 }
 
 pub placed_remove : (c i : ℕ) (es fs : List (List ℕ × StreamValue)) → ArePlaced c es → fs ≡ remove es i → ArePlaced c fs
@@ -78,7 +69,7 @@ placed_remove c i es fs placed taken = record {
       ap keys_of taken
       ∙ map_take_out (λ e. e.0) es i
       ∙ ap (λ ks. remove ks i) placed.named
-      ∙ sym (names_take_out (values_of es) i)
+      ∙ sym (map_take_out (λ u. u.name) (values_of es) i)
       ∙ ap names_of (sym (ap values_of taken ∙ map_take_out (λ e. e.1) es i));
   at = subst (AreAt c) (sym (ap values_of taken ∙ map_take_out (λ e. e.1) es i)) (at_remove c i (values_of es) placed.at);
 }

@@ -1,7 +1,8 @@
 -- Streams in a list: at a place, after one is replaced, after one is added, and after one is taken out.
 use Rattle.std.proofs.Common.{◌≡◌, ◌≢◌, ℕ, zero, suc, ◌+◌, ◌<◌, ◌≤◌, Bool, true, false, ◌==◌, List, [], ◌∷◌, ◌++◌, length, map, take, drop, remove, slice_get, slice_set, Some, refl, sym, ap, subst, ◌∙◌, arith}
 use Rattle.std.proofs.lemmas.Bool.{or_parts, or_from}
-use Rattle.std.proofs.lemmas.Option.{none-some}
+use Rattle.std.proofs.lemmas.List.{drop_more}
+use Rattle.std.proofs.lemmas.Option.{get_or_from_slice_get, none-some, slice_get_within}
 use Rattle.kds_base.proofs.Facts.{same_some, is_other}
 use Rattle.kds_defs.specs.Journal.{Journal}
 use Rattle.kds_stream.specs.Showing.{Shows}
@@ -47,10 +48,7 @@ rising_from low high (n ∷ ns) below rising = (omega (arith, rising.0), rising.
 pub not_below : (low s : ℕ) (ns : List ℕ) → s ≤ low → IsRising low ns → is_among ns s ≡ false
 not_below low s [] below rising = refl
 not_below low s (n ∷ ns) below rising =
-    or_from (n == s) (is_among ns s) (is_other n s (λ e. apart low s n below rising.0 e)) (not_below n s ns (omega (arith, rising.0)) rising.1)
-  where
-    apart : (low s n : ℕ) → s ≤ low → low < n → n ≡ s → ⊥
-    apart low s n a b e = absurd (omega arith)
+    or_from (n == s) (is_among ns s) (is_other n s (λ e. absurd (omega (arith, below, rising.0, e)))) (not_below n s ns (omega (arith, rising.0)) rising.1)
 
 -- ---- one is replaced
 
@@ -74,21 +72,19 @@ map_same f (suc i) (u ∷ us) x v here same = ap (λ ys. f u ∷ ys) (map_same f
 -- those above a number show the new journal too, where all of other numbers do
 shown_rest : (log log' : Journal) (c k : ℕ) (vs : List StreamValue) → IsRising k (numbers_of vs) → AreAt c vs → AreShown log vs → ((u : StreamValue) → Shows u log → u.clock ≡ c → u.no ≢ k → Shows u log') → AreShown log' vs
 shown_rest log log' c k [] rising at shown others = tt
-shown_rest log log' c k (u ∷ us) rising at shown others =
-    (others u shown.0 at.0 (λ same. apart u.no k same rising.0), shown_rest log log' c k us (rising_from k u.no (numbers_of us) (omega (arith, rising.0)) rising.1) at.1 shown.1 others)
-  where
-    apart : (m k : ℕ) → m ≡ k → k < m → ⊥
-    apart m k a h = absurd (omega arith)
+shown_rest log log' c k (u ∷ us) rising at shown others = (
+  others u shown.0 at.0 (λ same. absurd (omega (arith, rising.0, same))),
+  shown_rest log log' c k us (rising_from k u.no (numbers_of us) (omega (arith, rising.0)) rising.1) at.1 shown.1 others,
+)
 
 pub shown_set : (log log' : Journal) (c low i : ℕ) (vs : List StreamValue) (x v : StreamValue) → IsRising low (numbers_of vs) → AreAt c vs → AreShown log vs → slice_get vs i ≡ Some x → Shows v log' → ((u : StreamValue) → Shows u log → u.clock ≡ c → u.no ≢ x.no → Shows u log') → AreShown log' (slice_set vs i v)
 shown_set log log' c low i [] x v rising at shown here new others = tt
 shown_set log log' c low zero (u ∷ us) x v rising at shown here new others =
     (new, shown_rest log log' c x.no us (subst (λ (w : StreamValue). IsRising w.no (numbers_of us)) (same_some u x here) rising.1) at.1 shown.1 others)
-shown_set log log' c low (suc i) (u ∷ us) x v rising at shown here new others =
-    (others u shown.0 at.0 (λ same. apart u.no x.no same (above u.no i us x rising.1 here)), shown_set log log' c u.no i us x v rising.1 at.1 shown.1 here new others)
-  where
-    apart : (m k : ℕ) → m ≡ k → m < k → ⊥
-    apart m k a h = absurd (omega arith)
+shown_set log log' c low (suc i) (u ∷ us) x v rising at shown here new others = (
+  others u shown.0 at.0 (λ same. absurd (omega (arith, above u.no i us x rising.1 here, same))),
+  shown_set log log' c u.no i us x v rising.1 at.1 shown.1 here new others,
+)
 
 -- the same journal, where only one is replaced
 pub shown_step : (log : Journal) (i : ℕ) (vs : List StreamValue) (v : StreamValue) → AreShown log vs → Shows v log → AreShown log (slice_set vs i v)
@@ -101,10 +97,6 @@ shown_step log (suc i) (u ∷ us) v shown new = (shown.0, shown_step log i us v 
 pub at_push : (c : ℕ) (vs : List StreamValue) (v : StreamValue) → AreAt c vs → v.clock ≡ c → AreAt c (vs ++ (v ∷ []))
 at_push c [] v at clock = (clock, tt)
 at_push c (u ∷ us) v at clock = (at.0, at_push c us v at.1 clock)
-
-pub map_push : {Y : Type 0} (f : StreamValue → Y) (vs : List StreamValue) (v : StreamValue) → map f (vs ++ (v ∷ [])) ≡ map f vs ++ (f v ∷ [])
-map_push f [] v = refl
-map_push f (u ∷ us) v = ap (λ ys. f u ∷ ys) (map_push f us v)
 
 -- they are at most this number
 abbrev pub AreUpTo : ℕ → List StreamValue → Type 0
@@ -147,11 +139,10 @@ pub shown_remove : (log log' : Journal) (c low i : ℕ) (vs : List StreamValue) 
 shown_remove log log' c low i [] x rising at shown here others = absurd (none-some x here)
 shown_remove log log' c low zero (u ∷ us) x rising at shown here others =
     shown_rest log log' c x.no us (subst (λ (w : StreamValue). IsRising w.no (numbers_of us)) (same_some u x here) rising.1) at.1 shown.1 others
-shown_remove log log' c low (suc i) (u ∷ us) x rising at shown here others =
-    (others u shown.0 at.0 (λ same. apart u.no x.no same (above u.no i us x rising.1 here)), shown_remove log log' c u.no i us x rising.1 at.1 shown.1 here others)
-  where
-    apart : (m k : ℕ) → m ≡ k → m < k → ⊥
-    apart m k a h = absurd (omega arith)
+shown_remove log log' c low (suc i) (u ∷ us) x rising at shown here others = (
+  others u shown.0 at.0 (λ same. absurd (omega (arith, above u.no i us x rising.1 here, same))),
+  shown_remove log log' c u.no i us x rising.1 at.1 shown.1 here others,
+)
 
 -- a number that isn't among those that are left is that of the one that was taken out, or wasn't there before
 pub among_remove : (i s : ℕ) (vs : List StreamValue) (x : StreamValue) → slice_get vs i ≡ Some x → is_among (numbers_of (remove vs i)) s ≡ false → (x.no == s) ≡ false → is_among (numbers_of vs) s ≡ false
@@ -183,12 +174,5 @@ set_rest f xs i x here =
     set_next f xs i x here ∙ ap (λ j. map f (take j xs) ++ drop j xs) one
 
 -- those from a place on begin with the one that stands there
-drop_next : {X : Type 0} (xs : List X) (i : ℕ) (x : X) → slice_get xs i ≡ Some x → drop i xs ≡ x ∷ drop (suc i) xs
-drop_next [] i x here = absurd (none-some x here)
-drop_next (y ∷ ys) zero x here = ap (λ z. z ∷ ys) (same_some y x here)
-drop_next (y ∷ ys) (suc i) x here = drop_next ys i x here
-
 pub drop_get : {X : Type 0} (xs : List X) (i : ℕ) (x : X) → slice_get xs i ≡ Some x → drop i xs ≡ x ∷ drop (i + 1) xs
-drop_get xs i x here =
-    let one : suc i ≡ i + 1 = omega arith in
-    drop_next xs i x here ∙ ap (λ j. x ∷ drop j xs) one
+drop_get xs i x here = drop_more xs i x (slice_get_within xs i x here) ∙ ap (λ z. z ∷ drop (i + 1) xs) (get_or_from_slice_get xs i x x here)

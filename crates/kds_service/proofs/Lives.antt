@@ -1,9 +1,10 @@
 -- What the lines of one stream leave of the others, and that a command which is for one stream writes such lines.
-use Rattle.std.proofs.Common.{◌≡◌, ◌≢◌, ℕ, zero, suc, ◌+◌, ◌<◌, ◌≤◌, Bool, true, false, ◌==◌, List, [], ◌∷◌, ◌++◌, remove, slice_get, slice_set}
+use Rattle.std.proofs.Common.{◌≡◌, ◌≢◌, ℕ, zero, suc, ◌+◌, ◌<◌, ◌≤◌, Bool, true, ◌==◌, List, [], ◌∷◌, ◌++◌, remove, slice_get, slice_set}
 use Rattle.std.proofs.Common.{Some, None, refl, sym, ap, subst, ◌∙◌, arith}
-use Rattle.std.specs.Prelude.{◌&&◌, not, Result}
+use Rattle.std.specs.Prelude.{not, Result}
+use Rattle.std.proofs.lemmas.List.{map-append}
 use Rattle.std.proofs.lemmas.Option.{none-some, same_Some}
-use Rattle.std.proofs.lemmas.Bool.{or_from}
+use Rattle.std.proofs.lemmas.Bool.{and_left, and_right, or_from}
 use Rattle.kds_defs.proofs.Elsewhere.{count_same, fresh_empty, fresh_other, of_no_stream, of_other}
 use Rattle.kds_defs.proofs.Elsewhere as elsewhere
 use Rattle.kds_defs.specs.declared.command.Command.{Command}
@@ -21,7 +22,7 @@ use Rattle.kds_defs.proofs.Walk.{Tells, Puts, Splits, Merges, Keeps, Enforces}
 use Rattle.kds_stream.specs.Serving.{is_of_stream}
 use Rattle.kds_stream.specs.Showing.{Shows}
 use Rattle.kds_stream.specs.Value.{StreamValue}
-use Rattle.kds_service.proofs.Lists.{AreUpTo, among_push, among_remove, at_push, at_remove, at_set, map_push, map_same, either_way}
+use Rattle.kds_service.proofs.Lists.{AreUpTo, among_push, among_remove, at_push, at_remove, at_set, map_same, either_way}
 use Rattle.kds_service.proofs.Lists.{rising_push, rising_remove, shown_push, shown_remove, shown_set}
 use Rattle.kds_service.proofs.Readings.{up_to}
 use Rattle.kds_service.specs.Lines.{AreOf, IsLineOf, is_within_life}
@@ -99,7 +100,8 @@ pub shows_added : (c b n by count : ℕ) (name : List ℕ) (vs : List StreamValu
 shows_added c b n by count name vs v log law all numbered clock shown =
     let line = plain_line c by (entry.Made (n + 1) name count) in
     let up = up_to n vs log all.shown all.unmade in
-    let numbers : numbers_of (vs ++ (v ∷ [])) ≡ numbers_of vs ++ ((n + 1) ∷ []) = map_push (λ u. u.no) vs v ∙ ap (λ m. numbers_of vs ++ (m ∷ [])) numbered in
+    let numbers : numbers_of (vs ++ (v ∷ [])) ≡ numbers_of vs ++ ((n + 1) ∷ []) =
+    map-append (λ u. u.no) vs (v ∷ []) ∙ ap (λ m. numbers_of vs ++ (m ∷ [])) numbered in
     record {
       made = ap (λ m. m + 1) all.made;
       at = at_push c vs v all.at clock;
@@ -134,18 +136,10 @@ shows_removed c b n by i vs x log law all here =
           shown_remove log (line ∷ log) c 0 i vs x all.rising all.at all.shown here
           (λ u is at differ. law u log line is (sym at) (λ same. differ (sym (same_Some _ _ same))));
       others =
-          λ s out. either_way (x.no == s) (λ e. ended (x.no == s) (is_live log s) e)
-          (λ e. stays (x.no == s) (is_live log s) (all.others s (among_remove i s vs x here out e)));
+          λ s out. either_way (x.no == s) (λ e. and_left (not (x.no == s)) (is_live log s) (ap not e))
+          (λ e. and_right (not (x.no == s)) (is_live log s) (all.others s (among_remove i s vs x here out e)));
       unmade = λ s later. fresh_other log line s (all.unmade s later) (λ same. beyond n x.no s (up_at n i vs x up here) later (sym (same_Some _ _ same)));
     }
-  where
-    ended : (a b : Bool) → a ≡ true → (not a && b) ≡ false
-    ended true b e = refl
-    ended false b e = absurd cc
-
-    stays : (a b : Bool) → b ≡ false → (not a && b) ≡ false
-    stays true b e = refl
-    stays false b e = e
 
 -- ---- a line of a lease
 

@@ -5,10 +5,9 @@ use Rattle.std.specs.Prelude.{if◌then◌else◌, is_some, nat_le, not}
 use Rattle.std.specs.Cmp.Lexicographic.{bytes_decides, nat_list_eq_equiv}
 use Rattle.std.specs.List.{find, filter, position_from}
 use Rattle.std.proofs.lemmas.Bool.{eqb-false, eqb-true, or_from}
-use Rattle.std.proofs.lemmas.Bool.Decides.{nat_tests}
 use Rattle.std.proofs.lemmas.List.{length-map}
 use Rattle.std.proofs.lemmas.Option.{none-some}
-use Rattle.kds_base.proofs.Facts.{chosen, is_itself, is_other, not_chosen, same_some}
+use Rattle.kds_base.proofs.Facts.{above_so, apart, chosen, is_itself, is_other, le_so, not_chosen, same_some}
 use Rattle.kds_defs.specs.Journal.{Journal}
 use Rattle.kds_defs.specs.Shards.{is_open, open_count, open_in}
 use Rattle.kds_defs.specs.Streams.{is_live, live_streams, name_of, numbers_from, same_name, stream_named}
@@ -23,20 +22,12 @@ use Rattle.kds_service.specs.Shown.{AreShown, IsRising, ServiceValue, ShowsAll, 
 -- ---- the live streams
 
 -- no live stream has a number above that of the last one that was made
-live_or_dead : (log : Journal) (s : ℕ) → is_live log s ≡ true → is_live log s ≡ false → ⊥
-live_or_dead log s live dead = absurd cc
-
 pub up_to : (n : ℕ) (vs : List StreamValue) (log : Journal) → AreShown log vs → ((s : ℕ) → n < s → IsFresh log s) → AreUpTo n vs
 up_to n [] log shown unmade = tt
 up_to n (v ∷ vs) log shown unmade =
-    let low = either_way (nat_le v.no n) (λ e. within v.no n e) (λ e. absurd (live_or_dead log v.no shown.0.stored.live (unmade v.no (over v.no n e)).gone)) in
+    let low =
+    either_way (nat_le v.no n) (λ e. le_so v.no n e) (λ e. absurd (apart (is_live log v.no) shown.0.stored.live (unmade v.no (above_so v.no n e)).gone)) in
     (low, up_to n vs log shown.1 unmade)
-  where
-    within : (a b : ℕ) → nat_le a b ≡ true → a ≤ b
-    within a b e = grind (arith, nat_tests)
-
-    over : (a b : ℕ) → nat_le a b ≡ false → b < a
-    over a b e = grind (arith, nat_tests)
 
 none_live : (log : Journal) (low count : ℕ) → ((s : ℕ) → low < s → is_live log s ≡ false) → filter (is_live log) (numbers_from (low + 1) count) ≡ []
 none_live log low zero dead = refl
@@ -54,11 +45,12 @@ live_above log low (suc count) (v ∷ vs) rising below shown others =
     let rest = filter (is_live log) (numbers_from (low + 1 + 1) count) in
     either_way (v.no == low + 1)
     (λ e.
-    let same = is_next v.no low e in
+    let same = eqb-true v.no (low + 1) e in
     let live : is_live log (low + 1) ≡ true = ap (is_live log) (sym same) ∙ shown.0.stored.live in
     let after =
     live_above log (low + 1) count vs (subst (λ n. IsRising n (numbers_of vs)) same rising.1) (subst (λ n. AreUpTo n vs) (end low count) below.1) shown.1
-    (λ s above out. others s (omega arith) (or_from (v.no == s) (is_among (numbers_of vs) s) (is_other v.no s (λ is. apart v.no s low same above is)) out)) in
+    (λ s above out. others s (omega arith) (or_from (v.no == s) (is_among (numbers_of vs) s)
+    (is_other v.no s (λ is. absurd (omega (arith, same, above, is)))) out)) in
     ap (λ b. cond b ((low + 1) ∷ rest) rest) live ∙ ap (λ ns. (low + 1) ∷ ns) after ∙ ap (λ n. n ∷ numbers_of vs) (sym same))
     (λ e.
     let past = later v.no low e rising.0 in
@@ -72,14 +64,8 @@ live_above log low (suc count) (v ∷ vs) rising below shown others =
     end : (low count : ℕ) → low + suc count ≡ low + 1 + count
     end low count = omega arith
 
-    is_next : (n low : ℕ) → (n == low + 1) ≡ true → n ≡ low + 1
-    is_next n low e = eqb-true n (low + 1) e
-
     later : (n low : ℕ) → (n == low + 1) ≡ false → low < n → low + 1 < n
     later n low e above = let differ : n ≢ low + 1 = eqb-false n (low + 1) e in omega (arith, above, differ)
-
-    apart : (n s low : ℕ) → n ≡ low + 1 → low + 1 < s → n ≡ s → ⊥
-    apart n s low a b c = absurd (omega arith)
 
 pub from_zero : (n : ℕ) → n ≡ 0 + n
 from_zero n = omega arith
@@ -236,7 +222,8 @@ own_and_beside zero low (v ∷ vs) x rising here =
         omega (arith, none, all_beside v.no vs rising.1)
 own_and_beside (suc i) low (v ∷ vs) x rising here =
     let below = above v.no i vs x rising.1 here in
-    let all : open_unless v x.no ≡ length (filter is_open v.tree) = not_chosen (v.no == x.no) 0 _ (is_other v.no x.no (λ e. absurd (omega (arith, below, e)))) in
+    let all : open_unless v x.no ≡ length (filter is_open v.tree) =
+    not_chosen (v.no == x.no) 0 _ (is_other v.no x.no (λ e. absurd (omega (arith, below, e)))) in
     omega (arith, all, own_and_beside i v.no vs x rising.1 here)
 
 -- ---- the stream of a name has just this name

@@ -2,18 +2,11 @@
 use Rattle.std.proofs.Common.{◌≡◌, ℕ, ◌+◌, ◌-◌, ◌*◌, max, ◌≤◌, Bool, true, false, ◌∷◌, Option, Some, None, refl, sym, ap, ◌∙◌, arith}
 use Rattle.std.specs.Prelude.{nat_lt, if◌then◌else◌}
 use Rattle.std.proofs.lemmas.Bool.Decides.{nat_tests}
-use Rattle.kds_defs.proofs.Elsewhere.{floor_same}
 use Rattle.kds_defs.specs.declared.limits.TheConstants.{HOUR}
 use Rattle.kds_defs.specs.Journal.{Line, Journal}
 use Rattle.kds_defs.specs.Streams.{floor_after, floor_at, floor_of, floor_of_lines, hours, retention, trim_floor, was_made}
 use Rattle.kds_defs.specs.Lawful.{IsRetention}
 use Rattle.kds_stream.specs.Value.{cut_at, later_cut}
-
--- ---- a line at the stream's clock that leaves the retention leaves the floor as it was
-
-pub same_floor_at : (log : Journal) (line : Line) (c s : ℕ) → line.clock ≡ c → hours (line ∷ log) s ≡ hours log s
-    → trim_floor (line ∷ log) c s ≡ trim_floor log c s
-same_floor_at log line c s at same = floor_same log line s c (omega (arith, at)) same
 
 -- ---- what a line adds to the floor of a stream
 

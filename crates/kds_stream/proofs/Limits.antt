@@ -1,6 +1,6 @@
 -- The limits on throughput are turned on or off: what the stream shows after it.
-use Rattle.std.proofs.Common.{◌≡◌, ℕ, Bool, true, false, ◌∷◌, refl}
-use Rattle.std.specs.Prelude.{◌==◌, if◌then◌else◌, Ok}
+use Rattle.std.proofs.Common.{◌≡◌, ℕ, Bool, ◌∷◌, refl}
+use Rattle.std.specs.Prelude.{◌==◌, Ok}
 use Rattle.kds_defs.specs.declared.entry.Entry.TheVariants as entry
 use Rattle.kds_defs.specs.declared.reply.Reply.TheVariants as reply
 use Rattle.kds_defs.specs.Histories.{answer_of, lines_of}
@@ -8,15 +8,11 @@ use Rattle.kds_defs.specs.Journal.{Journal, Line, plain_line, with_lines}
 use Rattle.kds_defs.specs.PutCommands.{enforce, is_enforced}
 use Rattle.kds_defs.specs.Streams.{floor_of}
 use Rattle.std.proofs.Common.{arith, ◌∙◌}
-use Rattle.kds_base.proofs.Facts.{is_itself}
-use Rattle.kds_stream.proofs.Cuts.{same_floor_at}
+use Rattle.kds_defs.proofs.Elsewhere.{floor_same}
+use Rattle.kds_base.proofs.Facts.{chosen, is_itself}
 use Rattle.kds_stream.proofs.Others.{kept_along}
 use Rattle.kds_stream.specs.Showing.{Shows}
 use Rattle.kds_stream.specs.Value.{StreamValue}
-
-chosen : (b : Bool) (x y : Bool) → b ≡ true → (if b then x else y) ≡ x
-chosen true x y h = refl
-chosen false x y h = absurd cc
 
 -- the line of a change
 abbrev pub limits_line : StreamValue → ℕ → Bool → Line
@@ -35,7 +31,7 @@ enforce_done v log by on shown = (
       hours_are = shown.stored.hours_are;
       shards_are = shown.stored.shards_are;
       next_is = omega (arith, shown.stored.next_is);
-      floor_is = same_floor_at log (limits_line v by on) v.clock v.no refl refl ∙ shown.stored.floor_is;
+      floor_is = floor_same log (limits_line v by on) v.no v.clock (omega arith) refl ∙ shown.stored.floor_is;
       kept = kept_along (floor_of v.cut) log (limits_line v by on ∷ log) v.no 0 v.logs (λ sh. refl) shown.stored.kept;
       none_beyond = shown.stored.none_beyond;
     };

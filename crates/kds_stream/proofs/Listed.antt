@@ -3,6 +3,7 @@ use Rattle.std.proofs.Common.{◌≡◌, ℕ, ◌<◌, Bool, true, false, List, 
 use Rattle.std.specs.Prelude.{slice_get, is_none, is_some, not, ◌&&◌, ◌||◌, if◌then◌else◌, Result, Ok, Err}
 use Rattle.std.specs.Option.{option_map}
 use Rattle.std.proofs.lemmas.Option.{slice_get_within}
+use Rattle.kds_base.proofs.Facts.{same_some}
 use Rattle.kds_defs.proofs.Decisions.{passed_if, refused_if, with_some}
 use Rattle.kds_defs.specs.declared.command.Start.{Start}
 use Rattle.kds_defs.specs.declared.command.Start.TheVariants as start
@@ -52,12 +53,9 @@ pub has_state : (floor : ℕ) (o : Option ShardState) (y : Shard) → Some y ≡
 has_state floor None y h = absurd cc
 has_state floor (Some x) y h = by (is_closed_below floor x) refl h
   where
-    same : (a b : Shard) → Some a ≡ Some b → a ≡ b
-    same a b h = cc
-
     by : (b : Bool) → is_closed_below floor x ≡ b → Some y ≡ option_map shown (if b then None else Some x) → HasState floor (Some x) y
     by true e h = absurd cc
-    by false e h = record { state = x; at = refl; is_shown = same y (shown x) h; listed = ap not e }
+    by false e h = record { state = x; at = refl; is_shown = same_some y (shown x) h; listed = ap not e }
 
 pub is_listed_some : (floor : ℕ) (o : Option ShardState) → is_some (option_map shown (listed_at floor o)) ≡ is_listed_at floor o
 is_listed_some floor None = refl
@@ -125,10 +123,7 @@ module _ (v : StreamValue) (log : Journal) (show : Shows v log) where
       ∙ refused_if _ _ _ (ap not (ap (λ n. is_good_start from n has.state) show.stored.next_is ∙ good)))
 
   chosen_some : (b : Bool) (n p : ℕ) → Some p ≡ (if b then Some n else None) → (b ≡ true) × (p ≡ n)
-  chosen_some true n p h = (refl, same p n h)
-    where
-      same : (a b : ℕ) → Some a ≡ Some b → a ≡ b
-      same a b h = cc
+  chosen_some true n p h = (refl, same_some p n h)
   chosen_some false n p h = absurd cc
 
   chosen_none : (b : Bool) (n : ℕ) → None ≡ (if b then Some n else None) → b ≡ false
@@ -174,12 +169,9 @@ module _ (v : StreamValue) (log : Journal) (show : Shows v log) where
     pub read_end : (y : Shard) (end : Bool) → Some y ≡ option_map shown (slice_get v.tree sh) → end ≡ (is_some y.end && is_none left) → end ≡ ends_at log v.clock v.no sh (place_after position (numbers_of (batch log v.clock v.no sh position limit)))
     read_end y end is ended = by (slice_get v.tree sh) refl is
       where
-        same : (a b : Shard) → Some a ≡ Some b → a ≡ b
-        same a b h = cc
-
         by : (o : Option ShardState) → slice_get v.tree sh ≡ o → Some y ≡ option_map shown o → end ≡ ends_at log v.clock v.no sh (place_after position (numbers_of (batch log v.clock v.no sh position limit)))
         by None e h = absurd cc
-        by (Some x) e h = ended ∙ sym (ends_is sh place y x l left e (same y (shown x) h) below at first) ∙ ap (ends_at log v.clock v.no sh) (sym place_is)
+        by (Some x) e h = ended ∙ sym (ends_is sh place y x l left e (same_some y (shown x) h) below at first) ∙ ap (ends_at log v.clock v.no sh) (sym place_is)
 
     pub read_no_end : (end : Bool) → None ≡ option_map shown (slice_get v.tree sh) → end ≡ false → end ≡ ends_at log v.clock v.no sh (place_after position (numbers_of (batch log v.clock v.no sh position limit)))
     read_no_end end is open_still = by (slice_get v.tree sh) refl is

@@ -2,7 +2,7 @@
 use Rattle.std.proofs.Common.{◌≡◌, ℕ, zero, suc, ◌≤◌, List, [], ◌∷◌, ◌++◌, length, get_or, map, take, drop, Option, Some, None, refl, ap, ◌∙◌, arith}
 use Rattle.std.specs.Prelude.{slice_set}
 use Rattle.std.specs.List.{AllByRecursion}
-use Rattle.std.proofs.lemmas.List.{append_assoc, take_at}
+use Rattle.std.proofs.lemmas.List.{append_assoc, map-append, take_at}
 use Rattle.kds_base.proofs.Facts.{all_weaker}
 use Rattle.kds_defs.specs.Records.{Logged}
 use Rattle.kds_log.specs.Log.{LogValue, LogWithRoom, log_of}
@@ -35,10 +35,6 @@ log_at [] i l is = refl
 log_at (x ∷ ls) zero l is = ap log_of is
 log_at (x ∷ ls) (suc i) l is = log_at ls i l is
 
-pub logs-append : (ls ms : List LogWithRoom) → map log_of (ls ++ ms) ≡ map log_of ls ++ map log_of ms
-logs-append [] ms = refl
-logs-append (l ∷ ls) ms = ap (λ (ys : List LogValue). log_of l ∷ ys) (logs-append ls ms)
-
 pub logs-set : (ls : List LogWithRoom) (i : ℕ) (l : LogWithRoom) → map log_of (slice_set ls i l) ≡ slice_set (map log_of ls) i (log_of l)
 logs-set [] i l = refl
 logs-set (x ∷ ls) zero l = refl
@@ -63,7 +59,8 @@ put_back n sh i floor r new items lent len is same at =
 
 pub one_more_log : (new reserved : List LogWithRoom) (before : List LogValue) (l : LogWithRoom) → new ≡ reserved ++ l ∷ [] → map log_of reserved ≡ before → log_of l ≡ empty_log → map log_of new ≡ before ++ (empty_log ∷ [])
 one_more_log new reserved before l pushed same is =
-    ap (map log_of) pushed ∙ logs-append reserved (l ∷ []) ∙ ap (λ (ls : List LogValue). ls ++ log_of l ∷ []) same ∙ ap (λ (x : LogValue). before ++ x ∷ []) is
+    ap (map log_of) pushed ∙ map-append log_of reserved (l ∷ []) ∙ ap (λ (ls : List LogValue). ls ++ log_of l ∷ []) same
+    ∙ ap (λ (x : LogValue). before ++ x ∷ []) is
 
 pub two_more : (new one reserved : List LogWithRoom) (before : List LogValue) (l m : LogWithRoom) → new ≡ one ++ m ∷ [] → one ≡ reserved ++ l ∷ [] → map log_of reserved ≡ before → log_of l ≡ empty_log → log_of m ≡ empty_log → map log_of new ≡ before ++ (empty_log ∷ empty_log ∷ [])
 two_more new one reserved before l m second first same is other =

@@ -34,7 +34,7 @@ all_first : (next n start : ℕ) (ranges : List Span) → AllByRecursion (EndsUn
 all_first next n start [] = tt
 all_first next n start (r ∷ rs) = (tt, all_first next (n + 1) start rs)
 
-all_replicate : {A : Type 0} (P : A → Type 0) (n : ℕ) (x : A) → P x → AllByRecursion P (replicate n x)
+pub all_replicate : {A : Type 0} (P : A → Type 0) (n : ℕ) (x : A) → P x → AllByRecursion P (replicate n x)
 all_replicate P zero x h = tt
 all_replicate P (suc n) x h = (h, all_replicate P n x h)
 

@@ -1,10 +1,11 @@
 -- A put: its decision, what the stream shows after it, and that it is a stream still.
 use Rattle.std.proofs.Common.{◌≡◌, ◌≢◌, ℕ, zero, suc, ◌+◌, ◌^◌, ◌<◌, ◌≤◌, Bool, true, false, List, [], ◌∷◌, ◌++◌, length, Option, Some, None, refl, sym, ap, subst, ◌∙◌, arith}
-use Rattle.std.specs.Prelude.{◌==◌, ◌&&◌, cond, not, nat_le, nat_lt, if◌then◌else◌, Result, Ok, Err}
+use Rattle.std.specs.Prelude.{◌==◌, ◌&&◌, not, nat_le, nat_lt, if◌then◌else◌, Result, Ok, Err}
 use Rattle.std.specs.List.{AllByRecursion, filter}
 use Rattle.std.proofs.lemmas.Bool.Decides.{nat_tests}
 use Rattle.std.proofs.lemmas.List.Elements.{filter-append}
-use Rattle.kds_base.proofs.Facts.{is_itself, is_other, all_weaker, all_append, is_equal}
+use Rattle.kds_base.proofs.Facts.{chosen, is_itself, is_other, all_weaker, all_append, is_equal}
+use Rattle.kds_defs.proofs.Elsewhere.{floor_same}
 use Rattle.kds_defs.proofs.Decisions.{after_accepted, after_refused, passed_if, refused_if}
 use Rattle.kds_defs.specs.declared.command.NewItem.{NewItem}
 use Rattle.kds_defs.specs.declared.reply.Place.{Place}
@@ -24,7 +25,6 @@ use Rattle.kds_defs.specs.StreamCommands.{last_number, put_line, put_place}
 use Rattle.kds_defs.specs.Streams.{floor_of}
 use Rattle.kds_log.specs.Log.{LogValue}
 use Rattle.kds_rate.specs.Windows.{WindowValue}
-use Rattle.kds_stream.proofs.Cuts.{same_floor_at}
 use Rattle.kds_stream.proofs.LogLemmas.{all-appended, arrived_later, length-appended}
 use Rattle.kds_stream_logs.proofs.Rates.{put_elsewhere, stand_along}
 use Rattle.kds_stream_logs.specs.Rating.{StandFor, with_put}
@@ -32,6 +32,12 @@ use Rattle.kds_stream.specs.Rating.{AreRated, ShowsRates}
 use Rattle.kds_stream.specs.Showing.{AreKept, IsKept, Shows, ShowsStored}
 use Rattle.kds_stream_logs.specs.Logs.{HasArrived, IsBelow, IsUnder, with_appended}
 use Rattle.kds_stream.specs.Value.{EndsUnder, IsClosedUnder, IsStream, StreamValue}
+
+-- ---- the next number after a line that draws one
+
+pub one_more : (b : Bool) (n m : ℕ) → b ≡ true → n ≡ m → (if b then 1 else 0) + n ≡ m + 1
+one_more true n m h e = omega (arith, e)
+one_more false n m h e = absurd cc
 
 -- ---- what a call owes, of one of two equal values
 
@@ -45,14 +51,11 @@ put_record v item = record { seq = v.next; arrival = v.clock; bytes = length ite
 
 -- a record that arrived at the floor or later is kept with the others
 left_one : (from : ℕ) (rs : List Logged) (r : Logged) → from ≤ r.arrival → left_among from 0 (rs ++ r ∷ []) ≡ left_among from 0 rs ++ r ∷ []
-left_one from rs r le = filter-append (is_left from 0) rs (r ∷ []) ∙ ap (λ xs. left_among from 0 rs ++ xs) (one (is_left from 0 r) (late from r.arrival r.seq le))
+left_one from rs r le =
+    filter-append (is_left from 0) rs (r ∷ []) ∙ ap (λ xs. left_among from 0 rs ++ xs) (chosen (is_left from 0 r) (r ∷ []) [] (late from r.arrival r.seq le))
   where
     late : (from arrival seq : ℕ) → from ≤ arrival → (not (nat_lt arrival from) && nat_le 0 seq) ≡ true
     late from arrival seq h = grind (arith, nat_tests)
-
-    one : (b : Bool) → b ≡ true → cond b (r ∷ []) [] ≡ r ∷ []
-    one true h = refl
-    one false h = absurd cc
 
 -- the logs with the record keep the records of a journal that has it too
 kept_put : (floor : ℕ) (log log' : Journal) (s n i at : ℕ) (r : Logged) (ls : List LogValue) → floor ≤ r.arrival → at ≡ n + i → records log' s at ≡ records log s at ++ r ∷ [] → ((sh : ℕ) → at ≢ sh → records log' s sh ≡ records log s sh)
@@ -80,10 +83,6 @@ kept_put floor log log' s n (suc i) at r (l ∷ ls) late is here others h =
 abbrev pub put_of : StreamValue → NewItem → SizedPut
 put_of v item = record { clock = v.clock; bytes = item_bytes item }
 
-chosen_put : (a b : Bool) (line : SizedPut) (before : List SizedPut) → a ≡ true → (if a && b then line ∷ before else before) ≡ (if b then line ∷ before else before)
-chosen_put true b line before h = refl
-chosen_put false b line before h = absurd cc
-
 module _ (v : StreamValue) (log : Journal) (by n : ℕ) (item : NewItem) (same : shards log v.no ≡ v.tree) where
   pub home_so : home log v.no item.hash ≡ home_among (filter is_open v.tree) item.hash
   home_so = ap (λ xs. home_among (filter is_open xs) item.hash) same
@@ -91,7 +90,7 @@ module _ (v : StreamValue) (log : Journal) (by n : ℕ) (item : NewItem) (same :
   -- the puts of a shard after its line
   pub puts_more : (sh : ℕ) → puts (put_line log v.clock by v.no n item ∷ log) v.no sh ≡ with_put (home_among (filter is_open v.tree) item.hash) (put_of v item) (puts log v.no) sh
   puts_more sh =
-      chosen_put (v.no == v.no) (home log v.no item.hash == sh) (put_of v item) (puts log v.no sh) (is_itself v.no)
+      ap (λ b. if b && (home log v.no item.hash == sh) then put_of v item ∷ puts log v.no sh else puts log v.no sh) (is_itself v.no)
       ∙ ap (λ h. if h == sh then put_of v item ∷ puts log v.no sh else puts log v.no sh) home_so
 
   pub rates_put : (windows : List WindowValue) → home_among (filter is_open v.tree) item.hash < length v.tree
@@ -127,7 +126,8 @@ module _ (v : StreamValue) (log : Journal) (by : ℕ) (item : NewItem) (shown : 
 
   pub put_spent : is_held_back log v.clock v.no item ≡ false → v.next ≡ last_number → (Err refusal.Spent ≡ answer_of (put log v.clock by v.no item)) × Shows v (with_lines (lines_of (put log v.clock by v.no item)) log)
   put_spent free spent =
-      after_refused _ refusal.Spent log (λ l. Shows v l) (passed_if _ _ _ free ∙ refused_if _ _ _ (is_equal (next_number log v.no) last_number (shown.stored.next_is ∙ spent))) shown
+      after_refused _ refusal.Spent log (λ l. Shows v l) (passed_if _ _ _ free
+      ∙ refused_if _ _ _ (is_equal (next_number log v.no) last_number (shown.stored.next_is ∙ spent))) shown
 
 module _ (v : StreamValue) (log : Journal) (by : ℕ) (item : NewItem) (shown : ShowsStored v log) where
   home_is : home log v.no item.hash ≡ home_among (filter is_open v.tree) item.hash
@@ -160,17 +160,13 @@ module _ (v : StreamValue) (log : Journal) (by : ℕ) (item : NewItem) (shown : 
         hours_are = shown.hours_are;
         shards_are = shown.shards_are;
         next_is = one_more (v.no == v.no) (next_number log v.no) v.next (is_itself v.no) shown.next_is;
-        floor_is = same_floor_at log (put_line log v.clock by v.no (next_number log v.no) item) v.clock v.no refl refl ∙ shown.floor_is;
+        floor_is = floor_same log (put_line log v.clock by v.no (next_number log v.no) item) v.no v.clock (omega arith) refl ∙ shown.floor_is;
         kept =
             kept_put (floor_of v.cut) log (put_line log v.clock by v.no (next_number log v.no) item ∷ log) v.no 0 sh sh (put_record v item) v.logs trims (omega arith) (here sh is)
             (λ other differ. elsewhere other (λ e. differ (sym is ∙ e))) shown.kept;
         none_beyond = λ other beyond. elsewhere other (λ e. past sh other (length v.tree) within beyond (sym is ∙ e)) ∙ shown.none_beyond other beyond;
       }
     where
-      one_more : (b : Bool) (n next : ℕ) → b ≡ true → n ≡ next → (if b then 1 else 0) + n ≡ next + 1
-      one_more true n next h e = omega (arith, e)
-      one_more false n next h e = absurd cc
-
       past : (sh other len : ℕ) → sh < len → len ≤ other → sh ≡ other → ⊥
       past sh other len within beyond e = omega (arith, within, beyond, e)
 
@@ -187,7 +183,9 @@ module _ (v : StreamValue) (log : Journal) (by : ℕ) (item : NewItem) (shown : 
       let stored = shows_put sh at within trims in
       let inside : home_among (filter is_open v.tree) item.hash < length v.tree = subst (λ n. n < length v.tree) at within in
       let stand' = subst (λ n. StandFor (with_put n (put_of v item) (puts log v.no)) 0 windows) at stand in
-      let full : Shows (record v { logs = with_appended sh (put_record v item) v.logs; windows = windows; next = v.next + 1; clock_before = v.clock; cut_before = v.cut }) after =
+      let w : StreamValue =
+      record v { logs = with_appended sh (put_record v item) v.logs; windows = windows; next = v.next + 1; clock_before = v.clock; cut_before = v.cut } in
+      let full : Shows w after =
       record { stored = stored; rates = rates_put v log by (next_number log v.no) item shown.shards_are windows inside rates stand' } in
       subst (λ (n : ℕ). Shows (record v { logs = logs; windows = windows; next = n; clock_before = v.clock; cut_before = v.cut }) after) (sym drawn)
       (subst (λ (ls : List LogValue). Shows (record v { logs = ls; windows = windows; next = v.next + 1; clock_before = v.clock; cut_before = v.cut }) after) (sym are) full)

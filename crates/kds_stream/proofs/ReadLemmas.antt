@@ -47,7 +47,8 @@ module _ (v : StreamValue) (log : Journal) (shown : Shows v log) (sh : ℕ) (l :
   pub left_is : (position : ℕ) → left_from log v.clock v.no sh position ≡ left_among (floor_of v.cut) position l.kept
   left_is position =
       let e : 0 + sh ≡ sh = omega arith in
-      let k : IsKept (floor_of v.cut) (records log v.no sh) l.kept = subst (λ m. IsKept (floor_of v.cut) (records log v.no m) l.kept) e (kept_at (floor_of v.cut) log v.no 0 sh v.logs l shown.stored.kept below is) in
+      let k : IsKept (floor_of v.cut) (records log v.no sh) l.kept =
+      subst (λ m. IsKept (floor_of v.cut) (records log v.no m) l.kept) e (kept_at (floor_of v.cut) log v.no 0 sh v.logs l shown.stored.kept below is) in
       ap (λ b. if b then left_among (trim_floor log v.clock v.no) position (records log v.no sh) else []) shown.stored.live
       ∙ ap (λ f. left_among f position (records log v.no sh)) shown.stored.floor_is
       ∙ sym (ap (left_among (floor_of v.cut) position) k.rest ∙ left_twice (floor_of v.cut) position k.from (records log v.no sh) k.early)

@@ -1,8 +1,9 @@
 -- What a stream shows after a split or a merge, and that it is a stream still.
-use Rattle.std.proofs.Common.{◌≡◌, ◌≢◌, ℕ, zero, suc, ◌+◌, ◌<◌, ◌≤◌, Bool, true, false, List, [], ◌∷◌, ◌++◌, length, None, refl, sym, ap, subst, ◌∙◌, arith, length-append}
-use Rattle.std.specs.Prelude.{◌==◌, if◌then◌else◌, Ok}
+use Rattle.std.proofs.Common.{◌≡◌, ◌≢◌, ℕ, zero, suc, ◌+◌, ◌<◌, ◌≤◌, Bool, List, [], ◌∷◌, ◌++◌, length, None, refl, sym, ap, subst, ◌∙◌, arith, length-append}
+use Rattle.std.specs.Prelude.{◌==◌, Ok}
 use Rattle.std.specs.List.{AllByRecursion, filter}
 use Rattle.kds_base.proofs.Facts.{is_itself, chosen, all_weaker, all_append}
+use Rattle.kds_defs.proofs.Elsewhere.{floor_same}
 use Rattle.kds_defs.proofs.Decisions.{after_accepted}
 use Rattle.kds_defs.specs.declared.limits.TheConstants.{OPEN_SHARDS}
 use Rattle.kds_defs.specs.declared.reply.Reply.TheVariants as reply
@@ -18,11 +19,10 @@ use Rattle.kds_defs.specs.Streams.{floor_of, hours, is_live, made_at, name_of, w
 use Rattle.kds_defs.proofs.Counted.{length_split, length_merged}
 use Rattle.kds_log.specs.Log.{LogValue}
 use Rattle.kds_rate.specs.Windows.{WindowValue}
-use Rattle.kds_stream.proofs.Cuts.{same_floor_at}
 use Rattle.kds_stream.proofs.LogLemmas.{arrived_later, below_higher}
 use Rattle.kds_stream.proofs.Opens.{few_merged, few_split}
 use Rattle.kds_stream.proofs.Others.{kept_along}
-use Rattle.kds_stream.proofs.Puts.{ends_later, one_free}
+use Rattle.kds_stream.proofs.Puts.{ends_later, one_free, one_more}
 use Rattle.kds_stream_logs.proofs.Rates.{stand_along}
 use Rattle.kds_stream.proofs.Rates.{rated_more, stand_more}
 use Rattle.kds_stream_logs.specs.Rating.{IsUnused}
@@ -93,8 +93,10 @@ shows_grown v log line tree new ws next at live was named made lasts enforces sa
     hours_are = lasts ∙ show.stored.hours_are;
     shards_are = shards_are;
     next_is = next_is;
-    floor_is = same_floor_at log line v.clock v.no at lasts ∙ show.stored.floor_is;
-    kept = kept_along (floor_of v.cut) log (line ∷ log) v.no 0 (v.logs ++ new) same (kept_grown (floor_of v.cut) log v.no 0 v.logs new empty (λ sh beyond. show.stored.none_beyond sh (omega (arith, beyond, as_many))) show.stored.kept);
+    floor_is = floor_same log line v.no v.clock (omega (arith, at)) lasts ∙ show.stored.floor_is;
+    kept =
+        kept_along (floor_of v.cut) log (line ∷ log) v.no 0 (v.logs ++ new) same
+        (kept_grown (floor_of v.cut) log v.no 0 v.logs new empty (λ sh beyond. show.stored.none_beyond sh (omega (arith, beyond, as_many))) show.stored.kept);
     none_beyond = λ sh beyond. same sh ∙ show.stored.none_beyond sh (omega (arith, beyond, grown));
   };
   rates =
@@ -107,18 +109,16 @@ shows_grown v log line tree new ws next at live was named made lasts enforces sa
       };
 }
 
-one_more : (b : Bool) (n m : ℕ) → b ≡ true → n ≡ m → (if b then 1 else 0) + n ≡ m + 1
-one_more true n m h e = omega (arith, e)
-one_more false n m h e = absurd cc
-
 module _ (v : StreamValue) (log : Journal) (by : ℕ) (show : Shows v log) (as_many : length v.logs ≡ length v.tree) (as_wide : length v.windows ≡ length v.tree) where
   pub shows_split : (sh at next : ℕ) (tree : List ShardState) (logs : List LogValue) (windows ws : List WindowValue) → next ≡ v.next + 1 → tree ≡ split_shards sh at (record { number = v.next; clock = v.clock }) (v.next + 1) v.tree → logs ≡ v.logs ++ (empty_log ∷ empty_log ∷ []) → windows ≡ v.windows ++ ws → AllByRecursion IsUnused ws
       → Shows (record v { tree = tree; logs = logs; windows = windows; next = next; clock_before = v.clock; cut_before = v.cut }) (split_line log v.clock by v.no sh at ∷ log)
   shows_split sh at next tree logs windows ws drawn tree_is logs_are windows_are unused =
-      let more : next_number (split_line log v.clock by v.no sh at ∷ log) v.no ≡ v.next + 1 = one_more (v.no == v.no) (next_number log v.no) v.next (is_itself v.no) show.stored.next_is in
+      let more : next_number (split_line log v.clock by v.no sh at ∷ log) v.no ≡ v.next + 1 =
+      one_more (v.no == v.no) (next_number log v.no) v.next (is_itself v.no) show.stored.next_is in
       let after : shards (split_line log v.clock by v.no sh at ∷ log) v.no ≡ tree =
       chosen (v.no == v.no) _ (shards log v.no) (is_itself v.no)
-      ∙ ap (λ n. split_shards sh at (record { number = n; clock = v.clock }) (next_number (split_line log v.clock by v.no sh at ∷ log) v.no) (shards log v.no)) show.stored.next_is
+      ∙ ap (λ n. split_shards sh at (record { number = n; clock = v.clock }) (next_number (split_line log v.clock by v.no sh at ∷ log) v.no)
+      (shards log v.no)) show.stored.next_is
       ∙ ap (λ n. split_shards sh at (record { number = v.next; clock = v.clock }) n (shards log v.no)) more
       ∙ ap (split_shards sh at (record { number = v.next; clock = v.clock }) (v.next + 1)) show.stored.shards_are
       ∙ sym tree_is in
@@ -130,10 +130,12 @@ module _ (v : StreamValue) (log : Journal) (by : ℕ) (show : Shows v log) (as_m
   pub shows_merged : (sh other next : ℕ) (tree : List ShardState) (logs : List LogValue) (windows ws : List WindowValue) → next ≡ v.next + 1 → tree ≡ merged_shards sh other (record { number = v.next; clock = v.clock }) (v.next + 1) v.tree → logs ≡ v.logs ++ (empty_log ∷ []) → windows ≡ v.windows ++ ws → AllByRecursion IsUnused ws
       → Shows (record v { tree = tree; logs = logs; windows = windows; next = next; clock_before = v.clock; cut_before = v.cut }) (merge_line log v.clock by v.no sh other ∷ log)
   shows_merged sh other next tree logs windows ws drawn tree_is logs_are windows_are unused =
-      let more : next_number (merge_line log v.clock by v.no sh other ∷ log) v.no ≡ v.next + 1 = one_more (v.no == v.no) (next_number log v.no) v.next (is_itself v.no) show.stored.next_is in
+      let more : next_number (merge_line log v.clock by v.no sh other ∷ log) v.no ≡ v.next + 1 =
+      one_more (v.no == v.no) (next_number log v.no) v.next (is_itself v.no) show.stored.next_is in
       let after : shards (merge_line log v.clock by v.no sh other ∷ log) v.no ≡ tree =
       chosen (v.no == v.no) _ (shards log v.no) (is_itself v.no)
-      ∙ ap (λ n. merged_shards sh other (record { number = n; clock = v.clock }) (next_number (merge_line log v.clock by v.no sh other ∷ log) v.no) (shards log v.no)) show.stored.next_is
+      ∙ ap (λ n. merged_shards sh other (record { number = n; clock = v.clock }) (next_number (merge_line log v.clock by v.no sh other ∷ log) v.no)
+      (shards log v.no)) show.stored.next_is
       ∙ ap (λ n. merged_shards sh other (record { number = v.next; clock = v.clock }) n (shards log v.no)) more
       ∙ ap (merged_shards sh other (record { number = v.next; clock = v.clock }) (v.next + 1)) show.stored.shards_are
       ∙ sym tree_is in

@@ -4,7 +4,7 @@ use Rattle.std.specs.Prelude.{◌==◌, ◌&&◌, ◌||◌, not, nat_lt, is_some
 use Rattle.std.proofs.lemmas.Bool.Decides.{nat_tests}
 use Rattle.std.proofs.lemmas.Bool.{and_from, or_right, or_from}
 use Rattle.kds_base.specs.Span.{are_adjacent, is_inside}
-use Rattle.kds_base.proofs.Facts.{is_other, is_equal}
+use Rattle.kds_base.proofs.Facts.{is_other, is_equal, same_some}
 use Rattle.kds_defs.proofs.Decisions.{passed_if, refused_if}
 use Rattle.kds_defs.specs.declared.reply.Refusal.{Refusal}
 use Rattle.kds_defs.specs.declared.reply.Refusal.TheVariants as refusal
@@ -22,15 +22,12 @@ use Rattle.kds_tree.specs.Tree.{merge_refusal, split_refusal}
 
 -- ---- the tests of the tree
 
-same_refusal : (a b : Refusal) → Some a ≡ Some b → a ≡ b
-same_refusal a b h = cc
-
 split_tests : (s a b : Bool) (r : Refusal) (rest : Decision) → s ≡ true → Some r ≡ (if not s then Some refusal.NoShard else if not a then Some refusal.ShardClosed else if not b then Some refusal.BadSplit else None)
     → (refuse refusal.ShardClosed if not a else refuse refusal.BadSplit if not b else rest) ≡ Refused r
 unfolding refuse◌if◌else◌
 split_tests false a b r rest made h = absurd cc
-split_tests true false b r rest made h = ap Refused (sym (same_refusal r refusal.ShardClosed h))
-split_tests true true false r rest made h = ap Refused (sym (same_refusal r refusal.BadSplit h))
+split_tests true false b r rest made h = ap Refused (sym (same_some r refusal.ShardClosed h))
+split_tests true true false r rest made h = ap Refused (sym (same_some r refusal.BadSplit h))
 split_tests true true true r rest made h = absurd cc
 
 split_passes : (s a b : Bool) (rest : Decision) → None ≡ (if not s then Some refusal.NoShard else if not a then Some refusal.ShardClosed else if not b then Some refusal.BadSplit else None)
@@ -45,8 +42,8 @@ merge_tests : (s a b : Bool) (r : Refusal) (rest : Decision) → s ≡ true → 
     → (refuse refusal.ShardClosed if not a else refuse refusal.NotAdjacent if not b else rest) ≡ Refused r
 unfolding refuse◌if◌else◌
 merge_tests false a b r rest made h = absurd cc
-merge_tests true false b r rest made h = ap Refused (sym (same_refusal r refusal.ShardClosed h))
-merge_tests true true false r rest made h = ap Refused (sym (same_refusal r refusal.NotAdjacent h))
+merge_tests true false b r rest made h = ap Refused (sym (same_some r refusal.ShardClosed h))
+merge_tests true true false r rest made h = ap Refused (sym (same_some r refusal.NotAdjacent h))
 merge_tests true true true r rest made h = absurd cc
 
 merge_passes : (s a b : Bool) (rest : Decision) → None ≡ (if not s then Some refusal.NoShard else if not a then Some refusal.ShardClosed else if not b then Some refusal.NotAdjacent else None)
@@ -75,7 +72,8 @@ module _ (v : StreamValue) (log : Journal) (by : ℕ) (show : Shows v log) where
   spent_next a spent = or_right a (next_number log v.no == last_number) (is_equal (next_number log v.no) last_number (show.stored.next_is ∙ spent))
 
   free_next : (a : Bool) → a ≡ false → v.next ≢ last_number → (a || next_number log v.no == last_number) ≡ false
-  free_next a is free = or_from a (next_number log v.no == last_number) is (is_other (next_number log v.no) last_number (λ e. free (sym show.stored.next_is ∙ e)))
+  free_next a is free =
+      or_from a (next_number log v.no == last_number) is (is_other (next_number log v.no) last_number (λ e. free (sym show.stored.next_is ∙ e)))
 
   few_shards : length v.tree < 2 ^ 63 → length (shards log v.no) < 2 ^ 63
   few_shards h = subst (λ (xs : List ShardState). length xs < 2 ^ 63) (sym show.stored.shards_are) h

@@ -58,7 +58,9 @@ module _ (v : StreamValue) (log : Journal) (by wanted : ℕ) (raise : Bool) (sho
           shards_are = shown.stored.shards_are;
           next_is = omega (arith, shown.stored.next_is);
           floor_is = floor_kept ∙ ap floor_of (sym is);
-          kept = kept_along (floor_of cut) log (kept_line v by wanted ∷ log) v.no 0 v.logs (λ sh. refl) (kept_higher (floor_of v.cut) (floor_of cut) log v.no 0 v.logs higher shown.stored.kept);
+          kept =
+              kept_along (floor_of cut) log (kept_line v by wanted ∷ log) v.no 0 v.logs (λ sh. refl)
+              (kept_higher (floor_of v.cut) (floor_of cut) log v.no 0 v.logs higher shown.stored.kept);
           none_beyond = shown.stored.none_beyond;
         };
         rates = record { enforced_is = shown.rates.enforced_is; stand = shown.rates.stand; none_beyond = shown.rates.none_beyond };

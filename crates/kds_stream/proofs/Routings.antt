@@ -24,7 +24,7 @@ use Rattle.kds_log.specs.Log.{LogValue}
 use Rattle.kds_stream.proofs.Clocks.{settled_stream, shows_settled}
 use Rattle.kds_stream.proofs.LogLemmas.{arrived_later, below_higher}
 use Rattle.kds_rate.specs.Windows.{WindowValue}
-use Rattle.kds_stream.proofs.Puts.{held_is, home_so, put_of, put_record, puts_more, shows_put, stream_put}
+use Rattle.kds_stream.proofs.Puts.{held_is, home_so, one_more, put_of, put_record, puts_more, shows_put, stream_put}
 use Rattle.kds_stream_logs.proofs.Rates.{put_elsewhere, stand_along}
 use Rattle.kds_stream.proofs.Rates.{rated_later}
 use Rattle.kds_stream_logs.specs.declared.routes.Routed.{Routed}
@@ -110,10 +110,6 @@ judged v log item f shards_are enforces same =
     held_is log v.clock v.no v.tree item v.enforced (home_among (filter is_open v.tree) item.hash) (item_bytes item) (f (home_among (filter is_open v.tree) item.hash)) shards_are enforces refl refl (same (home_among (filter is_open v.tree) item.hash))
 
 -- there is a line for each item that is taken, and the outcomes are so
-next_more : (b : Bool) (n m : ℕ) → b ≡ true → n ≡ m → (if b then 1 else 0) + n ≡ m + 1
-next_more true n m h e = omega (arith, e)
-next_more false n m h e = absurd cc
-
 pub record Told (v : StreamValue) (log : Journal) (by n : ℕ) (f : ℕ → List SizedPut) (items : List NewItem) : Type 0 where
   pub many : length (put_lines log v.clock by v.no items) ≡ length (taken v.tree v.clock v.enforced f items)
   pub so : put_outcomes log v.clock by v.no items ≡ outcomes v.tree v.clock v.enforced f n items
@@ -123,7 +119,7 @@ puts_told [] v log by n f shards_are enforces number same = record { many = refl
 puts_told (item ∷ items) v log by n f shards_are enforces number same =
     by_held (is_held v.tree v.clock v.enforced f item) refl (puts_told items v log by n f shards_are enforces number same)
     (puts_told items v (put_line log v.clock by v.no (next_number log v.no) item ∷ log) by (n + 1) (after_item v.tree v.clock f item false) shards_are enforces
-    (next_more (v.no == v.no) (next_number log v.no) n (is_equal v.no v.no refl) number) (puts_stay v log by item f shards_are same))
+    (one_more (v.no == v.no) (next_number log v.no) n (is_equal v.no v.no refl) number) (puts_stay v log by item f shards_are same))
   where
     by_held : (b : Bool) → is_held v.tree v.clock v.enforced f item ≡ b → Told v log by n f items → Told v (put_line log v.clock by v.no (next_number log v.no) item ∷ log) by (n + 1) (after_item v.tree v.clock f item false) items
         → Told v log by n f (item ∷ items)
@@ -275,7 +271,8 @@ module _ (v : StreamValue) (log : Journal) (by : ℕ) (items : List NewItem) (sh
       → (Err refusal.Spent ≡ answer_of (put_many log v.clock by v.no items)) × Shows v (with_lines (lines_of (put_many log v.clock by v.no items)) log)
   puts_spent spent =
       after_refused _ refusal.Spent log (λ l. Shows v l)
-      (refused_if _ _ _ (ap (λ n. nat_lt last_number (n + length (put_lines log v.clock by v.no items))) shown.stored.next_is ∙ ap (λ n. nat_lt last_number (v.next + n)) told.many ∙ is_past (v.next + length (taken v.tree v.clock v.enforced (puts log v.no) items)) spent)) shown
+      (refused_if _ _ _ (ap (λ n. nat_lt last_number (n + length (put_lines log v.clock by v.no items))) shown.stored.next_is
+      ∙ ap (λ n. nat_lt last_number (v.next + n)) told.many ∙ is_past (v.next + length (taken v.tree v.clock v.enforced (puts log v.no) items)) spent)) shown
 
   pub puts_done : (r : Routes) (logs : List LogValue) (windows : List WindowValue) → r.next < 2 ^ 64 → floor_of v.cut ≤ v.clock → AreRouted v.tree v.clock v.enforced (puts log v.no) v.next items r windows → AllByRecursion (IsWithin (length v.tree)) r.routed.items → logs ≡ with_each r.routed.items v.logs
       → (Ok (reply.PutMany r.outcomes) ≡ answer_of (put_many log v.clock by v.no items))
@@ -291,7 +288,8 @@ module _ (v : StreamValue) (log : Journal) (by : ℕ) (items : List NewItem) (sh
       let shows : Shows w (with_lines lines log) =
       subst (λ (ls : List LogValue). Shows (record v { logs = ls; windows = windows; next = r.next; clock_before = v.clock; cut_before = v.cut }) (with_lines lines log)) (sym (stored ∙ ap (λ (qs : List Routed). with_each qs v.logs) made.routed)) full in
       let both = after_accepted (put_many log v.clock by v.no items) lines (reply.PutMany (put_outcomes log v.clock by v.no items)) log (λ l. Shows w l)
-      (passed_if _ _ _ (ap (λ n. nat_lt last_number (n + length lines)) shown.stored.next_is ∙ ap (λ n. nat_lt last_number (v.next + n)) told.many ∙ is_not_past (v.next + length ts) (omega (arith, made.next_is, fits)))) shows in
+      (passed_if _ _ _ (ap (λ n. nat_lt last_number (n + length lines)) shown.stored.next_is ∙ ap (λ n. nat_lt last_number (v.next + n)) told.many
+      ∙ is_not_past (v.next + length ts) (omega (arith, made.next_is, fits)))) shows in
       (ap (λ (os : List Outcome). Ok (reply.PutMany os)) (made.outcomes_are ∙ sym told.so) ∙ both.0, both.1)
 
 -- ---- what is trimmed at their places is dropped

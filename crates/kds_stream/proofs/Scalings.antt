@@ -25,6 +25,7 @@ use Rattle.kds_defs.proofs.Counted.{length_split, length_merged}
 use Rattle.kds_log.specs.Log.{LogValue}
 use Rattle.kds_rate.specs.Windows.{WindowValue}
 use Rattle.kds_stream.proofs.LogLemmas.{arrived_later, below_higher}
+use Rattle.kds_stream.proofs.NewStreams.{all_replicate}
 use Rattle.kds_stream.proofs.Puts.{ends_later}
 use Rattle.kds_stream.proofs.Rates.{rated_more}
 use Rattle.kds_stream.proofs.Resharded.{ends_merged, ends_split, shows_merged, shows_split}
@@ -49,10 +50,6 @@ ends_scaled (Join b ∷ steps) n c next xs le h = ends_scaled steps (n + 1) c ne
 ends_scaled (Cut b ∷ steps) n c next xs le h = ends_scaled steps (n + 1) c next (stepped (Cut b) n c xs) (omega (arith, le)) (ends_split next (home_in xs b) b (n + 1) (record { number = n; clock = c }) xs (omega (arith, le)) h)
 
 -- ---- the stream after them
-
-all_replicate : {A : Type 0} (P : A → Type 0) (n : ℕ) (x : A) → P x → AllByRecursion P (replicate n x)
-all_replicate P zero x h = tt
-all_replicate P (suc n) x h = (h, all_replicate P n x h)
 
 pub stream_scaled : (v : StreamValue) (steps : List ScaleStep) (tree : List ShardState) (logs : List LogValue) (windows ws : List WindowValue) (next : ℕ) → tree ≡ scaled steps v.next v.clock v.tree → length (filter is_open tree) ≤ OPEN_SHARDS → next ≡ v.next + length steps → next < 2 ^ 64
     → logs ≡ v.logs ++ replicate (made_by steps) empty_log → windows ≡ v.windows ++ ws → AllByRecursion IsUnused ws → length ws ≡ made_by steps → IsStream v
@@ -86,7 +83,8 @@ shows_unscaled : (v : StreamValue) (log : Journal) (logs : List LogValue) (windo
 shows_unscaled v log logs windows next logs_are windows_are drawn show =
     subst (λ (n : ℕ). Shows (record v { logs = logs; windows = windows; next = n; clock_before = v.clock; cut_before = v.cut }) log) (sym drawn)
     (subst (λ (us : List WindowValue). Shows (record v { logs = logs; windows = us; clock_before = v.clock; cut_before = v.cut }) log) (sym windows_are)
-    (subst (λ (ls : List LogValue). Shows (record v { logs = ls; clock_before = v.clock; cut_before = v.cut }) log) (sym logs_are) (record { stored = show.stored; rates = show.rates })))
+    (subst (λ (ls : List LogValue). Shows (record v { logs = ls; clock_before = v.clock; cut_before = v.cut }) log) (sym logs_are)
+    (record { stored = show.stored; rates = show.rates })))
 
 pub scales_so : (steps : List ScaleStep) (v : StreamValue) (log : Journal) (by : ℕ) (ws : List WindowValue) → AllByRecursion IsUnused ws → length ws ≡ made_by steps → length v.logs ≡ length v.tree → length v.windows ≡ length v.tree → Shows v log → ScalesSo v log by steps ws
 scales_so [] v log by [] unused many as_many as_wide show = record {
@@ -101,7 +99,8 @@ scales_so (Join b ∷ steps) v log by (w ∷ ws) unused many as_many as_wide sho
     let tree : List ShardState = stepped (Join b) v.next v.clock v.tree in
     let line : Line = merge_line log v.clock by v.no sh other in
     let after : StreamValue = record v { tree = tree; logs = v.logs ++ (empty_log ∷ []); windows = v.windows ++ (w ∷ []); next = v.next + 1; clock_before = v.clock; cut_before = v.cut } in
-    let same : plain_line v.clock by (step_entry log v.no (Join b)) ≡ line = ap (λ xs. merge_line log v.clock by v.no (home_in xs (b - 1)) (home_in xs b)) show.stored.shards_are in
+    let same : plain_line v.clock by (step_entry log v.no (Join b)) ≡ line =
+    ap (λ xs. merge_line log v.clock by v.no (home_in xs (b - 1)) (home_in xs b)) show.stored.shards_are in
     let grown = length_merged sh other (v.next + 1) (record { number = v.next; clock = v.clock }) v.tree in
     let rest : ScalesSo after (line ∷ log) by steps ws = scales_so steps after (line ∷ log) by ws unused.1 (omega (arith, many)) (omega (arith, length-append v.logs (empty_log ∷ []), as_many, grown)) (omega (arith, length-append v.windows (w ∷ []), as_wide, grown))
     (shows_merged v log by show as_many as_wide sh other (v.next + 1) tree (v.logs ++ (empty_log ∷ [])) (v.windows ++ (w ∷ [])) (w ∷ []) refl refl refl refl (unused.0, tt)) in
@@ -115,7 +114,8 @@ scales_so (Join b ∷ steps) v log by (w ∷ ws) unused many as_many as_wide sho
           (append_assoc v.windows (w ∷ []) ws) (rest.shows next (omega (arith, drawn)))));
       entries_are =
           ap (λ l. l.what ∷ map (λ k. k.what) (step_lines (l ∷ log) v.clock by v.no steps)) same
-          ∙ ap (λ n. entry.Merged v.no sh other n (length (shards log v.no)) ∷ map (λ k. k.what) (step_lines (line ∷ log) v.clock by v.no steps)) show.stored.next_is
+          ∙ ap (λ n. entry.Merged v.no sh other n (length (shards log v.no)) ∷ map (λ k. k.what)
+          (step_lines (line ∷ log) v.clock by v.no steps)) show.stored.next_is
           ∙ ap (λ xs. entry.Merged v.no sh other v.next (length xs) ∷ map (λ k. k.what) (step_lines (line ∷ log) v.clock by v.no steps)) show.stored.shards_are
           ∙ ap (λ es. entry.Merged v.no sh other v.next (length v.tree) ∷ es) rest.entries_are;
     }
@@ -141,8 +141,10 @@ scales_so (Cut b ∷ steps) v log by (w ∷ u ∷ ws) unused many as_many as_wid
           (append_assoc v.windows (w ∷ u ∷ []) ws) (rest.shows next (omega (arith, drawn)))));
       entries_are =
           ap (λ l. l.what ∷ map (λ k. k.what) (step_lines (l ∷ log) v.clock by v.no steps)) same
-          ∙ ap (λ n. entry.Split v.no sh b n (length (shards log v.no)) (length (shards log v.no) + 1) ∷ map (λ k. k.what) (step_lines (line ∷ log) v.clock by v.no steps)) show.stored.next_is
-          ∙ ap (λ xs. entry.Split v.no sh b v.next (length xs) (length xs + 1) ∷ map (λ k. k.what) (step_lines (line ∷ log) v.clock by v.no steps)) show.stored.shards_are
+          ∙ ap (λ n. entry.Split v.no sh b n (length (shards log v.no)) (length (shards log v.no) + 1) ∷ map (λ k. k.what)
+          (step_lines (line ∷ log) v.clock by v.no steps)) show.stored.next_is
+          ∙ ap (λ xs. entry.Split v.no sh b v.next (length xs) (length xs + 1) ∷ map (λ k. k.what)
+          (step_lines (line ∷ log) v.clock by v.no steps)) show.stored.shards_are
           ∙ ap (λ es. entry.Split v.no sh b v.next (length v.tree) (length v.tree + 1) ∷ es) rest.entries_are;
     }
 

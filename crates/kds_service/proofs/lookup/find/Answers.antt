@@ -4,4 +4,5 @@ use Rattle.kds_service.proofs.Lookups.{token_place}
 use Rattle.kds_service.proofs.lookup.find.Goals as goal
 
 pub returns-in-Some-clause-value : goal.returns-in-Some-clause-value
-returns-in-Some-clause-value c = c.find_number.ensures.value ∙ sym (token_place (values c.args.streams.now) c.args.what.now c.in-Some.no (sym c.in-Some.ensures))
+returns-in-Some-clause-value c =
+    c.find_number.ensures.value ∙ sym (token_place (values c.args.streams.now) c.args.what.now c.in-Some.no (sym c.in-Some.ensures))

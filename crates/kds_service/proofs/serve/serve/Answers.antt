@@ -23,9 +23,11 @@ returns-in-Streams-clause-leads c before =
 pub serve_one-requires-clause-own : goal.serve_one-requires-clause-own
 serve_one-requires-clause-own c =
     let w = c.in_default in
-    rest_of c.args.what c.requires.own (λ name count is. w.not-Create name count is) (λ name is. w.not-Delete name is) (λ after limit is. w.not-Streams after limit is)
+    rest_of c.args.what c.requires.own (λ name count is. w.not-Create name count is) (λ name is. w.not-Delete name is)
+    (λ after limit is. w.not-Streams after limit is)
 
 pub returns-in_default-clause-leads : goal.returns-in_default-clause-leads
 returns-in_default-clause-leads c before =
     let a = c.args in
-    serve_leads c.serve_one.result a.clock before a.made.now (values a.streams.now) (values c.serve_one.new.streams) a.what a.what c.serve_one.ensures.leads refl
+    serve_leads c.serve_one.result a.clock before a.made.now (values a.streams.now)
+    (values c.serve_one.new.streams) a.what a.what c.serve_one.ensures.leads refl

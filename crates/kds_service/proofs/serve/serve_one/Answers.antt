@@ -23,7 +23,8 @@ pub returns-in-None-clause-leads : goal.returns-in-None-clause-leads
 returns-in-None-clause-leads c b n =
     let a = c.args in
     let w = service a.clock b n (values a.streams.now) in
-    refused_leads w a.what refusal.NoStream (λ log by all. gone_so w log by a.what all c.requires.own (sym c.expired.ensures ∙ c.in_default.is) (sym c.in-None.ensures.value))
+    refused_leads w a.what refusal.NoStream (λ log by all. gone_so w log by a.what all c.requires.own (sym c.expired.ensures ∙ c.in_default.is)
+    (sym c.in-None.ensures.value))
 
 pub serve-requires-clause-token : goal.serve-requires-clause-token
 serve-requires-clause-token c = λ s is.

@@ -31,7 +31,9 @@ pub returns-then-holds_back-clause-answered : goal.returns-then-holds_back-claus
 returns-then-holds_back-clause-answered c log by shown =
     let v : StreamValue = c.args.self.now in
     let at = c.home-shard.ensures.value ∙ ap (λ (u : StreamValue). home_among (filter is_open u.tree) c.args.item.hash) c.self.view_is in
-    let held = held_is log v.clock v.no v.tree c.args.item v.enforced c.home-shard.result c.item_bytes-bytes.result (puts log v.no c.home-shard.result) shown.stored.shards_are shown.rates.enforced_is at c.item_bytes-bytes.ensures refl
+    let held =
+    held_is log v.clock v.no v.tree c.args.item v.enforced c.home-shard.result c.item_bytes-bytes.result
+    (puts log v.no c.home-shard.result) shown.stored.shards_are shown.rates.enforced_is at c.item_bytes-bytes.ensures refl
     ∙ sym (c.holds_back.ensures (puts log v.no) shown.rates.stand) ∙ c.if-holds_back.true in
     put_throttled v log by c.args.item shown c.home-shard.result at held
 
@@ -39,7 +41,9 @@ pub returns-then-seq-clause-answered : goal.returns-then-seq-clause-answered
 returns-then-seq-clause-answered c log by shown =
     let v : StreamValue = c.args.self.now in
     let at = c.home-shard.ensures.value ∙ ap (λ (u : StreamValue). home_among (filter is_open u.tree) c.args.item.hash) c.self.view_is in
-    let held = held_is log v.clock v.no v.tree c.args.item v.enforced c.home-shard.result c.item_bytes-bytes.result (puts log v.no c.home-shard.result) shown.stored.shards_are shown.rates.enforced_is at c.item_bytes-bytes.ensures refl
+    let held =
+    held_is log v.clock v.no v.tree c.args.item v.enforced c.home-shard.result c.item_bytes-bytes.result
+    (puts log v.no c.home-shard.result) shown.stored.shards_are shown.rates.enforced_is at c.item_bytes-bytes.ensures refl
     ∙ sym (c.holds_back.ensures (puts log v.no) shown.rates.stand) ∙ c.if-holds_back.false in
     put_spent v log by c.args.item shown held (sym (ap (λ (u : StreamValue). u.next) c.self.view_is) ∙ sym c.seq.view_is ∙ c.if-seq.true)
 
@@ -77,14 +81,18 @@ returns-clause-answered c log by shown =
     let many : length ws ≡ c.self.inside.windows.len = omega arith in
     let at = c.home-shard.ensures.value ∙ ap (λ (u : StreamValue). home_among (filter is_open u.tree) c.args.item.hash) c.self.view_is in
     let now : StreamValue = c.args.self.now in
-    let held_now = held_is log now.clock now.no now.tree c.args.item now.enforced sh c.item_bytes-bytes.result (puts log now.no sh) shown.stored.shards_are shown.rates.enforced_is at c.item_bytes-bytes.ensures refl
+    let held_now =
+    held_is log now.clock now.no now.tree c.args.item now.enforced sh c.item_bytes-bytes.result
+    (puts log now.no sh) shown.stored.shards_are shown.rates.enforced_is at c.item_bytes-bytes.ensures refl
     ∙ sym (c.holds_back.ensures (puts log now.no) shown.rates.stand) ∙ c.if-holds_back.false in
     let held : is_held_back log v.clock v.no c.args.item ≡ false = subst (λ (u : StreamValue). is_held_back log u.clock u.no c.args.item ≡ false) (sym c.self.view_is) held_now in
     let lent : StandFor (puts log v.no) 0 c.deref_mut-2.result.now = subst (StandFor (puts log v.no) 0) (sym c.deref_mut-2.ensures.value) shown'.rates.stand in
     let stand : StandFor (with_put sh (put_of v c.args.item) (puts log v.no)) 0 ws =
     subst (λ n. let p : SizedPut = record { clock = v.clock; bytes = n } in StandFor (with_put sh p (puts log v.no)) 0 ws) c.item_bytes-bytes.ensures
     (subst (λ i. let p : SizedPut = record { clock = v.clock; bytes = c.item_bytes-bytes.result } in StandFor (with_put i p (puts log v.no)) 0 ws) c.shard.view_is (c.count_at.ensures.stand (puts log v.no) lent)) in
-    let done = put_done v log by c.args.item shown'.stored sh next _ ws held (ap (λ n. n + 1) c.seq-2.view_is) more c.home-shard.ensures.value inside c.self.invariant.trims refl shown'.rates stand in
+    let done =
+    put_done v log by c.args.item shown'.stored sh next _ ws held
+    (ap (λ n. n + 1) c.seq-2.view_is) more c.home-shard.ensures.value inside c.self.invariant.trims refl shown'.rates stand in
     let after = with_lines (lines_of (put log v.clock by v.no c.args.item)) log in
     let settled = subst (λ (us : List WindowValue). Shows (with_logs v kept us next) after) (sym (written_back c.self.inside.windows.len ws c.self.inside.windows.items many))
     (subst (λ (ls : List LogValue). Shows (with_logs v ls ws next) after) (sym back) (shows_settled _ sh v.clock v.cut v.turn after done.1)) in

@@ -28,7 +28,10 @@ returns-then-is_spent-clause-answered c log by shown =
     let starts : c.as_slice.result.now ≡ starts_in v.tree = c.as_slice.ensures ∙ c.in_ok-starts.ensures.value ∙ ap (λ (u : StreamValue). starts_in u.tree) c.self.view_is in
     let are : steps ≡ scale (starts_in v.tree) c.args.target = c.as_slice-steps.ensures ∙ c.in_ok-steps.ensures.value ∙ ap (λ (ss : List ℕ). scale ss c.args.target) starts in
     let most : c.args.target ≤ c.args.room = omega arith in
-    let spent = sym (spent_so v.next c.first.inside.0 (length steps) c.len.result c.from-2.result v.tree steps (c.first.view_is ∙ ap (λ (u : StreamValue). u.next) c.self.view_is) refl (c.len.ensures.value ∙ ap (λ (u : StreamValue). length u.tree) c.self.view_is) (c.from-2.ensures ∙ c.made_by-made.ensures))
+    let spent =
+    sym (spent_so v.next c.first.inside.0 (length steps) c.len.result c.from-2.result v.tree steps
+    (c.first.view_is ∙ ap (λ (u : StreamValue). u.next) c.self.view_is) refl (c.len.ensures.value ∙ ap (λ (u : StreamValue). length u.tree) c.self.view_is)
+    (c.from-2.ensures ∙ c.made_by-made.ensures))
     ∙ sym c.is_spent.ensures ∙ c.if-is_spent.true in
     scale_spent v log by c.args.target shown (is_over c.args.target c.args.room) steps (is_not_less _ _ most) are spent
 

@@ -23,7 +23,8 @@ returns-in-Describe-clause-answered c =
 pub returns-in-Summary-clause-answered : goal.returns-in-Summary-clause-answered
 returns-in-Summary-clause-answered c =
     let v = c.args.self.now in
-    tells c.summary.result v c.args.room _ _ (λ log. summary log v.no) c.in-Summary.is refl (λ log by told. with_some _ _ _ v.no (told.named _ refl).1) c.summary.ensures
+    tells c.summary.result v c.args.room _ _ (λ log. summary log v.no) c.in-Summary.is refl
+    (λ log by told. with_some _ _ _ v.no (told.named _ refl).1) c.summary.ensures
 
 pub returns-in-Put-clause-answered : goal.returns-in-Put-clause-answered
 returns-in-Put-clause-answered c =
@@ -61,7 +62,8 @@ returns-in-Split-clause-answered c =
     let w = c.in-Split in
     serves c.split.result v c.split.new.self c.args.room _ _ (λ log by. split_where (is_full v c.args.room) log v.clock by v.no w.shard w.at) w.is
     (λ log by told.
-    with_some _ _ _ v.no (told.named _ refl).1 ∙ ap (λ f. split_where f log v.clock by v.no w.shard w.at) (sym (full_so _ _ _ _ told refl))) c.split.ensures.answered
+    with_some _ _ _ v.no (told.named _ refl).1
+    ∙ ap (λ f. split_where f log v.clock by v.no w.shard w.at) (sym (full_so _ _ _ _ told refl))) c.split.ensures.answered
 
 pub returns-in-Merge-clause-answered : goal.returns-in-Merge-clause-answered
 returns-in-Merge-clause-answered c =
