@@ -1,6 +1,5 @@
 -- The line that a command on leases gives, if it is accepted, and what a judge makes of it.
 use Rattle.std.proofs.Common.{◌≡◌, ℕ, ◌+◌, ◌-◌, ◌≤◌, ◌≢◌, length, true, false, List, [], ◌∷◌, Option, Some, None, refl, sym, ap, subst, ◌∙◌, arith}
-use Rattle.std.proofs.lemmas.Bool.Decides.{nat_tests}
 use Rattle.std.specs.Prelude.{◌==◌, ◌||◌, is_some, if◌then◌else◌, Result, Ok, Err}
 use Rattle.kds_base.specs.declared.lease_key.ShardRef.{ShardRef}
 use Rattle.kds_defs.specs.declared.command.Command.{Command}
@@ -157,20 +156,6 @@ module _ (old new : LeasesValue) (by : ℕ) (answer : Result Reply Refusal) (v :
   cut_entry key n leads = given_by (command.CutLease key n) (entry.LeaseCut key n) leads refl (λ ls. refl)
 
 -- ---- a making, whose origin is to be the one that counts
-
-pub origin_so : (a b : Origin) → same_origin a b ≡ true → a ≡ b
-origin_so origin.TrimHorizon origin.TrimHorizon h = refl
-origin_so origin.TrimHorizon origin.Latest h = absurd cc
-origin_so origin.TrimHorizon (origin.Time n) h = absurd cc
-origin_so origin.Latest origin.TrimHorizon h = absurd cc
-origin_so origin.Latest origin.Latest h = refl
-origin_so origin.Latest (origin.Time n) h = absurd cc
-origin_so (origin.Time m) origin.TrimHorizon h = absurd cc
-origin_so (origin.Time m) origin.Latest h = absurd cc
-origin_so (origin.Time m) (origin.Time n) h = ap origin.Time (num m n h)
-  where
-    num : (a b : ℕ) → (a == b) ≡ true → a ≡ b
-    num a b h = grind (arith, nat_tests)
 
 same_lease : (key : ShardRef) (a b : Origin) → same_entry (entry.LeaseMade key a) (entry.LeaseMade key b) ≡ same_origin a b
 same_lease key a b = rw (key_itself key) refl
