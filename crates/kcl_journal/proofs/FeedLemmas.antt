@@ -1,5 +1,5 @@
 -- No line of a journal has a line feed in it.
-use Rattle.std.proofs.Common.{◌≡◌, ℕ, ◌<◌, ◌^◌, List, [], ◌∷◌, ◌++◌, Bool, true, false, refl, arith, codes, decimal}
+use Rattle.std.proofs.Common.{◌≡◌, ℕ, ◌<◌, ◌^◌, List, [], ◌∷◌, ◌++◌, Bool, true, false, refl, arith, rules, codes, decimal}
 use Rattle.std.specs.Prelude.{◌==◌, not}
 use Rattle.std.specs.List.{AllByRecursion, list_all}
 use Rattle.kds_base.specs.declared.lease_key.ShardRef.{ShardRef}
@@ -16,7 +16,7 @@ use Rattle.kcl_script_fields.proofs.Forms.{decimal_lacks}
 use Rattle.kcl_script_fields.proofs.Parts.{kind_lacks, lacks-append}
 use Rattle.kcl_journal.specs.declared.line.EntryLine.{EntryLine}
 use Rattle.kcl_journal.specs.Entries.{end_spelling, ended_text, entry_spelling, entry_text, numbers_text, sizes_text_by, switch_text}
-use Rattle.kcl_journal.specs.Ranges.{AreSizesBy, Is64, IsEntryLine, IsTellable, is_first}
+use Rattle.kcl_journal.specs.Ranges.{AreSizesBy, Is64, IsEntryLine, IsTellable}
 use Rattle.kcl_journal.proofs.TextForms.{hash_without, name_without}
 
 abbrev not_feed : ℕ → Bool
@@ -64,34 +64,8 @@ batch [] v = tt
 batch (n ∷ ns) v = lacks-append 10 (32 ∷ decimal n) (numbers_text ns) (refl, number n v.0) (batch ns v.1)
 
 what_lacks : (v : ℕ) (e : Entry) → IsTellable v e → Lacks 10 (entry_text v e)
-what_lacks v (entry.Made s name count) t =
-    after (codes "made ") _ refl (spaced (decimal s) _ (number s t.0) (spaced name _ (name_without 10 name refl t.1.0) (number count (omega (arith, t.1.1.1)))))
 what_lacks v (entry.Gone s) t = after (codes "gone ") _ refl (number s t)
-what_lacks v (entry.Put s sh n hash bytes key_bytes) t =
-    after (codes "put ") _ refl (spaced (decimal s) _ (number s t.0) (spaced (decimal sh) _ (number sh t.1.0) (spaced (decimal n) _ (number n t.1.1.0)
-    (spaced (decimal hash) _ (hash_without 10 hash refl t.1.1.1.0) (sizes (is_first v) bytes key_bytes t.1.1.1.1)))))
-what_lacks v (entry.Split s sh at n low high) t =
-    after (codes "split ") _ refl (spaced (decimal s) _ (number s t.0) (spaced (decimal sh) _ (number sh t.1.0) (spaced (decimal at) _ (hash_without 10 at refl t.1.1.0)
-    (spaced (decimal n) _ (number n t.1.1.1.0) (spaced (decimal low) _ (number low t.1.1.1.1.0) (number high t.1.1.1.1.1))))))
-what_lacks v (entry.Merged s sh other n child) t =
-    after (codes "merged ") _ refl (spaced (decimal s) _ (number s t.0) (spaced (decimal sh) _ (number sh t.1.0) (spaced (decimal other) _ (number other t.1.1.0)
-    (spaced (decimal n) _ (number n t.1.1.1.0) (number child t.1.1.1.1)))))
-what_lacks v (entry.Kept s hours) t = after (codes "kept ") _ refl (spaced (decimal s) _ (number s t.0) (number hours (omega (arith, t.1.1))))
-what_lacks v (entry.Enforced s on) t = after (codes "enforced ") _ refl (spaced (decimal s) _ (number s t) (switch on))
-what_lacks v (entry.LeaseMade k from) t = after (codes "lease ") _ refl (lacks-append 10 (key_text k) (origin_text from) (key k t.0) (from_text from t.1))
-what_lacks v (entry.Taken k n counter owner) t =
-    after (codes "taken ") _ refl (spaced (key_text k) _ (key k t.0) (spaced (decimal n) _ (number n t.1.0) (spaced (decimal counter) _ (number counter t.1.1.0.1)
-    (refl, number owner (omega (arith, t.1.1.1.1))))))
-what_lacks v (entry.Renewed n counter) t = after (codes "renewed ") _ refl (spaced (decimal n) _ (number n t.0) (number counter t.1.1))
-what_lacks v (entry.Freed n counter) t = after (codes "freed ") _ refl (spaced (decimal n) _ (number n t.0) (number counter t.1.1))
-what_lacks v (entry.Opened n) t = after (codes "opened ") _ refl (number n t)
-what_lacks v (entry.Read n limit ended numbers) t =
-    after (codes "read ") _ refl (spaced (decimal n) _ (number n t.0) (spaced (decimal limit) _ (number limit (omega (arith, t.1.0.1)))
-    (lacks-append 10 (ended_text ended) (numbers_text numbers) (end_or_more ended) (batch numbers t.1.1))))
-what_lacks v (entry.Given n) t = after (codes "given ") _ refl (number n t)
-what_lacks v (entry.Marked n counter to) t =
-    after (codes "marked ") _ refl (spaced (decimal n) _ (number n t.0) (spaced (decimal counter) _ (number counter t.1.0.1) (target_lacks to t.1.1)))
-what_lacks v (entry.LeaseCut k counter) t = after (codes "cut ") _ refl (spaced (key_text k) _ (key k t.0) (number counter t.1))
+what_lacks v _ t = search (rules, spaced, number, key, sizes, switch, from_text, target_lacks, end_or_more, batch, name_without, hash_without, lacks-append)
 
 pub entry_lacks : (v : ℕ) (line : EntryLine) → IsEntryLine v line → Lacks 10 (entry_spelling v line)
 entry_lacks v line t =
