@@ -1,5 +1,5 @@
 -- The batch of a shard, by the records that a judge keeps.
-use Rattle.std.proofs.Common.{◌≡◌, ℕ, zero, suc, ◌-◌, ◌≤◌, Bool, true, false, List, [], ◌∷◌, map, slice_get, refl, sym, ap, ◌∙◌}
+use Rattle.std.proofs.Common.{◌≡◌, ℕ, zero, suc, ◌-◌, ◌≤◌, Bool, true, false, List, [], ◌∷◌, map, slice_get, refl, sym, ap, ◌∙◌, arith}
 use Rattle.std.specs.Prelude.{◌&&◌, cond, if◌then◌else◌, nat_le}
 use Rattle.kds_defs.specs.declared.limits.TheConstants.{BATCH_BYTES}
 use Rattle.kds_defs.specs.Journal.{Journal}
@@ -19,21 +19,12 @@ use Rattle.kcl_audit_streams.specs.Standing.{IsStream, StreamValue, bare, floor_
 
 left_bare : (f p : ℕ) (rs : List Logged) → map bare (left_among f p rs) ≡ left_among f p (map bare rs)
 left_bare f p [] = refl
-left_bare f p (r ∷ rs) = by (is_left f p r) (left_bare f p rs)
-  where
-    by : (b : Bool) → map bare (left_among f p rs) ≡ left_among f p (map bare rs) → map bare (cond b (r ∷ left_among f p rs) (left_among f p rs)) ≡ cond b (bare r ∷ left_among f p (map bare rs)) (left_among f p (map bare rs))
-    by true h = ap (λ xs. bare r ∷ xs) h
-    by false h = h
+left_bare f p (r ∷ rs) = grind (arith, left_bare f p rs)
 
 begin_bare : (n room : ℕ) (rs : List Logged) → map bare (beginning n room rs) ≡ beginning n room (map bare rs)
 begin_bare zero room rs = refl
 begin_bare (suc n) room [] = refl
-begin_bare (suc n) room (r ∷ rs) = by (nat_le r.bytes room) (begin_bare n (room - r.bytes) rs)
-  where
-    by : (b : Bool) → map bare (beginning n (room - r.bytes) rs) ≡ beginning n (room - r.bytes) (map bare rs)
-        → map bare (if b then r ∷ beginning n (room - r.bytes) rs else []) ≡ (if b then bare r ∷ beginning n (room - r.bytes) (map bare rs) else [])
-    by true h = ap (λ xs. bare r ∷ xs) h
-    by false h = refl
+begin_bare (suc n) room (r ∷ rs) = grind (arith, begin_bare n (room - r.bytes) rs)
 
 numbers_bare : (rs : List Logged) → numbers_of (map bare rs) ≡ numbers_of rs
 numbers_bare [] = refl

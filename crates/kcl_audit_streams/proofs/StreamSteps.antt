@@ -50,16 +50,7 @@ in_last : (sh : ℕ) (rs : List Sized) (r : Sized) (b : Bool) → is_in sh r ≡
     → records_in (rs ++ r ∷ []) sh ≡ (if b then records_in rs sh ++ logged r ∷ [] else records_in rs sh)
 in_last sh [] r true h = rw h refl
 in_last sh [] r false h = rw h refl
-in_last sh (x ∷ rs) r b h = by (is_in sh x) b (in_last sh rs r b h)
-  where
-    by : (c d : Bool) → records_in (rs ++ r ∷ []) sh ≡ (if d then records_in rs sh ++ logged r ∷ [] else records_in rs sh)
-        → map logged (cond c (x ∷ filter (is_in sh) (rs ++ r ∷ [])) (filter (is_in sh) (rs ++ r ∷ [])))
-        ≡
-        (if d then map logged (cond c (x ∷ filter (is_in sh) rs) (filter (is_in sh) rs)) ++ logged r ∷ []
-        else map logged (cond c (x ∷ filter (is_in sh) rs) (filter (is_in sh) rs)))
-    by true true e = ap (λ xs. logged x ∷ xs) e
-    by true false e = ap (λ xs. logged x ∷ xs) e
-    by false d e = e
+in_last sh (x ∷ rs) r b h = grind (arith, in_last sh rs r b h)
 
 record_more : (q : ℕ) (before : List Logged) (x : Logged) (rs : List Sized) (r : Sized) → bare x ≡ logged r → map bare before ≡ records_in rs q
     → map bare (if is_in q r then before ++ x ∷ [] else before) ≡ records_in (rs ++ r ∷ []) q

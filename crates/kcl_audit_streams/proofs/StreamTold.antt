@@ -64,9 +64,7 @@ length-blank zero = refl
 length-blank (suc n) = ap suc (length-blank n)
 
 both_and : (a b : Bool) → (a && (b && (true && (true && true)))) ≡ (a && b)
-both_and true true = refl
-both_and true false = refl
-both_and false b = refl
+both_and a b = grind arith
 
 same_put : (s h sh n m hash bytes key_bytes : ℕ) → same_entry (entry.Put s h n hash bytes key_bytes) (entry.Put s sh m hash bytes key_bytes) ≡ ((h == sh) && (n == m))
 same_put s h sh n m hash bytes key_bytes = rw (is_itself s, is_itself hash, is_itself bytes, is_itself key_bytes) (both_and (h == sh) (n == m))
@@ -145,16 +143,7 @@ split_cases : (o : Option ShardState) (listed full : Bool) (sh at len next : ℕ
     ≡ (if not listed then refused refusal.NoShard else refused_by (split_refusal xs sh at) (if full then refused refusal.Full else if nat_lt last_number (len + 1) || next == last_number then refused refusal.Spent else agrees same))
 split_cases o false full sh at len next xs same is made = refl
 split_cases None true full sh at len next xs same is made = absurd (cc (made refl))
-split_cases (Some x) true full sh at len next xs same is made = rw is (by (is_open x) (is_inside x.range at))
-  where
-    rest : Verdict
-    rest = if full then refused refusal.Full else if nat_lt last_number (len + 1) || next == last_number then refused refusal.Spent else agrees same
-
-    by : (a b : Bool) → (if not a then refused refusal.ShardClosed else if not b then refused refusal.BadSplit else rest)
-        ≡ refused_by (if not a then Some refusal.ShardClosed else if not b then Some refusal.BadSplit else None) rest
-    by false b = refl
-    by true false = refl
-    by true true = refl
+split_cases (Some x) true full sh at len next xs same is made = rw is (grind arith)
 
 same_split : (s sh at n m a low high : ℕ) → same_entry (entry.Split s sh at n a (a + 1)) (entry.Split s sh at m low high) ≡ ((m == n) && ((low == a) && (high == a + 1)))
 same_split s sh at n m a low high = rw (is_itself s, is_itself sh, is_itself at, swapped n m, swapped a low, swapped (a + 1) high) refl
@@ -196,16 +185,7 @@ merge_cases o p false b sh other len next xs same is also made there = refl
 merge_cases o p true false sh other len next xs same is also made there = refl
 merge_cases None p true true sh other len next xs same is also made there = absurd (cc (made refl))
 merge_cases (Some x) None true true sh other len next xs same is also made there = absurd (cc (there refl))
-merge_cases (Some x) (Some y) true true sh other len next xs same is also made there = rw (is, also) (by (is_open x && is_open y) (are_adjacent x.range y.range))
-  where
-    rest : Verdict
-    rest = if nat_lt last_number len || next == last_number then refused refusal.Spent else agrees same
-
-    by : (a b : Bool) → (if not a then refused refusal.ShardClosed else if not b then refused refusal.NotAdjacent else rest)
-        ≡ refused_by (if not a then Some refusal.ShardClosed else if not b then Some refusal.NotAdjacent else None) rest
-    by false b = refl
-    by true false = refl
-    by true true = refl
+merge_cases (Some x) (Some y) true true sh other len next xs same is also made there = rw (is, also) (grind arith)
 
 merge_told : (log : Journal) (clock by s sh other m child : ℕ) (v : StreamValue) → IsStream log s v → last_clock log ≤ clock
     → judged (merge log clock by s sh other) (entry.Merged s sh other m child) ≡ merge_verdict v clock sh other m child
