@@ -20,9 +20,7 @@ left_in sh floor position xs = left_among floor position (records_in xs sh)
 -- one record more
 left_by : (sh floor position : ℕ) (x : Sized) (xs : List Sized) (a b : Bool) → is_in sh x ≡ a → is_left floor position (logged x) ≡ b
     → left_in sh floor position (x ∷ xs) ≡ cond (a && b) (logged x ∷ left_in sh floor position xs) (left_in sh floor position xs)
-left_by sh floor position x xs true true e f = rw (e, f) refl
-left_by sh floor position x xs true false e f = rw (e, f) refl
-left_by sh floor position x xs false b e f = rw e refl
+left_by sh floor position x xs a b e f = grind (arith, e, f)
 
 -- what is left of the records from a place on
 abbrev pub ahead : ℕ → ℕ → ℕ → List Sized → ℕ → List Logged
@@ -88,11 +86,7 @@ below top rs = AllByRecursion (λ (r : Logged). r.seq < top) rs
 
 below_in : (top sh : ℕ) (rs : List Sized) → AreBelow top rs → below top (records_in rs sh)
 below_in top sh [] h = tt
-below_in top sh (r ∷ rs) h = by (is_in sh r) (below_in top sh rs h.1)
-  where
-    by : (b : Bool) → below top (records_in rs sh) → below top (map logged (cond b (r ∷ filter (is_in sh) rs) (filter (is_in sh) rs)))
-    by true rest = (h.0, rest)
-    by false rest = rest
+below_in top sh (r ∷ rs) h = grind (arith, below_in top sh rs h.1)
 
 pub below_left : (top floor position : ℕ) (rs : List Logged) → below top rs → below top (left_among floor position rs)
 below_left top floor position rs h = all_filter (λ (r : Logged). r.seq < top) (is_left floor position) rs h
@@ -100,11 +94,7 @@ below_left top floor position rs h = all_filter (λ (r : Logged). r.seq < top) (
 pub below_beginning : (top limit room : ℕ) (rs : List Logged) → below top rs → below top (beginning limit room rs)
 below_beginning top zero room rs h = tt
 below_beginning top (suc limit) room [] h = tt
-below_beginning top (suc limit) room (r ∷ rs) h = by (nat_le r.bytes room) (below_beginning top limit (room - r.bytes) rs h.1)
-  where
-    by : (b : Bool) → below top (beginning limit (room - r.bytes) rs) → below top (if b then r ∷ beginning limit (room - r.bytes) rs else [])
-    by true rest = (h.0, rest)
-    by false rest = tt
+below_beginning top (suc limit) room (r ∷ rs) h = grind (arith, below_beginning top limit (room - r.bytes) rs h.1)
 
 below_numbers : (top : ℕ) (rs : List Logged) → below top rs → AllByRecursion (λ n. n < top) (numbers_of rs)
 below_numbers top [] h = tt

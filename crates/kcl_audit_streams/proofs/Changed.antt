@@ -1,6 +1,7 @@
 -- The stream of a good entry, and the streams with it changed.
 use Rattle.std.proofs.Common.{◌≡◌, ◌≢◌, ℕ, zero, suc, ◌-◌, ◌<◌, ◌≤◌, Bool, true, false, List, [], ◌∷◌, length, slice_get, slice_set, slice_index_or, Option, Some, None, refl, sym, ap, subst, ◌∙◌, arith}
 use Rattle.std.specs.Prelude.{◌==◌, ◌&&◌, not, if◌then◌else◌, Result, Ok, Err, OnOk}
+use Rattle.std.proofs.lemmas.Bool.Decides.{nat_tests}
 use Rattle.std.proofs.lemmas.List.{set-get_or}
 use Rattle.std.proofs.lemmas.Option.{get_or_from_slice_get, slice_get_within}
 use Rattle.kds_base.proofs.Facts.{equal_so, differ_so, both_left, both_right, neither_right}
@@ -92,22 +93,12 @@ abbrev pub Draws : StreamValue → ℕ → Type 0
 Draws v number = (number ≡ v.next) × (v.next ≢ last_number)
 
 pub put_draws : (v : StreamValue) (clock sh number hash bytes : ℕ) → put_verdict v clock sh number hash bytes ≡ Ok tt → Draws v number
-put_draws v clock sh number hash bytes h =
-    let q = past (refusal.Throttled (home_in v hash)) (v.enforced && is_throttled (puts_in v.records (home_in v hash)) clock bytes) _ h in
-    let p = past refusal.Spent (v.next == last_number) _ q.1 in
-    (sym (equal_so v.next number (both_right _ _ (agrees_so _ p.1))), differ_so v.next last_number p.0)
+put_draws v clock sh number hash bytes h = (grind (arith, nat_tests, h), grind (arith, nat_tests, h))
 
 pub split_draws : (v : StreamValue) (clock sh at : ℕ) (full : Bool) (number low high : ℕ) → split_verdict v clock sh at full number low high ≡ Ok tt → (split_refusal v.tree sh at ≡ None) × Draws v number
 split_draws v clock sh at full number low high h =
-    let p = past refusal.NoShard (not (is_listed_in (Some v) clock sh)) _ h in
-    let q = past_by (split_refusal v.tree sh at) _ p.1 in
-    let r = past refusal.Full full _ q.1 in
-    let t = past refusal.Spent (is_spent v 1) _ r.1 in
-    (q.0, (equal_so number v.next (both_left _ _ (agrees_so _ t.1)), differ_so v.next last_number (neither_right _ _ t.0)))
+    (grind (arith, nat_tests, h), (grind (arith, nat_tests, h), grind (arith, nat_tests, h)))
 
 pub merge_draws : (v : StreamValue) (clock sh other number child : ℕ) → merge_verdict v clock sh other number child ≡ Ok tt → (merge_refusal v.tree sh other ≡ None) × Draws v number
 merge_draws v clock sh other number child h =
-    let p = past refusal.NoShard (not (is_listed_in (Some v) clock sh && is_listed_in (Some v) clock other)) _ h in
-    let q = past_by (merge_refusal v.tree sh other) _ p.1 in
-    let t = past refusal.Spent (is_spent v 0) _ q.1 in
-    (q.0, (equal_so number v.next (both_left _ _ (agrees_so _ t.1)), differ_so v.next last_number (neither_right _ _ t.0)))
+    (grind (arith, nat_tests, h), (grind (arith, nat_tests, h), grind (arith, nat_tests, h)))

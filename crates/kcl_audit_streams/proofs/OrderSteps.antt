@@ -48,8 +48,7 @@ below_not_left floor position r h = grind (arith, nat_tests)
 
 -- a record below the position isn't left
 past_one : (sh floor position : ℕ) (x : Sized) (xs : List Sized) (b : Bool) → is_in sh x ≡ b → x.seq < position → left_in sh floor position (x ∷ xs) ≡ left_in sh floor position xs
-past_one sh floor position x xs true e lt = rw (e, below_not_left floor position x lt) refl
-past_one sh floor position x xs false e lt = rw e refl
+past_one sh floor position x xs b e lt = grind (arith, nat_tests, e)
 
 -- where those of so many are below the position, those behind them are all that are left
 pub left_behind : (sh floor position : ℕ) (xs : List Sized) (i : ℕ) → ((k : ℕ) (d : Sized) → k < i → k < length xs → (get_or xs k d).seq < position)

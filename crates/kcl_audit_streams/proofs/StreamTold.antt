@@ -106,10 +106,8 @@ kept_told log clock by s wanted =
 -- ---- listed shards
 
 listed_state : (log : Journal) (c s f : ℕ) (o : Option ShardState) (live : Bool) → is_live log s ≡ live → trim_floor log c s ≡ f → is_listed_state log c s o ≡ (live && is_listed_of f o)
-listed_state log c s f None true live is = refl
-listed_state log c s f None false live is = refl
-listed_state log c s f (Some x) true live is = rw (live, is) refl
-listed_state log c s f (Some x) false live is = rw live refl
+listed_state log c s f None _ live is = grind (arith, live)
+listed_state log c s f (Some x) _ live is = grind (arith, live, is)
 
 pub listed_is : (log : Journal) (c s sh : ℕ) (v : StreamValue) → IsStream log s v → last_clock log ≤ c → is_listed log c s sh ≡ is_listed_in (Some v) c sh
 listed_is log c s sh v st order =
@@ -119,9 +117,8 @@ listed_is log c s sh v st order =
 
 -- a listed shard was made
 listed_made : (live : Bool) (f : ℕ) (o : Option ShardState) → (live && is_listed_of f o) ≡ true → is_some o ≡ true
-listed_made true f None h = absurd cc
-listed_made false f None h = absurd cc
 listed_made live f (Some x) h = refl
+listed_made live f None h = grind (arith, h)
 
 -- ---- a split and a merge
 
