@@ -67,8 +67,7 @@ abbrev meets : Bool → Verdict
 meets b = if b then Ok tt else Err rule.Entry
 
 by_test : (b : Bool) → meets b ≡ Ok tt → b ≡ true
-by_test true h = refl
-by_test false h = absurd cc
+by_test b h = grind arith
 
 by_lines : (c by : ℕ) (what : Entry) (lines : List Line) (reply : Reply) → AllByRecursion (λ (l : Line). l ≡ entry_line c by l.what) lines → gives lines what ≡ true → Accepted lines reply ≡ Accepted (entry_line c by what ∷ []) reply
 by_lines c by what [] reply h is = absurd cc

@@ -1,5 +1,5 @@
 -- The live streams of a journal, by the list that a judge keeps.
-use Rattle.std.proofs.Common.{◌≡◌, ℕ, ◌+◌, Bool, true, false, List, [], ◌∷◌, length, Some, None, refl, sym, ap, ◌∙◌, arith}
+use Rattle.std.proofs.Common.{◌≡◌, ℕ, ◌+◌, Bool, true, List, [], ◌∷◌, length, Some, None, refl, sym, ap, ◌∙◌, arith}
 use Rattle.std.specs.Prelude.{◌&&◌, ◌||◌, ◌==◌, cond, is_some, nat_le, nat_lt, if◌then◌else◌}
 use Rattle.std.specs.List.{filter, find}
 use Rattle.std.proofs.lemmas.Bool.Decides.{nat_tests}
@@ -10,7 +10,7 @@ use Rattle.kds_defs.specs.declared.reply.Refusal.TheVariants as refusal
 use Rattle.kcl_laws.specs.ShownLines.{entry_line}
 use Rattle.kds_defs.specs.Journal.{Journal}
 use Rattle.kds_defs.specs.Legal.{told}
-use Rattle.kds_defs.specs.Shards.{ShardState, is_open, open_count, open_in as open_of}
+use Rattle.kds_defs.specs.Shards.{is_open, open_count, open_in as open_of}
 use Rattle.kds_defs.specs.StreamCommands.{last_number}
 use Rattle.kds_defs.specs.Streams.{is_live, live_streams, made_count, name_of, numbers_from, same_name, stream_named}
 use Rattle.kcl_audit_streams.specs.Judging.{agrees, is_named, lacks_room, live_count, made_verdict, open_in, refused, refused_by}
@@ -25,11 +25,7 @@ live_from log n count = filter (is_live log) (numbers_from n count)
 
 open_one : (log : Journal) (n : ℕ) (v : StreamValue) (rest : List ℕ) (more : ℕ) (b : Bool) → IsStream log n v → v.live ≡ b → open_of log rest ≡ more
     → open_of log (cond b (n ∷ rest) rest) ≡ (if b then length (filter is_open v.tree) else 0) + more
-open_one log n v rest more true st live h = ap (λ (xs : List ShardState). length (filter is_open xs) + open_of log rest) st.shards_are ∙ ap (λ m. length (filter is_open v.tree) + m) h
-open_one log n v rest more false st live h = h ∙ sym (zero_more more)
-  where
-    zero_more : (m : ℕ) → 0 + m ≡ m
-    zero_more m = omega arith
+open_one log n v rest more b st live h = grind (arith, st.shards_are, h)
 
 open_from : (log : Journal) (n : ℕ) (vs : List StreamValue) → AreStreams log n vs → open_of log (live_from log n (length vs)) ≡ open_in vs
 open_from log n [] h = refl
@@ -38,8 +34,7 @@ open_from log n (v ∷ vs) h =
     ∙ open_one log n v (live_from log (n + 1) (length vs)) (open_in vs) v.live h.0 refl (open_from log (n + 1) vs h.1)
 
 count_one : (n : ℕ) (rest : List ℕ) (more : ℕ) (b : Bool) → length rest ≡ more → length (cond b (n ∷ rest) rest) ≡ (if b then 1 else 0) + more
-count_one n rest more true h = omega (arith, h)
-count_one n rest more false h = omega (arith, h)
+count_one n rest more b h = grind (arith, h)
 
 count_from : (log : Journal) (n : ℕ) (vs : List StreamValue) → AreStreams log n vs → length (live_from log n (length vs)) ≡ live_count vs
 count_from log n [] h = refl
@@ -51,16 +46,11 @@ abbrev named_in : Journal → List ℕ → List ℕ → Bool
 named_in log name ss = is_some (find (λ s. same_name (name_of log s) name) ss)
 
 named_cons : (log : Journal) (name : List ℕ) (n : ℕ) (rest : List ℕ) (b : Bool) → same_name (name_of log n) name ≡ b → named_in log name (n ∷ rest) ≡ (b || named_in log name rest)
-named_cons log name n rest true is = rw is refl
-named_cons log name n rest false is = rw is refl
+named_cons log name n rest b is = grind (arith, is)
 
 named_one : (log : Journal) (name : List ℕ) (n : ℕ) (v : StreamValue) (rest : List ℕ) (more b : Bool) → IsStream log n v → v.live ≡ b → named_in log name rest ≡ more
     → named_in log name (cond b (n ∷ rest) rest) ≡ ((b && same_name v.name name) || more)
-named_one log name n v rest more true st live h =
-    named_cons log name n rest (same_name (name_of log n) name) refl
-    ∙ ap (λ (m : List ℕ). same_name m name || named_in log name rest) st.named
-    ∙ ap (λ (c : Bool). same_name v.name name || c) h
-named_one log name n v rest more false st live h = h
+named_one log name n v rest more b st live h = grind (arith, st.named, h, named_cons log name n rest)
 
 named_from : (log : Journal) (name : List ℕ) (n : ℕ) (vs : List StreamValue) → AreStreams log n vs → named_in log name (live_from log n (length vs)) ≡ is_named vs name
 named_from log name n [] h = refl
@@ -90,14 +80,10 @@ module _ (log : Journal) (vs : List StreamValue) (sh : ShowsAll vs log) where
   tests named full spent same = if named then refused refusal.StreamThere else if full then refused refusal.Full else if spent then refused refusal.Spent else agrees same
 
   in_order : (named full spent same : Bool) → tests named full spent same ≡ refused_by (if named then Some refusal.StreamThere else if full then Some refusal.Full else if spent then Some refusal.Spent else None) (agrees same)
-  in_order true full spent same = refl
-  in_order false true spent same = refl
-  in_order false false true same = refl
-  in_order false false false same = refl
+  in_order named full spent same = grind arith
 
   and_end : (b : Bool) → (b && (true && true)) ≡ b
-  and_end true = refl
-  and_end false = refl
+  and_end b = grind arith
 
   same_made : (n s count : ℕ) (name : List ℕ) → same_entry (entry.Made n name count) (entry.Made s name count) ≡ (s == n)
   same_made n s count name = rw (list name, is_itself count) (and_end (n == s)) ∙ swapped n s
