@@ -23,40 +23,20 @@ use Rattle.kcl_audit_streams.proofs.StreamTold.{swapped, then_refuse}
 abbrev live_from : Journal → ℕ → ℕ → List ℕ
 live_from log n count = filter (is_live log) (numbers_from n count)
 
-open_one : (log : Journal) (n : ℕ) (v : StreamValue) (rest : List ℕ) (more : ℕ) (b : Bool) → IsStream log n v → v.live ≡ b → open_of log rest ≡ more
-    → open_of log (cond b (n ∷ rest) rest) ≡ (if b then length (filter is_open v.tree) else 0) + more
-open_one log n v rest more b st live h = grind (arith, st.shards_are, h)
-
 open_from : (log : Journal) (n : ℕ) (vs : List StreamValue) → AreStreams log n vs → open_of log (live_from log n (length vs)) ≡ open_in vs
 open_from log n [] h = refl
-open_from log n (v ∷ vs) h =
-    ap (λ (b : Bool). open_of log (cond b (n ∷ live_from log (n + 1) (length vs)) (live_from log (n + 1) (length vs)))) h.0.lives
-    ∙ open_one log n v (live_from log (n + 1) (length vs)) (open_in vs) v.live h.0 refl (open_from log (n + 1) vs h.1)
-
-count_one : (n : ℕ) (rest : List ℕ) (more : ℕ) (b : Bool) → length rest ≡ more → length (cond b (n ∷ rest) rest) ≡ (if b then 1 else 0) + more
-count_one n rest more b h = grind (arith, h)
+open_from log n (v ∷ vs) h = grind (arith, h.0.lives, h.0.shards_are, open_from log (n + 1) vs h.1)
 
 count_from : (log : Journal) (n : ℕ) (vs : List StreamValue) → AreStreams log n vs → length (live_from log n (length vs)) ≡ live_count vs
 count_from log n [] h = refl
-count_from log n (v ∷ vs) h =
-    ap (λ (b : Bool). length (cond b (n ∷ live_from log (n + 1) (length vs)) (live_from log (n + 1) (length vs)))) h.0.lives
-    ∙ count_one n (live_from log (n + 1) (length vs)) (live_count vs) v.live (count_from log (n + 1) vs h.1)
+count_from log n (v ∷ vs) h = grind (arith, h.0.lives, count_from log (n + 1) vs h.1)
 
 abbrev named_in : Journal → List ℕ → List ℕ → Bool
 named_in log name ss = is_some (find (λ s. same_name (name_of log s) name) ss)
 
-named_cons : (log : Journal) (name : List ℕ) (n : ℕ) (rest : List ℕ) (b : Bool) → same_name (name_of log n) name ≡ b → named_in log name (n ∷ rest) ≡ (b || named_in log name rest)
-named_cons log name n rest b is = grind (arith, is)
-
-named_one : (log : Journal) (name : List ℕ) (n : ℕ) (v : StreamValue) (rest : List ℕ) (more b : Bool) → IsStream log n v → v.live ≡ b → named_in log name rest ≡ more
-    → named_in log name (cond b (n ∷ rest) rest) ≡ ((b && same_name v.name name) || more)
-named_one log name n v rest more b st live h = grind (arith, st.named, h, named_cons log name n rest)
-
 named_from : (log : Journal) (name : List ℕ) (n : ℕ) (vs : List StreamValue) → AreStreams log n vs → named_in log name (live_from log n (length vs)) ≡ is_named vs name
 named_from log name n [] h = refl
-named_from log name n (v ∷ vs) h =
-    ap (λ (b : Bool). named_in log name (cond b (n ∷ live_from log (n + 1) (length vs)) (live_from log (n + 1) (length vs)))) h.0.lives
-    ∙ named_one log name n v (live_from log (n + 1) (length vs)) (is_named vs name) v.live h.0 refl (named_from log name (n + 1) vs h.1)
+named_from log name n (v ∷ vs) h = grind (arith, h.0.lives, h.0.named, named_from log name (n + 1) vs h.1)
 
 module _ (log : Journal) (vs : List StreamValue) (sh : ShowsAll vs log) where
   pub open_are : open_count log ≡ open_in vs
