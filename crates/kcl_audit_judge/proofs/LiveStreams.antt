@@ -71,9 +71,4 @@ module _ (log : Journal) (vs : List StreamValue) (sh : ShowsAll vs log) where
   pub made_told : (clock by s count : ℕ) (name : List ℕ) → judged (told log (entry_line clock by (entry.Made s name count)) (entry.Made s name count)) (entry.Made s name count) ≡ made_verdict vs s name count
   made_told clock by s count name =
       then_refuse _ _ _ _ _ (then_refuse _ _ _ _ _ (then_refuse _ _ _ _ _ refl))
-      ∙ ap (λ (b : Bool). tests b (nat_le LIVE_STREAMS (length (live_streams log)) || nat_lt OPEN_SHARDS (open_count log + count)) (made_count log == last_number) (same_entry (entry.Made (made_count log + 1) name count) (entry.Made s name count))) (named_are name)
-      ∙ ap (λ (n : ℕ). tests (is_named vs name) (nat_le LIVE_STREAMS n || nat_lt OPEN_SHARDS (open_count log + count)) (made_count log == last_number) (same_entry (entry.Made (made_count log + 1) name count) (entry.Made s name count))) lives_are
-      ∙ ap (λ (n : ℕ). tests (is_named vs name) (nat_le LIVE_STREAMS (live_count vs) || nat_lt OPEN_SHARDS (n + count)) (made_count log == last_number) (same_entry (entry.Made (made_count log + 1) name count) (entry.Made s name count))) open_are
-      ∙ ap (λ (n : ℕ). tests (is_named vs name) (nat_le LIVE_STREAMS (live_count vs) || nat_lt OPEN_SHARDS (open_in vs + count)) (n == last_number) (same_entry (entry.Made (n + 1) name count) (entry.Made s name count))) sh.made
-      ∙ ap (tests (is_named vs name) (nat_le LIVE_STREAMS (live_count vs) || nat_lt OPEN_SHARDS (open_in vs + count)) (length vs == last_number)) (same_made (length vs + 1) s count name)
-      ∙ in_order (is_named vs name) (nat_le LIVE_STREAMS (live_count vs) || nat_lt OPEN_SHARDS (open_in vs + count)) (length vs == last_number) (s == length vs + 1)
+      ∙ rw (named_are name, lives_are, open_are, sh.made, same_made (length vs + 1) s count name) (in_order _ _ _ _)
