@@ -1,21 +1,19 @@
 -- The live streams of a journal, by the list that a judge keeps.
-use Rattle.std.proofs.Common.{◌≡◌, ℕ, ◌+◌, Bool, true, List, [], ◌∷◌, length, Some, None, refl, sym, ap, ◌∙◌, arith}
-use Rattle.std.specs.Prelude.{◌&&◌, ◌||◌, ◌==◌, cond, is_some, nat_le, nat_lt, if◌then◌else◌}
+use Rattle.std.proofs.Common.{◌≡◌, ℕ, ◌+◌, Bool, List, [], ◌∷◌, length, refl, sym, ap, ◌∙◌, arith}
+use Rattle.std.specs.Prelude.{◌==◌, is_some, nat_le, nat_lt}
 use Rattle.std.specs.List.{filter, find}
 use Rattle.std.proofs.lemmas.Bool.Decides.{nat_tests}
 use Rattle.kds_base.proofs.Facts.{is_itself}
 use Rattle.kds_defs.specs.declared.entry.Entry.TheVariants as entry
-use Rattle.kds_defs.specs.declared.limits.TheConstants.{LIVE_STREAMS, OPEN_SHARDS}
-use Rattle.kds_defs.specs.declared.reply.Refusal.TheVariants as refusal
+use Rattle.kds_defs.specs.declared.limits.TheConstants.{OPEN_SHARDS}
 use Rattle.kcl_laws.specs.ShownLines.{entry_line}
 use Rattle.kds_defs.specs.Journal.{Journal}
 use Rattle.kds_defs.specs.Legal.{told}
-use Rattle.kds_defs.specs.Shards.{is_open, open_count, open_in as open_of}
-use Rattle.kds_defs.specs.StreamCommands.{last_number}
-use Rattle.kds_defs.specs.Streams.{is_live, live_streams, made_count, name_of, numbers_from, same_name, stream_named}
-use Rattle.kcl_audit_streams.specs.Judging.{agrees, is_named, lacks_room, live_count, made_verdict, open_in, refused, refused_by}
-use Rattle.kcl_audit_streams.specs.Standing.{AreStreams, IsStream, ShowsAll, StreamValue}
-use Rattle.kcl_audit_streams.specs.Verdict.{Verdict, judged, same_entry}
+use Rattle.kds_defs.specs.Shards.{open_count, open_in as open_of}
+use Rattle.kds_defs.specs.Streams.{is_live, live_streams, name_of, numbers_from, same_name, stream_named}
+use Rattle.kcl_audit_streams.specs.Judging.{is_named, lacks_room, live_count, made_verdict, open_in}
+use Rattle.kcl_audit_streams.specs.Standing.{AreStreams, ShowsAll, StreamValue}
+use Rattle.kcl_audit_streams.specs.Verdict.{judged, same_entry}
 use Rattle.kcl_audit_streams.proofs.SameEntries.{list}
 use Rattle.kcl_audit_streams.proofs.StreamTold.{swapped, then_refuse}
 
@@ -56,19 +54,10 @@ module _ (log : Journal) (vs : List StreamValue) (sh : ShowsAll vs log) where
       above n = grind (arith, nat_tests)
 
   -- the making of a stream
-  abbrev tests : Bool → Bool → Bool → Bool → Verdict
-  tests named full spent same = if named then refused refusal.StreamThere else if full then refused refusal.Full else if spent then refused refusal.Spent else agrees same
-
-  in_order : (named full spent same : Bool) → tests named full spent same ≡ refused_by (if named then Some refusal.StreamThere else if full then Some refusal.Full else if spent then Some refusal.Spent else None) (agrees same)
-  in_order named full spent same = grind arith
-
-  and_end : (b : Bool) → (b && (true && true)) ≡ b
-  and_end b = grind arith
-
   same_made : (n s count : ℕ) (name : List ℕ) → same_entry (entry.Made n name count) (entry.Made s name count) ≡ (s == n)
-  same_made n s count name = rw (list name, is_itself count) (and_end (n == s)) ∙ swapped n s
+  same_made n s count name = rw (list name, is_itself count, swapped n s) (grind arith)
 
   pub made_told : (clock by s count : ℕ) (name : List ℕ) → judged (told log (entry_line clock by (entry.Made s name count)) (entry.Made s name count)) (entry.Made s name count) ≡ made_verdict vs s name count
   made_told clock by s count name =
       then_refuse _ _ _ _ _ (then_refuse _ _ _ _ _ (then_refuse _ _ _ _ _ refl))
-      ∙ rw (named_are name, lives_are, open_are, sh.made, same_made (length vs + 1) s count name) (in_order _ _ _ _)
+      ∙ rw (named_are name, lives_are, open_are, sh.made, same_made (length vs + 1) s count name) (grind arith)

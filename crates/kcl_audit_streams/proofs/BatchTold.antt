@@ -1,6 +1,6 @@
 -- The batch of a shard, by the records that a judge keeps.
-use Rattle.std.proofs.Common.{◌≡◌, ℕ, zero, suc, ◌-◌, ◌≤◌, Bool, true, false, List, [], ◌∷◌, map, slice_get, refl, sym, ap, ◌∙◌, arith}
-use Rattle.std.specs.Prelude.{◌&&◌, cond, if◌then◌else◌, nat_le}
+use Rattle.std.proofs.Common.{◌≡◌, ℕ, zero, suc, ◌-◌, ◌≤◌, Bool, true, List, [], ◌∷◌, map, slice_get, refl, sym, ap, ◌∙◌, arith}
+use Rattle.std.specs.Prelude.{◌&&◌, if◌then◌else◌, nat_le}
 use Rattle.kds_defs.specs.declared.limits.TheConstants.{BATCH_BYTES}
 use Rattle.kds_defs.specs.Journal.{Journal}
 use Rattle.kds_defs.specs.Legal.{last_clock}
@@ -9,7 +9,7 @@ use Rattle.kds_base.specs.declared.lease_key.ShardRef.{ShardRef}
 use Rattle.kds_defs.specs.declared.command.Origin.{Origin}
 use Rattle.kds_defs.specs.declared.command.Origin.TheVariants as origin
 use Rattle.kds_defs.specs.Origins.{origin_position}
-use Rattle.kds_defs.specs.Records.{Logged, batch, beginning, first_at, is_left, left_among, left_from, next_number, numbers_of, records}
+use Rattle.kds_defs.specs.Records.{Logged, batch, beginning, first_at, left_among, left_from, next_number, numbers_of, records}
 use Rattle.kds_defs.specs.Shards.{ShardState, shards}
 use Rattle.kds_defs.specs.Streams.{trim_floor}
 use Rattle.kcl_audit_streams.specs.Judging.{position_in}

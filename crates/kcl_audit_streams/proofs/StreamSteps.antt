@@ -1,7 +1,6 @@
 -- What a good entry makes of its stream. Of each reading only the entries that change it are named here.
 use Rattle.std.proofs.Common.{◌≡◌, ℕ, ◌+◌, ◌*◌, max, ◌≤◌, Bool, true, false, List, [], ◌∷◌, ◌++◌, Some, map, refl, sym, ap, ◌∙◌, arith}
-use Rattle.std.specs.Prelude.{◌==◌, if◌then◌else◌, cond, Ok}
-use Rattle.std.specs.List.{filter}
+use Rattle.std.specs.Prelude.{◌==◌, if◌then◌else◌, Ok}
 use Rattle.std.proofs.lemmas.List.{map_push}
 use Rattle.kds_base.proofs.Facts.{is_equal, is_itself, same_some}
 use Rattle.kds_defs.proofs.Elsewhere.{floor_same}

@@ -2,7 +2,7 @@
 use Rattle.std.proofs.Common.{◌≡◌, ◌≢◌, ℕ, zero, suc, ◌+◌, ◌≤◌, Bool, true, false, List, length, slice_get, Option, Some, None}
 use Rattle.std.proofs.Common.{refl, sym, ap, subst, ◌∙◌, arith}
 use Rattle.std.specs.Prelude.{◌==◌, ◌&&◌, ◌||◌, not, is_some, nat_lt, nat_le, if◌then◌else◌, IfSome, Result, Ok}
-use Rattle.std.specs.List.{AllByRecursion, filter}
+use Rattle.std.specs.List.{AllByRecursion}
 use Rattle.std.proofs.lemmas.Bool.Decides.{nat_tests}
 use Rattle.kds_base.specs.Span.{are_adjacent, is_inside}
 use Rattle.kds_base.proofs.Facts.{is_itself, plus_none}
@@ -16,11 +16,10 @@ use Rattle.kds_defs.specs.Decision.{Decision, refuse◌if◌else◌}
 use Rattle.kcl_laws.specs.ShownLines.{blank, entry_line}
 use Rattle.kds_defs.specs.Journal.{Journal, Line}
 use Rattle.kds_defs.specs.Legal.{in_stream, item_of, last_clock, told}
-use Rattle.kds_defs.specs.PutCommands.{enforce, is_enforced, put}
-use Rattle.kds_defs.specs.Rates.{SizedPut, is_throttled, puts}
+use Rattle.kds_defs.specs.PutCommands.{enforce, put}
 use Rattle.kds_defs.specs.Records.{next_number}
 use Rattle.kds_defs.specs.declared.limits.TheConstants.{OPEN_SHARDS}
-use Rattle.kds_defs.specs.Shards.{ShardState, home, home_among, is_listed, is_listed_state, is_open, open_count, range_of, shard_at, shards}
+use Rattle.kds_defs.specs.Shards.{ShardState, is_listed, is_listed_state, open_count, range_of, shard_at}
 use Rattle.kds_defs.specs.StreamCommands.{delete, is_open_at, keep, last_number, merge, put_line, split}
 use Rattle.kds_defs.specs.Streams.{hours, is_live, trim_floor}
 use Rattle.kds_defs.specs.Subjects.{stream_of}
@@ -28,7 +27,7 @@ use Rattle.kds_defs.proofs.Leads.{Leads, past_test}
 use Rattle.kds_tree.specs.Tree.{merge_refusal, split_refusal}
 use Rattle.kcl_audit_streams.specs.Judging.{agrees, entry_verdict, home_in, put_verdict, refused, refused_by, split_verdict, merge_verdict}
 use Rattle.kcl_audit_streams.specs.Standing.{IsStream, StreamValue, floor_in, is_listed_in, is_listed_of}
-use Rattle.kcl_audit_streams.specs.Verdict.{Verdict, judged, same_entry}
+use Rattle.kcl_audit_streams.specs.Verdict.{Verdict, judged}
 use Rattle.kcl_audit_streams.proofs.SameEntries.{same_refl}
 use Rattle.kcl_audit_streams.proofs.StreamSteps.{IsLater}
 
@@ -63,34 +62,13 @@ length-blank : (n : ℕ) → length (blank n) ≡ n
 length-blank zero = refl
 length-blank (suc n) = ap suc (length-blank n)
 
-both_and : (a b : Bool) → (a && (b && (true && (true && true)))) ≡ (a && b)
-both_and a b = grind arith
-
-same_put : (s h sh n m hash bytes key_bytes : ℕ) → same_entry (entry.Put s h n hash bytes key_bytes) (entry.Put s sh m hash bytes key_bytes) ≡ ((h == sh) && (n == m))
-same_put s h sh n m hash bytes key_bytes = rw (is_itself s, is_itself hash, is_itself bytes, is_itself key_bytes) (both_and (h == sh) (n == m))
-
--- what a put is judged, by what is known of its home
-abbrev put_by : ℕ → ℕ → Bool → List SizedPut → ℕ → ℕ → Bool → Verdict
-put_by clock size on ps h n same =
-    if on && is_throttled ps clock size then refused (refusal.Throttled h) else
-    if n == last_number then refused refusal.Spent else
-    agrees same
-
 put_told : (log : Journal) (clock by s sh m hash bytes key_bytes : ℕ) (v : StreamValue) → IsStream log s v
     → judged (put log clock by s (item_of (entry_line clock by (entry.Put s sh m hash bytes key_bytes)) hash)) (entry.Put s sh m hash bytes key_bytes)
     ≡ put_verdict v clock sh m hash (bytes + key_bytes)
 put_told log clock by s sh m hash bytes key_bytes v st =
-    let what : Entry = entry.Put s sh m hash bytes key_bytes in
-    let n = next_number log s in
-    let h = home log s hash in
     then_refuse _ _ _ _ _ (then_refuse _ _ _ _ _ refl)
-    ∙ (λ i. put_by clock (length-blank bytes i + length-blank key_bytes i) (is_enforced log s) (puts log s h) h n
-    (same_entry (entry.Put s h n hash (length-blank bytes i) (length-blank key_bytes i)) what))
-    ∙ ap (put_by clock (bytes + key_bytes) (is_enforced log s) (puts log s h) h n) (same_put s h sh n m hash bytes key_bytes)
-    ∙ (λ i. (
-    let home : ℕ = home_among (filter is_open (st.shards_are i)) hash in
-    put_by clock (bytes + key_bytes) (st.limited i) (puts log s home) home (st.draws i) ((home == sh) && (st.draws i == m))))
-    ∙ ap (λ ps. put_by clock (bytes + key_bytes) v.enforced ps (home_in v hash) v.next ((home_in v hash == sh) && (v.next == m))) (st.puts_are (home_in v hash))
+    ∙ rw (length-blank bytes, length-blank key_bytes, st.limited, st.shards_are, st.draws, st.puts_are (home_in v hash))
+    (rw (is_itself s, is_itself hash, is_itself bytes, is_itself key_bytes) (grind arith))
 
 -- ---- a change of the retention
 
@@ -142,9 +120,6 @@ split_cases o false full sh at len next xs same is made = refl
 split_cases None true full sh at len next xs same is made = absurd (cc (made refl))
 split_cases (Some x) true full sh at len next xs same is made = rw is (grind arith)
 
-same_split : (s sh at n m a low high : ℕ) → same_entry (entry.Split s sh at n a (a + 1)) (entry.Split s sh at m low high) ≡ ((m == n) && ((low == a) && (high == a + 1)))
-same_split s sh at n m a low high = rw (is_itself s, is_itself sh, is_itself at, swapped n m, swapped a low, swapped (a + 1) high) refl
-
 -- the same of a merge
 abbrev merge_by : Option ShardState → Option ShardState → Bool → ℕ → ℕ → Bool → Verdict
 merge_by o p listed len next same =
@@ -154,26 +129,15 @@ merge_by o p listed len next same =
     if nat_lt last_number len || next == last_number then refused refusal.Spent else
     agrees same
 
-same_merge : (s sh other n m a child : ℕ) → same_entry (entry.Merged s sh other n a) (entry.Merged s sh other m child) ≡ ((m == n) && (child == a))
-same_merge s sh other n m a child = rw (is_itself s, is_itself sh, is_itself other, swapped n m, swapped a child) refl
-
 split_told : (log : Journal) (clock by s sh at m low high : ℕ) (v : StreamValue) (full : Bool) → IsStream log s v → last_clock log ≤ clock
     → full ≡ nat_le OPEN_SHARDS (open_count log)
     → judged (split log clock by s sh at) (entry.Split s sh at m low high) ≡ split_verdict v clock sh at full m low high
 split_told log clock by s sh at m low high v full st order room =
-    let what : Entry = entry.Split s sh at m low high in
-    let listed = is_listed_in (Some v) clock sh in
-    let same : ℕ → ℕ → Bool = λ n len. same_entry (entry.Split s sh at n len (len + 1)) what in
-    let n = next_number log s in
-    let len = length (shards log s) in
+    let n = length v.tree in
     then_refuse _ _ _ _ _ (then_refuse _ _ _ _ _ (then_refuse _ _ _ _ _ (then_refuse _ _ _ _ _ (then_refuse _ _ _ _ _ refl))))
-    ∙ ap (λ (b : Bool). split_by (shard_at log s sh) b (nat_le OPEN_SHARDS (open_count log)) at len n (same n len)) (listed_is log clock s sh v st order)
-    ∙ ap (λ (b : Bool). split_by (shard_at log s sh) listed b at len n (same n len)) (sym room)
-    ∙ ap (λ (xs : List ShardState). split_by (slice_get xs sh) listed full at (length xs) n (same n (length xs))) st.shards_are
-    ∙ ap (λ (n : ℕ). split_by (slice_get v.tree sh) listed full at (length v.tree) n (same n (length v.tree))) st.draws
-    ∙ ap (split_by (slice_get v.tree sh) listed full at (length v.tree) v.next) (same_split s sh at v.next m (length v.tree) low high)
-    ∙ split_cases (slice_get v.tree sh) listed full sh at (length v.tree) v.next v.tree _ refl
-    (λ h. listed_made v.live (floor_in v clock) (slice_get v.tree sh) h)
+    ∙ rw (listed_is log clock s sh v st order, sym room, st.shards_are, st.draws, is_itself s, is_itself sh, is_itself at)
+    (rw (swapped v.next m, swapped n low, swapped (n + 1) high) (
+    split_cases (slice_get v.tree sh) _ full sh at n v.next v.tree _ refl (λ h. listed_made v.live (floor_in v clock) (slice_get v.tree sh) h)))
 
 merge_cases : (o p : Option ShardState) (a b : Bool) (sh other len next : ℕ) (xs : List ShardState) (same : Bool) → slice_get xs sh ≡ o → slice_get xs other ≡ p → (a ≡ true → is_some o ≡ true) → (b ≡ true → is_some p ≡ true)
     → merge_by o p (a && b) len next same
@@ -187,24 +151,13 @@ merge_cases (Some x) (Some y) true true sh other len next xs same is also made t
 merge_told : (log : Journal) (clock by s sh other m child : ℕ) (v : StreamValue) → IsStream log s v → last_clock log ≤ clock
     → judged (merge log clock by s sh other) (entry.Merged s sh other m child) ≡ merge_verdict v clock sh other m child
 merge_told log clock by s sh other m child v st order =
-    let what : Entry = entry.Merged s sh other m child in
-    let a = is_listed_in (Some v) clock sh in
-    let b = is_listed_in (Some v) clock other in
-    let same : ℕ → ℕ → Bool = λ n len. same_entry (entry.Merged s sh other n len) what in
-    let n = next_number log s in
-    let len = length (shards log s) in
+    let n = length v.tree in
     let made : (q : ℕ) → is_listed_in (Some v) clock q ≡ true → is_some (slice_get v.tree q) ≡ true =
     λ q h. listed_made v.live (floor_in v clock) (slice_get v.tree q) h in
-    let spent : ℕ → Verdict = λ more.
-    if nat_lt last_number more || v.next == last_number then refused refusal.Spent else agrees ((m == v.next) && (child == length v.tree)) in
     then_refuse _ _ _ _ _ (then_refuse _ _ _ _ _ (then_refuse _ _ _ _ _ (then_refuse _ _ _ _ _ refl)))
-    ∙ (λ i. merge_by (shard_at log s sh) (shard_at log s other)
-    (listed_is log clock s sh v st order i && listed_is log clock s other v st order i) len n (same n len))
-    ∙ ap (λ (xs : List ShardState). merge_by (slice_get xs sh) (slice_get xs other) (a && b) (length xs) n (same n (length xs))) st.shards_are
-    ∙ ap (λ (n : ℕ). merge_by (slice_get v.tree sh) (slice_get v.tree other) (a && b) (length v.tree) n (same n (length v.tree))) st.draws
-    ∙ ap (merge_by (slice_get v.tree sh) (slice_get v.tree other) (a && b) (length v.tree) v.next) (same_merge s sh other v.next m (length v.tree) child)
-    ∙ merge_cases (slice_get v.tree sh) (slice_get v.tree other) a b sh other (length v.tree) v.next v.tree _ refl refl (made sh) (made other)
-    ∙ ap (λ (n : ℕ). if not (a && b) then refused refusal.NoShard else refused_by (merge_refusal v.tree sh other) (spent n)) (sym (plus_none (length v.tree)))
+    ∙ rw (listed_is log clock s sh v st order, listed_is log clock s other v st order, st.shards_are, st.draws)
+    (rw (is_itself s, is_itself sh, is_itself other, swapped v.next m, swapped n child, plus_none n) (
+    merge_cases (slice_get v.tree sh) (slice_get v.tree other) _ _ sh other n v.next v.tree _ refl refl (made sh) (made other)))
 
 -- ---- each entry, once its stream is live
 
