@@ -3,6 +3,7 @@ use Rattle.std.proofs.Common.{◌≡◌, ℕ, ◌+◌, ◌<◌, ◌≤◌, max, 
 use Rattle.std.specs.Prelude.{Result, ◌==◌, ◌&&◌, ◌||◌, not, nat_le, nat_lt, map, cond, is_some, if◌then◌else◌}
 use Rattle.std.specs.List.{filter, AllByRecursion}
 use Rattle.std.proofs.lemmas.List.{length-map}
+use Rattle.std.proofs.lemmas.Bool.{cond_both}
 use Rattle.kds_base.specs.Span.{is_inside, are_adjacent}
 use Rattle.kds_base.proofs.Facts.{all_filter}
 use Rattle.kds_defs.specs.declared.command.Command.{Command}
@@ -347,11 +348,10 @@ basic_service h basic = all_filter (λ turn. is_basic turn.what ≡ true) (λ tu
 
 not_later : (h : List Turn) → clock (service_turns h) ≤ clock h
 not_later [] = omega arith
-not_later (turn ∷ h) = either (is_service turn.what) (not_later h)
-  where
-    either : (b : Bool) → clock (service_turns h) ≤ clock h → clock (cond b (turn ∷ service_turns h) (service_turns h)) ≤ max (clock h) turn.at
-    either true so = omega (arith, so)
-    either false so = omega (arith, so)
+not_later (turn ∷ h) =
+    let so = not_later h in
+    cond_both (is_service turn.what) (turn ∷ service_turns h) (service_turns h) (λ ts. clock ts ≤ max (clock h) turn.at)
+    (λ asks. omega (arith, so)) (λ other. omega (arith, so))
 
 pub services_twice : (h : List Turn) → service_turns h ≡ service_turns (service_turns h)
 services_twice [] = refl

@@ -3,6 +3,7 @@ use Rattle.std.proofs.Common.{◌≡◌, ◌≢◌, ℕ, ◌+◌, ◌<◌, ◌�
 use Rattle.std.specs.Prelude.{◌==◌, ◌*◌, ◌||◌, not, map, cond, slice_get, if◌then◌else◌}
 use Rattle.std.specs.List.{filter, find}
 use Rattle.std.proofs.lemmas.Bool.Decides.{nat_tests}
+use Rattle.std.proofs.lemmas.Bool.{cond_both}
 use Rattle.kds_base.specs.Span.{uniform}
 use Rattle.kds_defs.proofs.Elsewhere.{of_no_stream, of_none}
 use Rattle.kds_defs.proofs.Elsewhere as elsewhere
@@ -85,13 +86,9 @@ pub young_if_legal : (log : Journal) → IsLegal log → last_clock log < LEAST_
 young_if_legal [] legal below = tt
 young_if_legal (line ∷ log) legal below = (below, legal.0.in_range, young_if_legal log legal.1 (omega (arith, legal.0.in_order, below)))
 
-least_either : (b : Bool) (n m : ℕ) → 24 ≤ n → 24 ≤ m → 24 ≤ (if b then n else m)
-least_either true n m h g = h
-least_either false n m h g = g
-
 least_by : (e : Entry) (s n : ℕ) → IsInRange e → 24 ≤ n → 24 ≤ hours_after e s n
-least_by (entry.Made stream name shards) s n range so = least_either (stream == s) FIRST_HOURS n (omega arith) so
-least_by (entry.Kept stream wanted) s n range so = least_either (stream == s) wanted n range.0 so
+least_by (entry.Made stream name shards) s n range so = cond_both (stream == s) FIRST_HOURS n (λ m. 24 ≤ m) (λ own. omega arith) (λ other. so)
+least_by (entry.Kept stream wanted) s n range so = cond_both (stream == s) wanted n (λ m. 24 ≤ m) (λ own. range.0) (λ other. so)
 least_by _ s n range so = so
 
 least_hours : (log : Journal) (s : ℕ) → IsYoung log → 24 ≤ hours log s

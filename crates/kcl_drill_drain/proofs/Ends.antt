@@ -2,6 +2,7 @@
 use Rattle.std.proofs.Common.{◌≡◌, ℕ, zero, suc, max, Bool, true, false, List, [], ◌∷◌, ◌++◌, length, Some, refl, sym, ap, subst, ◌∙◌, arith}
 use Rattle.std.specs.Prelude.{is_none, not, slice_get, if◌then◌else◌}
 use Rattle.std.specs.List.{AllByRecursion}
+use Rattle.std.proofs.lemmas.Option.{slice_get_within}
 use Rattle.kds_base.specs.declared.lease_key.Checkpoint.{Checkpoint}
 use Rattle.kds_base.specs.declared.lease_key.Checkpoint.TheVariants.{ShardEnd}
 use Rattle.kds_defs.specs.declared.command.Turn.{Turn}
@@ -20,7 +21,6 @@ use Rattle.kcl_drill_drain.specs.Laws.{HasLaws}
 use Rattle.kcl_drill_drain.specs.Leased.{HasDrained, Leads}
 use Rattle.kcl_drill_drain.proofs.KeyLemmas.{listed_whole}
 use Rattle.kcl_drill_drain.proofs.Leading.{IsOver, over}
-use Rattle.kcl_drill_drain.proofs.Makings.{below_length}
 use Rattle.kcl_drill_drain.proofs.Overs.{same_listed}
 use Rattle.kcl_drill_drain.proofs.Spots.{key_there, number_at}
 
@@ -39,7 +39,7 @@ module _ (h : List Turn) (at : ℕ) (among : List Row) (can : CanDrain h at) (la
       let no : i ≡ x.no = omega (arith, e) in
       let here : shard_at (journal h) s x.no ≡ Some x = ap (slice_get (shards (journal h) s)) (sym no) ∙ there in
       let k = key_there h at s x.no x can.whole laws live here in
-      let d = done.done k.0 (ref s x.no) (below_length (listed_keys h at) k.0 (ref s x.no) k.1) k.1 in
+      let d = done.done k.0 (ref s x.no) (slice_get_within (listed_keys h at) k.0 (ref s x.no) k.1) k.1 in
       d
       ∙ ap (λ o. Some (if is_closed_at o then ShardEnd else last_checkpoint (records (journal h) s x.no))) here
       ∙ ap Some (flipped (is_none x.closing) ShardEnd (last_checkpoint (records (journal h) s x.no)))

@@ -1,9 +1,10 @@
 -- The listed keys: each is of a made shard, none stands twice, the shards before one in its stream stand before it, and no
 -- shard is missing.
 use Rattle.std.proofs.Common.{◌≡◌, ℕ, zero, suc, ◌+◌, ◌<◌, ◌≤◌, Bool, true, false, List, [], ◌∷◌, ◌++◌, length, Some, refl, sym, ap, subst, ◌∙◌, arith, inl, inr}
-use Rattle.std.specs.Prelude.{◌==◌, ◌&&◌, ◌⊎◌, cond, not, slice_get, if◌then◌else◌}
+use Rattle.std.specs.Prelude.{◌==◌, ◌⊎◌, cond, not, slice_get, if◌then◌else◌}
 use Rattle.std.specs.List.{AllByRecursion, filter}
 use Rattle.std.proofs.lemmas.Bool.Decides.{nat_tests}
+use Rattle.std.proofs.lemmas.Bool.{and_left, and_right, cond_both}
 use Rattle.kds_base.specs.declared.lease_key.ShardRef.{ShardRef}
 use Rattle.kds_base.proofs.Facts.{equal_so, same_some}
 use Rattle.kds_defs.proofs.Rising.{lower}
@@ -98,21 +99,17 @@ keys_same log c (s ∷ ss) whole live =
 
 pub filtered : (p : ℕ → Bool) (ns : List ℕ) → AllByRecursion (λ n. p n ≡ true) (filter p ns)
 filtered p [] = tt
-filtered p (n ∷ ns) = either (p n) refl (filtered p ns)
-  where
-    either : (b : Bool) → p n ≡ b → AllByRecursion (λ n. p n ≡ true) (filter p ns) → AllByRecursion (λ n. p n ≡ true) (cond b (n ∷ filter p ns) (filter p ns))
-    either true is rest = (is, rest)
-    either false is rest = rest
+filtered p (n ∷ ns) =
+    let rest = filtered p ns in
+    cond_both (p n) (n ∷ filter p ns) (filter p ns) (AllByRecursion (λ m. p m ≡ true)) (λ is. (is, rest)) (λ not. rest)
 
 -- the numbers rise
 pub up_numbers : (p : ℕ → Bool) (n count : ℕ) → RiseFrom n (filter p (numbers_from n count))
 up_numbers p n zero = tt
-up_numbers p n (suc count) = either (p n) (up_numbers p (n + 1) count)
-  where
-    either : (b : Bool) → RiseFrom (n + 1) (filter p (numbers_from (n + 1) count))
-        → RiseFrom n (cond b (n ∷ filter p (numbers_from (n + 1) count)) (filter p (numbers_from (n + 1) count)))
-    either true rest = (omega arith, rest)
-    either false rest = lower n (n + 1) (filter p (numbers_from (n + 1) count)) (omega arith) rest
+up_numbers p n (suc count) =
+    let ns = filter p (numbers_from (n + 1) count) in
+    let rest = up_numbers p (n + 1) count in
+    cond_both (p n) (n ∷ ns) ns (RiseFrom n) (λ is. (omega arith, rest)) (λ not. lower n (n + 1) ns (omega arith) rest)
 
 -- ---- a key among them
 
@@ -181,20 +178,13 @@ module _ (log : Journal) (numbered : (s : ℕ) → AreNumbered 0 (shards log s))
       other_stream : (m k : ℕ) → m ≡ s → s + 1 ≤ k → ((m == k) ≡ false) × ((k == m) ≡ false)
       other_stream m k e lt = (grind (arith, nat_tests), grind (arith, nat_tests))
 
-      and_false : (x y : Bool) → y ≡ false → (x && y) ≡ false
-      and_false true y e = e
-      and_false false y e = refl
-
-      false_and : (x y : Bool) → x ≡ false → (x && y) ≡ false
-      false_and x y e = ap (λ z. z && y) e
-
       either : ((p q : ℕ) → p < q → slice_get (keys_in log ss) p ≡ Some a → slice_get (keys_in log ss) q ≡ Some b → (same_key a b ≡ false) × (same_key b a ≡ false)) → ((q : ℕ) → slice_get (keys_in log ss) q ≡ Some b → s + 1 ≤ b.stream) → Place (refs_of s (shards log s)) (keys_in log ss) i a → Place (refs_of s (shards log s)) (keys_in log ss) j b → (same_key a b ≡ false) × (same_key b a ≡ false)
       either later high (inl at) (inl at') =
           let e = other_shard i j a.shard b.shard (ref_at s 0 i (shards log s) a (numbered s) at.1).shard (ref_at s 0 j (shards log s) b (numbered s) at'.1).shard below in
-          (and_false (a.stream == b.stream) (a.shard == b.shard) e.0, and_false (b.stream == a.stream) (b.shard == a.shard) e.1)
+          (and_right (a.stream == b.stream) (a.shard == b.shard) e.0, and_right (b.stream == a.stream) (b.shard == a.shard) e.1)
       either later high (inl at) (inr at') =
           let e = other_stream a.stream b.stream (ref_at s 0 i (shards log s) a (numbered s) at.1).stream (high at'.0 at'.2) in
-          (false_and (a.stream == b.stream) (a.shard == b.shard) e.0, false_and (b.stream == a.stream) (b.shard == a.shard) e.1)
+          (and_left (a.stream == b.stream) (a.shard == b.shard) e.0, and_left (b.stream == a.stream) (b.shard == a.shard) e.1)
       either later high (inr at) (inl at') = absurd (omega (arith, at.1, at'.0, below))
       either later high (inr at) (inr at') = later at.0 at'.0 (omega (arith, at.1, at'.1, below)) at.2 at'.2
 

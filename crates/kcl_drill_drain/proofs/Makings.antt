@@ -1,6 +1,7 @@
 -- A row is made, where there is none.
-use Rattle.std.proofs.Common.{◌≡◌, ℕ, ◌+◌, ◌<◌, ◌^◌, Bool, true, false, List, [], ◌∷◌, ◌++◌, length, zero, suc, Option, Some, None, refl, sym, ap, subst, ◌∙◌, arith, inl, inr}
+use Rattle.std.proofs.Common.{◌≡◌, ℕ, ◌+◌, ◌<◌, ◌^◌, Bool, true, false, List, [], ◌∷◌, ◌++◌, length, Option, Some, None, refl, sym, ap, subst, ◌∙◌, arith, inl, inr}
 use Rattle.std.specs.Prelude.{◌⊎◌, is_some, not, slice_get, if◌then◌else◌, Result}
+use Rattle.std.proofs.lemmas.Option.{slice_get_within}
 use Rattle.kds_base.specs.declared.lease_key.ShardRef.{ShardRef}
 use Rattle.kds_defs.specs.declared.command.Command.TheVariants as command
 use Rattle.kds_defs.specs.declared.command.Origin.TheVariants as origin
@@ -41,17 +42,12 @@ made_first h keys c laws = record {
   few = laws.tenures;
 }
 
-pub below_length : {A : Type 0} (xs : List A) (j : ℕ) (x : A) → slice_get xs j ≡ Some x → j < length xs
-below_length [] j x is = absurd cc
-below_length (y ∷ xs) zero x is = omega arith
-below_length (y ∷ xs) (suc j) x is = let n = below_length xs j x is in omega (arith, n)
-
 -- once all are made, each waits
 pub all_wait : (h : List Turn) (keys : List ShardRef) (among : List Row) (log : Journal) → AreMade h keys among (length keys) log → AreDrainedTo h keys (rows log) 0 log
 all_wait h keys among log made = record {
   done = λ j key below is. absurd (omega (arith, below));
   waits = λ j key above is.
-      let f = made.made j key (below_length keys j key is) is in
+      let f = made.made j key (slice_get_within keys j key is) is in
       record { now = f.0; there = f.1; seen = row_found log key ∙ f.1; fresh = made.fresh key f.0 f.1 };
   few = omega (arith, made.few);
 }

@@ -1,9 +1,10 @@
 -- Where nothing is left from a place on, the checkpoint is at the last record: at the start of a row, and after each batch
 -- that is marked at its last record.
 use Rattle.std.proofs.Common.{◌≡◌, ℕ, zero, suc, ◌+◌, ◌-◌, ◌<◌, ◌≤◌, max, Bool, true, false, List, [], ◌∷◌, ◌++◌, length, map, Option, Some, refl, sym, ap, subst, ◌∙◌, arith, inl, inr}
-use Rattle.std.specs.Prelude.{nat_le, cond, slice_get, if◌then◌else◌}
+use Rattle.std.specs.Prelude.{nat_le, cond, slice_get}
 use Rattle.std.specs.Option.{option_map}
 use Rattle.std.proofs.lemmas.List.{append-nil, length-append}
+use Rattle.std.proofs.lemmas.Bool.{cond_both}
 use Rattle.kds_base.specs.declared.lease_key.Checkpoint.TheVariants.{TrimHorizon, At}
 use Rattle.kds_base.proofs.Facts.{le_so, above_so}
 use Rattle.kds_defs.specs.Records.{Logged, beginning, numbers_of, place_after, stored}
@@ -104,11 +105,9 @@ above_is p x (y ∷ ys) up = let n = above_is (x.seq + 1) y ys up.1 in omega (ar
 up_beginning : (limit room p : ℕ) (rs : List Logged) → IsUp p rs → IsUp p (beginning limit room rs)
 up_beginning zero room p rs up = tt
 up_beginning (suc limit) room p [] up = tt
-up_beginning (suc limit) room p (r ∷ rs) up = either (nat_le r.bytes room) (up_beginning limit (room - r.bytes) (r.seq + 1) rs up.1)
-  where
-    either : (b : Bool) → IsUp (r.seq + 1) (beginning limit (room - r.bytes) rs) → IsUp p (if b then r ∷ beginning limit (room - r.bytes) rs else [])
-    either true rest = (up.0, rest)
-    either false rest = tt
+up_beginning (suc limit) room p (r ∷ rs) up =
+    let rest = up_beginning limit (room - r.bytes) (r.seq + 1) rs up.1 in
+    cond_both (nat_le r.bytes room) (r ∷ beginning limit (room - r.bytes) rs) [] (IsUp p) (λ fits. (up.0, rest)) (λ full. tt)
 
 pub record IsBatchTo (start place : ℕ) (rs bs : List Logged) (q : ℕ) : Type 0 where
   pub number : last_number_in (map stored bs) ≡ Some q
@@ -146,8 +145,6 @@ batched limit room start place rs x xs up is =
 
 pub fewer_from : (p : ℕ) (rs : List Logged) → length (from p rs) ≤ length rs
 fewer_from p [] = omega arith
-fewer_from p (r ∷ rs) = either (nat_le p r.seq) (fewer_from p rs)
-  where
-    either : (b : Bool) → length (from p rs) ≤ length rs → length (cond b (r ∷ from p rs) (from p rs)) ≤ suc (length rs)
-    either true le = omega (arith, le)
-    either false le = omega (arith, le)
+fewer_from p (r ∷ rs) =
+    let le = fewer_from p rs in
+    cond_both (nat_le p r.seq) (r ∷ from p rs) (from p rs) (λ xs. length xs ≤ suc (length rs)) (λ is. omega (arith, le)) (λ not. omega (arith, le))

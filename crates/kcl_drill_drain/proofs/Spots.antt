@@ -4,6 +4,7 @@ use Rattle.std.specs.Prelude.{◌⊎◌, ◌&&◌, not, slice_get, if◌then◌e
 use Rattle.std.proofs.lemmas.Bool.Decides.{nat_tests}
 use Rattle.std.specs.List.{AllByRecursion}
 use Rattle.std.specs.Option.{option_map}
+use Rattle.std.proofs.lemmas.Option.{slice_get_read}
 use Rattle.kds_base.specs.declared.lease_key.Checkpoint.{Checkpoint}
 use Rattle.kds_base.specs.declared.lease_key.Checkpoint.TheVariants.{TrimHorizon, At, ShardEnd}
 use Rattle.kds_base.specs.declared.lease_key.ShardRef.{ShardRef}
@@ -44,16 +45,11 @@ number_at n zero (y ∷ xs) x numbers is = let e : y ≡ x = cc in plus x.no (ap
     plus m is = omega (arith, is)
 number_at n (suc i) (y ∷ xs) x numbers is = let e = number_at (n + 1) i xs x numbers.1 is in omega (arith, e)
 
-get_there : {A : Type 0} (xs : List A) (i : ℕ) (x : A) → i < length xs → x ≡ get_or xs i x → slice_get xs i ≡ Some x
-get_there [] i x below is = absurd (omega (arith, below))
-get_there (y ∷ ys) zero x below is = ap Some (sym is)
-get_there (y ∷ ys) (suc i) x below is = get_there ys i x (omega (arith, below)) is
-
 abbrev pub spot_of : List Turn → List ShardRef → List Row → ℕ → ShardRef → Spot
 spot_of h keys among i key = record { history = h; keys = keys; among = among; index = i; key = key }
 
 pub is_spot : (h : List Turn) (at : ℕ) (keys : List ShardRef) (among : List Row) (i : ℕ) (key : ShardRef) → CanDrain h at → keys ≡ listed_keys h at → i < length keys → key ≡ get_or keys i key → length keys * 16 < 2 ^ 63 → IsSpot (spot_of h keys among i key) at
-is_spot h at keys among i key can listed below is few = record { can = can; listed = listed; here = get_there keys i key below is; few = omega (arith, below, few) }
+is_spot h at keys among i key can listed below is few = record { can = can; listed = listed; here = slice_get_read keys (length keys) i key refl below is; few = omega (arith, below, few) }
 
 -- ---- the keys of a history
 

@@ -3,6 +3,7 @@ use Rattle.std.proofs.Common.{◌≡◌, ℕ, ◌+◌, ◌≤◌, Bool, true, fa
 use Rattle.std.specs.Prelude.{Result, if◌then◌else◌}
 use Rattle.std.specs.List.{AllByRecursion}
 use Rattle.std.specs.Option.{option_map}
+use Rattle.std.proofs.lemmas.Bool.{cond_both}
 use Rattle.kds_base.specs.declared.lease_key.ShardRef.{ShardRef}
 use Rattle.kds_defs.specs.declared.command.Command.{Command}
 use Rattle.kds_defs.specs.declared.command.Turn.{Turn}
@@ -73,18 +74,12 @@ raised f true None n keeps le = omega arith
 raised f true (Some x) n keeps le = omega (arith, keeps x, le)
 raised f false o n keeps le = omega (arith, le)
 
-made : (b : Bool) (r : Row) (o : Option Row) (n : ℕ) → r.counter ≡ 0 → counter_in o ≤ n → counter_in (if b then Some r else o) ≤ 1 + n
-made true r o n is le = omega (arith, is)
-made false r o n is le = omega (arith, le)
-
-cut : (b : Bool) (o : Option Row) (n : ℕ) → counter_in o ≤ n → counter_in (if b then None else o) ≤ 1 + n
-cut true o n le = omega arith
-cut false o n le = omega (arith, le)
-
 counter_by : (log : Journal) (line : Line) (e : Entry) (key : ShardRef) (o : Option Row) (n : ℕ) → counter_in o ≤ n
     → counter_in (row_after log line e key o) ≤ weight e + n
-counter_by log line (entry.LeaseMade k from) key o n le = made (same_key k key) (made_row log line.clock key from) o n refl le
-counter_by log line (entry.LeaseCut k counter) key o n le = cut (same_key k key) o n le
+counter_by log line (entry.LeaseMade k from) key o n le =
+    cond_both (same_key k key) (Some (made_row log line.clock key from)) o (λ p. counter_in p ≤ 1 + n) (λ own. omega arith) (λ other. omega (arith, le))
+counter_by log line (entry.LeaseCut k counter) key o n le =
+    cond_both (same_key k key) None o (λ p. counter_in p ≤ 1 + n) (λ own. omega arith) (λ other. omega (arith, le))
 counter_by log line (entry.Taken k tenure counter owner) key o n le = raised (taken_row (taken_count log + 1) owner) (same_key k key) o n (λ x. refl) le
 counter_by log line (entry.Renewed tenure counter) key o n le = raised renewed_row (is_key (key_of log tenure) key) o n (λ x. refl) le
 counter_by log line (entry.Freed tenure counter) key o n le = raised freed_row (is_key (key_of log tenure) key) o n (λ x. refl) le

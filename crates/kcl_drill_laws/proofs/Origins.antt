@@ -2,6 +2,7 @@
 use Rattle.std.proofs.Common.{◌≡◌, ◌⊎◌, inl, inr, ℕ, Bool, true, false, List, [], ◌∷◌, Option, Some, None, refl, ap}
 use Rattle.std.specs.Prelude.{if◌then◌else◌}
 use Rattle.std.specs.List.{AllByRecursion}
+use Rattle.std.proofs.lemmas.Bool.{cond_both}
 use Rattle.kds_base.specs.declared.lease_key.ShardRef.{ShardRef}
 use Rattle.kds_defs.specs.declared.command.Command.{Command}
 use Rattle.kds_defs.specs.declared.command.Origin.{Origin}
@@ -10,7 +11,6 @@ use Rattle.kds_defs.specs.declared.command.Turn.{Turn}
 use Rattle.kds_defs.specs.declared.entry.Entry.{Entry}
 use Rattle.kds_defs.specs.declared.entry.Entry.TheVariants as entry
 use Rattle.kds_defs.specs.declared.reply.Row.{Row}
-use Rattle.kds_defs.specs.Decision.{refuse◌if◌else◌, with◌or◌then◌}
 use Rattle.kds_defs.specs.Histories.{journal}
 use Rattle.kds_defs.specs.Journal.{Line, Journal}
 use Rattle.kds_defs.specs.Keys.{same_key}
@@ -32,11 +32,7 @@ AreSoMade ls = AllByRecursion (λ line. IsSoMade line.what) ls
 -- ---- what a command adds
 
 pub counts_so : (log : Journal) (key : ShardRef) (from : Origin) → from ≡ origin.TrimHorizon → counting_origin log key from ≡ origin.TrimHorizon
-counts_so log key from is = either (follows_parent log key)
-  where
-    either : (b : Bool) → (if b then origin.TrimHorizon else from) ≡ origin.TrimHorizon
-    either true = refl
-    either false = is
+counts_so log key from is = cond_both (follows_parent log key) origin.TrimHorizon from (λ o. o ≡ origin.TrimHorizon) (λ follows. refl) (λ new. is)
 
 command_adds : (log : Journal) (c by : ℕ) (what : Command) (line : Line) → IsAdded log c by what line → IsDrillCommand what → IsSoMade line.what
 command_adds log c by _ _ (Alone _ _ _ (walks.Makes key from)) is = counts_so log key from is

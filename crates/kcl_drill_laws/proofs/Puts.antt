@@ -1,8 +1,9 @@
 -- Each turn adds 500 records at most.
-use Rattle.std.proofs.Common.{◌≡◌, ℕ, ◌+◌, ◌≤◌, Bool, true, false, List, [], ◌∷◌, ◌++◌, length, refl, arith, ◌*◌, suc}
+use Rattle.std.proofs.Common.{◌≡◌, ℕ, ◌+◌, ◌≤◌, List, [], ◌∷◌, ◌++◌, length, refl, arith, ◌*◌, suc}
 use Rattle.std.specs.List.{AllByRecursion}
-use Rattle.std.specs.Prelude.{Result, if◌then◌else◌, ◌==◌, ◌&&◌}
+use Rattle.std.specs.Prelude.{Result, ◌==◌, ◌&&◌}
 use Rattle.std.proofs.lemmas.List.{length_push}
+use Rattle.std.proofs.lemmas.Bool.{cond_both}
 use Rattle.kds_defs.specs.declared.command.Command.{Command}
 use Rattle.kds_defs.specs.declared.command.NewItem.{NewItem}
 use Rattle.kds_defs.specs.declared.command.Turn.{Turn}
@@ -10,7 +11,6 @@ use Rattle.kds_defs.specs.declared.entry.Entry.{Entry}
 use Rattle.kds_defs.specs.declared.entry.Entry.TheVariants as entry
 use Rattle.kds_defs.specs.declared.reply.Refusal.{Refusal}
 use Rattle.kds_defs.specs.declared.reply.Reply.{Reply}
-use Rattle.kds_defs.specs.Decision.{with◌or◌then◌}
 use Rattle.kds_defs.specs.Histories.{clock, decide, decision, journal, lines_of}
 use Rattle.kds_defs.specs.Journal.{Line, Journal, with_lines}
 use Rattle.kds_defs.specs.Lawful.{IsHistory, IsLawfulCommand}
@@ -39,14 +39,11 @@ puts_with (line ∷ ls) log = let n = puts_with ls (line ∷ log) in omega (arit
 few_puts : (items : List NewItem) (log : Journal) (c by s : ℕ) → puts (put_lines log c by s items) ≤ length items
 few_puts [] log c by s = omega arith
 few_puts (item ∷ items) log c by s =
-    either (is_held_back log c s item) (few_puts items log c by s) (few_puts items (put_line log c by s (next_number log s) item ∷ log) c by s)
-  where
-    either : (b : Bool) → puts (put_lines log c by s items) ≤ length items
-        → puts (put_lines (put_line log c by s (next_number log s) item ∷ log) c by s items) ≤ length items
-        → puts (if b then put_lines log c by s items else put_line log c by s (next_number log s) item ∷ put_lines
-        (put_line log c by s (next_number log s) item ∷ log) c by s items) ≤ suc (length items)
-    either true skip take = omega (arith, skip)
-    either false skip take = omega (arith, take)
+    let line = put_line log c by s (next_number log s) item in
+    let skip = few_puts items log c by s in
+    let take = few_puts items (line ∷ log) c by s in
+    cond_both (is_held_back log c s item) (put_lines log c by s items) (line ∷ put_lines (line ∷ log) c by s items)
+    (λ ls. puts ls ≤ suc (length items)) (λ back. omega (arith, skip)) (λ goes. omega (arith, take))
 
 no_steps : (ls : List Line) → AllByRecursion (λ line. weight line.what ≡ 0) ls → puts ls ≡ 0
 no_steps [] none = refl
@@ -80,14 +77,10 @@ turns_few (turn ∷ h) lawful =
 -- ---- the records of a shard
 
 records_by : (l : Line) (e : Entry) (s sh n : ℕ) (rs : List Logged) → length rs ≤ n → length (records_after l e s sh rs) ≤ weight e + n
-records_by l (entry.Put stream shard number hash bytes key_bytes) s sh n rs le = either ((stream == s) && (shard == sh))
-  where
-    r : Logged
-    r = record { seq = number; arrival = l.clock; bytes = bytes + key_bytes; key = l.key; payload = l.payload }
-
-    either : (b : Bool) → length (if b then rs ++ r ∷ [] else rs) ≤ 1 + n
-    either true = omega (arith, length_push rs r, le)
-    either false = omega (arith, le)
+records_by l (entry.Put stream shard number hash bytes key_bytes) s sh n rs le =
+    let r : Logged = record { seq = number; arrival = l.clock; bytes = bytes + key_bytes; key = l.key; payload = l.payload } in
+    cond_both ((stream == s) && (shard == sh)) (rs ++ r ∷ []) rs (λ xs. length xs ≤ 1 + n)
+    (λ here. omega (arith, length_push rs r, le)) (λ elsewhere. omega (arith, le))
 records_by l _ s sh n rs le = omega (arith, le)
 
 records_few : (log : Journal) (s sh : ℕ) → length (records log s sh) ≤ puts log

@@ -3,6 +3,7 @@ use Rattle.std.proofs.Common.{◌≡◌, ℕ, zero, suc, ◌+◌, ◌-◌, ◌<�
 use Rattle.std.specs.Prelude.{not, nat_le, nat_lt, ◌&&◌, cond, if◌then◌else◌}
 use Rattle.std.specs.List.{AllByRecursion, filter}
 use Rattle.std.proofs.lemmas.Bool.Decides.{nat_tests}
+use Rattle.std.proofs.lemmas.Bool.{cond_both}
 use Rattle.kds_base.proofs.Facts.{all_filter, le_so, is_le, is_above, above_so}
 use Rattle.kds_defs.specs.Records.{Logged, beginning, left_among, logged, numbers_of, place_after, stored}
 use Rattle.kcl_laws.specs.Recorded.{IsSized}
@@ -27,11 +28,10 @@ up_weaker p m (r ∷ rs) le up = (omega (arith, le, up.0), up.1)
 
 pub up_kept : (p m : ℕ) (rs : List Logged) → IsUp m rs → IsUp m (from p rs)
 up_kept p m [] up = tt
-up_kept p m (r ∷ rs) up = either (nat_le p r.seq) (up_kept p (r.seq + 1) rs up.1)
-  where
-    either : (b : Bool) → IsUp (r.seq + 1) (from p rs) → IsUp m (cond b (r ∷ from p rs) (from p rs))
-    either true rest = (up.0, rest)
-    either false rest = up_weaker m (r.seq + 1) (from p rs) (omega (arith, up.0)) rest
+up_kept p m (r ∷ rs) up =
+    let rest = up_kept p (r.seq + 1) rs up.1 in
+    cond_both (nat_le p r.seq) (r ∷ from p rs) (from p rs) (IsUp m) (λ stays. (up.0, rest))
+    (λ goes. up_weaker m (r.seq + 1) (from p rs) (omega (arith, up.0)) rest)
 
 up_head : (p : ℕ) (r : Logged) (rs : List Logged) (b : Bool) → nat_le p r.seq ≡ b → IsUp (r.seq + 1) rs → IsUp p (from p rs) → IsUp p (cond b (r ∷ from p rs) (from p rs))
 up_head p r rs true is up rest = (le_so p r.seq is, up_kept p (r.seq + 1) rs up)
@@ -50,11 +50,10 @@ all_from p (r ∷ rs) up =
 pub place_up : (limit room p : ℕ) (rs : List Logged) → IsUp p rs → p ≤ place_after p (numbers_of (beginning limit room rs))
 place_up zero room p rs up = omega arith
 place_up (suc limit) room p [] up = omega arith
-place_up (suc limit) room p (r ∷ rs) up = either (nat_le r.bytes room) (place_up limit (room - r.bytes) (r.seq + 1) rs up.1)
-  where
-    either : (b : Bool) → r.seq + 1 ≤ place_after (r.seq + 1) (numbers_of (beginning limit (room - r.bytes) rs)) → p ≤ place_after p (numbers_of (if b then r ∷ beginning limit (room - r.bytes) rs else []))
-    either true rest = omega (arith, up.0, rest)
-    either false rest = omega arith
+place_up (suc limit) room p (r ∷ rs) up =
+    let rest = place_up limit (room - r.bytes) (r.seq + 1) rs up.1 in
+    cond_both (nat_le r.bytes room) (r ∷ beginning limit (room - r.bytes) rs) [] (λ bs. p ≤ place_after p (numbers_of bs))
+    (λ fits. omega (arith, up.0, rest)) (λ full. omega arith)
 
 part_head : (p : ℕ) (r : Logged) (rs bs : List Logged) (b : Bool) → p ≤ r.seq → IsUp (r.seq + 1) rs → r.seq + 1 ≤ place_after (r.seq + 1) (numbers_of bs) → rs ≡ bs ++ from (place_after (r.seq + 1) (numbers_of bs)) rs
     → r ∷ rs ≡ (if b then r ∷ bs else []) ++ from (place_after p (numbers_of (if b then r ∷ bs else []))) (r ∷ rs)

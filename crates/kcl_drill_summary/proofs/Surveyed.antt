@@ -3,6 +3,7 @@ use Rattle.std.proofs.Common.{◌≡◌, ℕ, zero, suc, ◌+◌, ◌<◌, ◌�
 use Rattle.std.specs.Prelude.{◌==◌, ◌||◌, cond, not, slice_get, if◌then◌else◌, Result, Ok, Err, IfOk}
 use Rattle.std.specs.List.{AllByRecursion, filter, find}
 use Rattle.std.proofs.lemmas.Bool.Decides.{nat_tests}
+use Rattle.std.proofs.lemmas.Bool.{cond_both}
 use Rattle.kds_base.specs.declared.lease_key.ShardRef.{ShardRef}
 use Rattle.kds_base.proofs.Facts.{equal_so, is_itself}
 use Rattle.kds_defs.proofs.Rising.{lower}
@@ -38,11 +39,10 @@ all_stand xs numbers = stand_at xs xs 0 numbers (λ i. let e : i ≡ 0 + i = ome
 
 listed_stand : (log : Journal) (c s : ℕ) (xs : List ShardState) → AllByRecursion (λ (x : ShardState). shard_at log s x.no ≡ Some x) xs → AllByRecursion (Stands log c s) (listed_among (trim_floor log c s) xs)
 listed_stand log c s [] are = tt
-listed_stand log c s (x ∷ xs) are = either (not (is_closed_below (trim_floor log c s) x)) refl (listed_stand log c s xs are.1)
-  where
-    either : (b : Bool) → not (is_closed_below (trim_floor log c s) x) ≡ b → AllByRecursion (Stands log c s) (listed_among (trim_floor log c s) xs) → AllByRecursion (Stands log c s) (cond b (x ∷ listed_among (trim_floor log c s) xs) (listed_among (trim_floor log c s) xs))
-    either true is rest = ((are.0, is), rest)
-    either false is rest = rest
+listed_stand log c s (x ∷ xs) are =
+    let rest = listed_stand log c s xs are.1 in
+    let ys = listed_among (trim_floor log c s) xs in
+    cond_both (not (is_closed_below (trim_floor log c s) x)) (x ∷ ys) ys (AllByRecursion (Stands log c s)) (λ is. ((are.0, is), rest)) (λ not. rest)
 
 -- so it is listed
 is_listed_at : (log : Journal) (c s : ℕ) (x : ShardState) → is_live log s ≡ true → Stands log c s x → is_listed log c s x.no ≡ true
@@ -110,11 +110,11 @@ apart_below t s h = grind (arith, nat_tests)
 
 above_none : (log : Journal) (c s : ℕ) (q : ℕ → Bool) (n count : ℕ) → s < n → of_stream s (listed_in log c (filter q (numbers_from n count))) ≡ []
 above_none log c s q n zero below = refl
-above_none log c s q n (suc count) below = either (q n) (above_none log c s q (n + 1) count (omega (arith, below)))
-  where
-    either : (b : Bool) → of_stream s (listed_in log c (filter q (numbers_from (n + 1) count))) ≡ [] → of_stream s (listed_in log c (cond b (n ∷ filter q (numbers_from (n + 1) count)) (filter q (numbers_from (n + 1) count)))) ≡ []
-    either true rest = none_of s n (listed_shards log c n) _ (apart_below n s below) ∙ rest
-    either false rest = rest
+above_none log c s q n (suc count) below =
+    let ns = filter q (numbers_from (n + 1) count) in
+    let rest = above_none log c s q (n + 1) count (omega (arith, below)) in
+    cond_both (q n) (n ∷ ns) ns (λ ms. of_stream s (listed_in log c ms) ≡ [])
+    (λ is. none_of s n (listed_shards log c n) (listed_in log c ns) (apart_below n s below) ∙ rest) (λ not. rest)
 
 found_above : (p q : ℕ → Bool) (n count s : ℕ) → find p (filter q (numbers_from n count)) ≡ Some s → n ≤ s
 found_above p q n zero s h = absurd cc
@@ -159,11 +159,11 @@ keys_summed log s (x ∷ xs) = ap (λ ys. summed_at log s x ∷ ys) (keys_summed
 
 rise_listed : (n : ℕ) (floor : ℕ) (xs : List ShardState) → AreNumbered n xs → RiseFrom n (map (λ (x : ShardState). x.no) (listed_among floor xs))
 rise_listed n floor [] numbers = tt
-rise_listed n floor (x ∷ xs) numbers = either (not (is_closed_below floor x)) (rise_listed (n + 1) floor xs numbers.1)
-  where
-    either : (b : Bool) → RiseFrom (n + 1) (map (λ (x : ShardState). x.no) (listed_among floor xs)) → RiseFrom n (map (λ (x : ShardState). x.no) (cond b (x ∷ listed_among floor xs) (listed_among floor xs)))
-    either true rest = (omega (arith, numbers.0), lower (x.no + 1) (n + 1) _ (omega (arith, numbers.0)) rest)
-    either false rest = lower n (n + 1) _ (omega arith) rest
+rise_listed n floor (x ∷ xs) numbers =
+    let ys = listed_among floor xs in
+    let rest = rise_listed (n + 1) floor xs numbers.1 in
+    cond_both (not (is_closed_below floor x)) (x ∷ ys) ys (λ zs. RiseFrom n (map (λ (z : ShardState). z.no) zs))
+    (λ is. (omega (arith, numbers.0), lower (x.no + 1) (n + 1) _ (omega (arith, numbers.0)) rest)) (λ not. lower n (n + 1) _ (omega arith) rest)
 
 abbrev numbers_in : List ShardState → List ℕ
 numbers_in xs = map (λ (x : ShardState). x.no) xs
