@@ -49,7 +49,9 @@ abbrev pub spot_of : List Turn → List ShardRef → List Row → ℕ → ShardR
 spot_of h keys among i key = record { history = h; keys = keys; among = among; index = i; key = key }
 
 pub is_spot : (h : List Turn) (at : ℕ) (keys : List ShardRef) (among : List Row) (i : ℕ) (key : ShardRef) → CanDrain h at → keys ≡ listed_keys h at → i < length keys → key ≡ get_or keys i key → length keys * 16 < 2 ^ 63 → IsSpot (spot_of h keys among i key) at
-is_spot h at keys among i key can listed below is few = record { can = can; listed = listed; here = slice_get_read keys (length keys) i key refl below is; few = omega (arith, below, few) }
+is_spot h at keys among i key can listed below is few =
+    let here = slice_get_read keys (length keys) i key refl below is in
+    record { can = can; listed = listed; here = here; few = omega (arith, below, few) }
 
 -- ---- the keys of a history
 

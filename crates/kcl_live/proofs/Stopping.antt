@@ -1,7 +1,9 @@
 -- After a stop each batch is given once and each lease is freed once.
 use Rattle.std.proofs.Common.{◌≡◌, ℕ, suc, ◌+◌, ◌≤◌, Bool, true, false, List, [], ◌∷◌, length, Option, Some, None, Result, Ok, Err, refl, sym, ap, ap₂, subst, ◌∙◌, arith}
-use Rattle.std.specs.Prelude.{◌&&◌, ◌||◌, cond, if◌then◌else◌, is_some, not}
+use Rattle.std.specs.Prelude.{◌&&◌, cond, if◌then◌else◌, is_some, not}
 use Rattle.std.specs.List.{AllByRecursion, filter, find, list_any}
+use Rattle.std.proofs.lemmas.Bool.{cond_both, not-true}
+use Rattle.kcl_worker.proofs.Outlooks.{none_found_any}
 use Rattle.kds_base.proofs.Facts.{is_itself, apart}
 use Rattle.kds_defs.specs.declared.command.Command.TheVariants as command
 use Rattle.kds_defs.specs.declared.reply.Refusal.{Refusal}
@@ -13,7 +15,8 @@ use Rattle.kcl_defs.specs.declared.consumer.Why.TheVariants as why
 use Rattle.kcl_defs.specs.declared.consumer.WorkerMade.{WorkerMade}
 use Rattle.kcl_defs.specs.declared.plans.Held.{Held}
 use Rattle.kcl_defs.specs.declared.plans.LeaseId.{LeaseId}
-use Rattle.kcl_defs.specs.Consumers.{Answered, Called, Giving, Leaving, Losing, Opening, Over, Phase, Starting, after_answer, after_call, after_loss, due_call, over_at, was_handed}
+use Rattle.kcl_defs.specs.Consumers.{Answered, Called, Giving, Leaving, Losing, Opening, Over, Phase, Starting}
+use Rattle.kcl_defs.specs.Consumers.{after_answer, after_call, after_loss, due_call, over_at, was_handed}
 use Rattle.kcl_defs.specs.Workers.{Finishing, Freeing, Gave_command, Got_answer, Known, Pending, Stopped, WorkerPast, WorkerState, absorbed, chore_from, consumed, freeing_chore, happens_to, happens_to_first, id_of, id_of_held, is_due_known, is_giving, is_giving_phase, is_idle, is_nothing_held, is_over, is_stopping, next_pending, pending_chore, phase_of_known, same_id, stopping_chore, with_event, without_held, worker_after}
 use Rattle.kcl_live.specs.Records.{with_calls}
 use Rattle.kcl_live.specs.Steps.{IsLost, IsStopped, turns_left}
@@ -32,11 +35,10 @@ givings ks = length (filter is_giving ks)
 -- those that are over aren't there any more
 settled_lost : (ks : List Known) → AreLostOrOver ks → AreLost (filter (λ k. not (is_over k)) ks)
 settled_lost [] all = tt
-settled_lost (k ∷ ks) all = one (is_over k) refl (settled_lost ks all.1)
-  where
-    one : (b : Bool) → is_over k ≡ b → AreLost (filter (λ j. not (is_over j)) ks) → AreLost (cond (not b) (k ∷ filter (λ j. not (is_over j)) ks) (filter (λ j. not (is_over j)) ks))
-    one true e rest = rest
-    one false e rest = (all.0 e, rest)
+settled_lost (k ∷ ks) all =
+    let rest = filter (λ j. not (is_over j)) ks in
+    let lost = settled_lost ks all.1 in
+    cond_both (not (is_over k)) (k ∷ rest) rest AreLost (λ stays. (all.0 (not-true (is_over k) stays), lost)) (λ over. lost)
 
 lost_or_over : (ks : List Known) → AreLost ks → AreLostOrOver ks
 lost_or_over [] all = tt
@@ -71,11 +73,8 @@ after_loss_lost : (p : Phase) → is_some (over_at (after_loss p)) ≡ false →
 after_loss_lost Opening h = absurd cc
 after_loss_lost Starting h = absurd cc
 after_loss_lost (Over why) h = absurd cc
-after_loss_lost (Giving reach waiting asked lost) h = one (was_handed waiting)
-  where
-    one : (b : Bool) → IsLost (if b then Giving reach waiting asked true else Leaving why.Lost)
-    one true = refl
-    one false = tt
+after_loss_lost (Giving reach waiting asked lost) h =
+    cond_both (was_handed waiting) (Giving reach waiting asked true) (Leaving why.Lost) IsLost (λ handed. refl) (λ none. tt)
 after_loss_lost _ h = tt
 
 losing_lost : (ks : List Known) → AreLostOrOver (happens_to (λ k. true) Losing ks)
@@ -95,11 +94,12 @@ called_lost made a _ l d = absurd l
 
 calling_lost : (a : Ask) (ks : List Known) → AreLost ks → AreLostOrOver (happens_to_first is_due_known (Called a) ks)
 calling_lost a [] all = tt
-calling_lost a (k ∷ ks) all = one (is_due_known k) refl (calling_lost a ks all.1)
-  where
-    one : (b : Bool) → is_due_known k ≡ b → AreLostOrOver (happens_to_first is_due_known (Called a) ks) → AreLostOrOver (if b then with_event (Called a) k ∷ ks else k ∷ happens_to_first is_due_known (Called a) ks)
-    one true e rest = ((λ over. absurd (apart (is_over (with_event (Called a) k)) (called_lost k.made a (phase_of_known k) all.0 e).0 over)), lost_or_over ks all.1)
-    one false e rest = ((λ over. all.0), rest)
+calling_lost a (k ∷ ks) all =
+    let called = with_event (Called a) k in
+    let leaves : is_due_known k ≡ true → is_over called ≡ true = λ due. (called_lost k.made a (phase_of_known k) all.0 due).0 in
+    cond_both (is_due_known k) (called ∷ ks) (k ∷ happens_to_first is_due_known (Called a) ks) AreLostOrOver
+    (λ due. ((λ over. absurd (apart (is_over called) (leaves due) over)), lost_or_over ks all.1))
+    (λ quiet. ((λ over. all.0), calling_lost a ks all.1))
 
 calling_fewer : (a : Ask) (ks : List Known) → AreLost ks → givings (happens_to_first is_due_known (Called a) ks) ≤ givings ks
 calling_fewer a [] all = omega arith
@@ -159,14 +159,6 @@ giving_first a (j ∷ js) k all none found =
       omega (arith, ap givings now, count_quiet (with_event (Answered a) j) js l.1, count_giving j js l.2),
     )
 
-any_none : (t : Known → Bool) (ks : List Known) → find t ks ≡ None → list_any t ks ≡ false
-any_none t [] e = refl
-any_none t (k ∷ ks) e = one (t k) e (any_none t ks)
-  where
-    one : (b : Bool) → cond b (Some k) (find t ks) ≡ None → (find t ks ≡ None → list_any t ks ≡ false) → (b || list_any t ks) ≡ false
-    one true e rest = absurd cc
-    one false e rest = rest e
-
 -- the command that comes next leaves less to do
 record Leaves (s t : WorkerState) : Type 0 where
   stopped : IsStopped t
@@ -198,8 +190,8 @@ freed made at a s h hs stopped held none o is =
 idle_then : (s : WorkerState) → IsStopped s → find is_due_known s.consumers ≡ None → find is_giving s.consumers ≡ None → s.held ≡ [] → is_idle s ≡ true
 idle_then s stopped due giving held =
     ap (λ r. is_stopping r && not (list_any is_due_known s.consumers) && not (list_any is_giving s.consumers) && is_nothing_held s.held) stopped.round
-    ∙ ap (λ b. not b && not (list_any is_giving s.consumers) && is_nothing_held s.held) (any_none is_due_known s.consumers due)
-    ∙ ap (λ b. not b && is_nothing_held s.held) (any_none is_giving s.consumers giving)
+    ∙ ap (λ b. not b && not (list_any is_giving s.consumers) && is_nothing_held s.held) (none_found_any is_due_known s.consumers due)
+    ∙ ap (λ b. not b && is_nothing_held s.held) (none_found_any is_giving s.consumers giving)
     ∙ ap is_nothing_held held
 
 turned_by : (made : WorkerMade) (at : ℕ) (a : Result Reply Refusal) (s : WorkerState) (f : Option Known) (held : List Held) → IsStopped s → find is_due_known s.consumers ≡ None → find is_giving s.consumers ≡ f → s.held ≡ held → is_idle s ≡ false

@@ -1,9 +1,10 @@
 -- The workers of a run, side by side with their records.
-use Rattle.std.proofs.Common.{◌≡◌, ℕ, zero, suc, ◌<◌, Bool, true, false, List, [], ◌∷◌, ◌++◌, length, Some, None, refl, sym, ap, subst, arith}
+use Rattle.std.proofs.Common.{◌≡◌, ℕ, zero, suc, ◌<◌, ◌≤◌, Bool, true, false, List, [], ◌∷◌, ◌++◌, length, Some, None, refl, sym, ap, subst, ◌∙◌, arith}
 use Rattle.std.specs.Prelude.{IfSome, get_or, nat_le, nat_lt, if◌then◌else◌, slice_get, slice_set}
 use Rattle.std.specs.List.{AllByRecursion}
 use Rattle.std.proofs.lemmas.Bool.Decides.{nat_tests}
 use Rattle.std.proofs.lemmas.List.{set-set}
+use Rattle.std.proofs.lemmas.Option.{slice_get-get_or, slice_get_past}
 use Rattle.kds_defs.specs.declared.limits.TheConstants.{MOST_ACTOR}
 use Rattle.kcl_sim.specs.Standing.{EmployAll, Employs, IsFree, Stepped, place_among}
 use Rattle.kcl_sim.specs.Workers.{Employed, employed_by, place_of}
@@ -39,20 +40,13 @@ employ_set (v ∷ ws) (d ∷ es) (suc place) w e s h = (s.0, employ_set ws es pl
 
 -- ---- places
 
-none_past : (n : ℕ) (es : List Employed) → (n < length es → ⊥) → slice_get es n ≡ None
-none_past n [] h = refl
-none_past zero (e ∷ es) h = absurd (h (omega arith))
-none_past (suc n) (e ∷ es) h = none_past n es (λ lt. h (omega (arith, lt)))
-
-not_within : (n m : ℕ) → nat_lt n m ≡ false → n < m → ⊥
-not_within n m h g = grind (arith, nat_tests)
-
 nobody_by : (low within : Bool) (by count : ℕ) (es : List Employed) → count ≡ length es → nat_le by MOST_ACTOR ≡ low → nat_lt (place_of by) count ≡ within
     → (if low then None else (if within then Some (place_of by) else None)) ≡ None → (if low then None else slice_get es (place_of by)) ≡ None
 nobody_by true within by count es same l w h = refl
 nobody_by false true by count es same l w h = absurd cc
 nobody_by false false by count es same l w h =
-    none_past (place_of by) es (λ lt. not_within (place_of by) count w (subst (λ n. place_of by < n) (sym same) lt))
+    let past : count ≤ place_of by = grind (arith, nat_tests) in
+    slice_get_past es (place_of by) (subst (λ n. n ≤ place_of by) same past)
 
 -- an actor without a place has no worker
 pub nobody : (by count : ℕ) (es : List Employed) → count ≡ length es → place_among by count ≡ None → employed_by by es ≡ None
@@ -70,9 +64,7 @@ somebody by count place es h = somebody_by (nat_le by MOST_ACTOR) (nat_lt (place
 
 -- what stands at a place within
 pub got_there : (ws : List Stepped) (place : ℕ) (d w : Stepped) → place < length ws → w ≡ get_or ws place d → slice_get ws place ≡ Some w
-got_there [] place d w lt is = absurd (omega (arith, lt))
-got_there (v ∷ ws) zero d w lt is = ap Some (sym is)
-got_there (v ∷ ws) (suc place) d w lt is = got_there ws place d w (omega (arith, lt)) is
+got_there ws place d w lt is = slice_get-get_or ws place d lt ∙ ap Some (sym is)
 
 within_by : (low within : Bool) (by count place : ℕ) → nat_le by MOST_ACTOR ≡ low → nat_lt (place_of by) count ≡ within
     → (if low then None else (if within then Some (place_of by) else None)) ≡ Some place → place < count

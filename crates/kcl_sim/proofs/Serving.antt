@@ -4,6 +4,7 @@ use Rattle.std.specs.Prelude.{◌==◌, if◌then◌else◌, nat_le, option_map,
 use Rattle.std.specs.List.{AllByRecursion}
 use Rattle.std.proofs.lemmas.Bool.Decides.{nat_tests}
 use Rattle.std.proofs.lemmas.List.{length-set, length_push}
+use Rattle.std.proofs.lemmas.Option.{slice_get_within}
 use Rattle.kds_base.specs.declared.lease_key.ShardRef.{ShardRef}
 use Rattle.kds_base.proofs.Facts.{is_itself}
 use Rattle.kds_defs.specs.declared.command.Command.{Command}
@@ -25,7 +26,9 @@ use Rattle.kcl_defs.specs.Lives.{deals_of}
 use Rattle.kcl_hand.specs.Joints.{AreAllServed as AreServed, AreOrderly, AreToldIn, JointPast, Of_worker, hand_of, hands_after, joint_deals, worker_in, worker_past}
 use Rattle.kcl_hand.specs.Runs.{hand_run, turn_of, with_hand}
 use Rattle.kcl_hand.specs.Twice.{IsHandedOffIfFreed, IsNeverReadAgain}
-use Rattle.kcl_defs.specs.Workers.{Chore, Gave_command, Known, Made_call, Pending, Renewing, Release, Surveying, Taking, WorkerState, absorbed, after_chore, after_renewal, after_survey, after_take, is_due_known, is_idle, next_pending, phase_of_known, released, with_deal, worker_after}
+use Rattle.kcl_defs.specs.Workers.{Chore, Gave_command, Known, Made_call, Pending, Renewing, Release, Surveying, Taking, WorkerState}
+use Rattle.kcl_defs.specs.Workers.{absorbed, after_chore, after_renewal, after_survey, after_take}
+use Rattle.kcl_defs.specs.Workers.{is_due_known, is_idle, next_pending, phase_of_known, released, with_deal, worker_after}
 use Rattle.kcl_defs.proofs.StepLemmas.{others_turn}
 use Rattle.kcl_proc.specs.declared.stock.Kind.{Kind}
 use Rattle.kcl_script.specs.declared.line.Line.{Line}
@@ -160,11 +163,6 @@ outer ran turn low t = record {
 
 -- ---- one of them changes
 
-within : (es : List Employed) (place : ℕ) (e : Employed) → slice_get es place ≡ Some e → place < length es
-within [] place e is = absurd cc
-within (d ∷ es) zero e is = omega arith
-within (d ∷ es) (suc place) e is = omega (arith, within es place e is)
-
 -- what stands at a place then
 got_with : (es : List Employed) (p q : ℕ) (x e : Employed) → slice_get (slice_set es p x) q ≡ Some e → ((p ≡ q) × (x ≡ e)) ⊎ ((p ≡ q → ⊥) × (slice_get es q ≡ Some e))
 got_with [] p q x e is = absurd cc
@@ -246,7 +244,8 @@ step_told ran at by None is t = t
 step_told ran at by (Some e) is t =
     let p = placed by ran.workers e is in
     let told = subst (λ n. IsTold ran.history n e) (sym p.0) (t.each (place_of by) e p.1) in
-    command_told ran at by (all_called e) (command_at at (all_called e)) refl p.0 (within ran.workers (place_of by) e p.1) t (told_called ran.history by e told)
+    command_told ran at by (all_called e) (command_at at (all_called e)) refl p.0
+    (slice_get_within ran.workers (place_of by) e p.1) t (told_called ran.history by e told)
 
 stop_told : (ran : Ran) (by : ℕ) (o : Option Employed) → employed_by by ran.workers ≡ o → AreTold ran → AreTold (with_stop ran by o)
 stop_told ran by None is t = t
@@ -271,7 +270,7 @@ hand_told ran at by key None is t = t
 hand_told ran at by key (Some e) is t =
     let p = placed by ran.workers e is in
     let told = subst (λ n. IsTold ran.history n e) (sym p.0) (t.each (place_of by) e p.1) in
-    release_told ran at by key e (release_by key (Some e)) refl p.0 (within ran.workers (place_of by) e p.1) t told
+    release_told ran at by key e (release_by key (Some e)) refl p.0 (slice_get_within ran.workers (place_of by) e p.1) t told
 
 -- what stands at a place with one more
 got_more : (es : List Employed) (x : Employed) (q : ℕ) (e : Employed) → slice_get (es ++ x ∷ []) q ≡ Some e → ((q ≡ length es) × (x ≡ e)) ⊎ (slice_get es q ≡ Some e)

@@ -260,7 +260,7 @@ none_due_any (c ∷ cs) none = head (due_call c.phase) none (λ n. none_due_any 
     head None n rest = rest n
     head (Some due) n rest = absurd cc
 
-none_found_any : {A : Type 0} (t : A → Bool) (xs : List A) → find t xs ≡ None → list_any t xs ≡ false
+pub none_found_any : {A : Type 0} (t : A → Bool) (xs : List A) → find t xs ≡ None → list_any t xs ≡ false
 none_found_any t [] none = refl
 none_found_any {A} t (x ∷ xs) none = head (t x) none (λ n. none_found_any t xs n)
   where
@@ -321,14 +321,16 @@ none_left stands w old is now past none busy left st =
 -- ---- what callers see of a worker, beside its record
 
 -- where no call is due, none is in the record
-pub none_due : {P : Type 0} (stands : P → List Call → Type 0) (cs : List (Standing P)) (ks : List Known) → due_in cs ≡ None → ConsumersStand stands cs ks → find is_due_known ks ≡ None
+pub none_due : {P : Type 0} (stands : P → List Call → Type 0) (cs : List (Standing P)) (ks : List Known)
+    → due_in cs ≡ None → ConsumersStand stands cs ks → find is_due_known ks ≡ None
 none_due stands [] [] none s = refl
 none_due stands [] (k ∷ ks) none s = absurd s
 none_due stands (c ∷ cs) [] none s = absurd s
 none_due stands (c ∷ cs) (k ∷ ks) none s =
     head (due_call c.phase) (due_call (phase_of_known k)) (ap due_call (phase_known stands c k (s.0, s.1))) none (λ n. none_due stands cs ks n s.2)
   where
-    head : (o u : Option Due) → o ≡ u → due_or c o (due_in cs) ≡ None → (due_in cs ≡ None → find is_due_known ks ≡ None) → cond (is_some u) (Some k) (find is_due_known ks) ≡ None
+    head : (o u : Option Due) → o ≡ u → due_or c o (due_in cs) ≡ None → (due_in cs ≡ None → find is_due_known ks ≡ None)
+        → cond (is_some u) (Some k) (find is_due_known ks) ≡ None
     head (Some due) u e n rest = absurd cc
     head None (Some due) e n rest = absurd cc
     head None None e n rest = rest n
@@ -342,11 +344,14 @@ any_same stands f (c ∷ cs) (k ∷ ks) s =
     ap (λ p. f p || list_any (λ d. f d.phase) cs) (phase_known stands c k (s.0, s.1)) ∙ ap (λ r. f (phase_of_known k) || r) (any_same stands f cs ks s.2)
 
 -- it is idle where its record says so
-pub idle_same : {P F : Type 0} (stands : P → List Call → Type 0) (w : WorkerStanding P F) (past : WorkerPast) → StandsFor stands w past → is_idle_in w ≡ is_idle (worker_after w.made past)
+pub idle_same : {P F : Type 0} (stands : P → List Call → Type 0) (w : WorkerStanding P F) (past : WorkerPast)
+    → StandsFor stands w past → is_idle_in w ≡ is_idle (worker_after w.made past)
 idle_same stands w past s =
     let state = worker_after w.made past in
     let shows = s.shows in
+    let same : (f : Phase → Bool) → list_any (λ c. f c.phase) w.consumers ≡ list_any (λ k. f (phase_of_known k)) state.consumers =
+    λ f. any_same stands f w.consumers state.consumers shows.consumers in
     ap (λ r. is_stopping r && not (is_due_in w) && not (is_giving_in w) && is_nothing_held w.held) shows.round
-    ∙ ap (λ b. is_stopping state.round && not b && not (is_giving_in w) && is_nothing_held w.held) (any_same stands (λ p. is_some (due_call p)) w.consumers state.consumers shows.consumers)
-    ∙ ap (λ b. is_stopping state.round && not (list_any is_due_known state.consumers) && not b && is_nothing_held w.held) (any_same stands is_giving_phase w.consumers state.consumers shows.consumers)
+    ∙ ap (λ b. is_stopping state.round && not b && not (is_giving_in w) && is_nothing_held w.held) (same (λ p. is_some (due_call p)))
+    ∙ ap (λ b. is_stopping state.round && not (list_any is_due_known state.consumers) && not b && is_nothing_held w.held) (same is_giving_phase)
     ∙ ap (λ h. is_stopping state.round && not (list_any is_due_known state.consumers) && not (list_any is_giving state.consumers) && is_nothing_held h) shows.held
