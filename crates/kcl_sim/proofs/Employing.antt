@@ -6,7 +6,7 @@ use Rattle.std.proofs.lemmas.Bool.Decides.{nat_tests}
 use Rattle.std.proofs.lemmas.List.{set-set}
 use Rattle.std.proofs.lemmas.Option.{slice_get-get_or, slice_get_past}
 use Rattle.kds_defs.specs.declared.limits.TheConstants.{MOST_ACTOR}
-use Rattle.kcl_sim.specs.Standing.{EmployAll, Employs, IsFree, Stepped, place_among}
+use Rattle.kcl_sim.specs.Standing.{EmployAll, Employs, IsFree, SimValue, Stepped, place_among}
 use Rattle.kcl_sim.specs.Workers.{Employed, employed_by, place_of}
 
 pub employ_length : (ws : List Stepped) (es : List Employed) → EmployAll ws es → length ws ≡ length es
@@ -52,32 +52,35 @@ nobody_by false false by count es same l w h =
 pub nobody : (by count : ℕ) (es : List Employed) → count ≡ length es → place_among by count ≡ None → employed_by by es ≡ None
 nobody by count es same h = nobody_by (nat_le by MOST_ACTOR) (nat_lt (place_of by) count) by count es same refl refl h
 
-somebody_by : (low within : Bool) (by count place : ℕ) (es : List Employed) → nat_le by MOST_ACTOR ≡ low → nat_lt (place_of by) count ≡ within
-    → (if low then None else (if within then Some (place_of by) else None)) ≡ Some place → (place_of by ≡ place) × ((if low then None else slice_get es (place_of by)) ≡ slice_get es place)
-somebody_by true within by count place es l w h = absurd cc
-somebody_by false false by count place es l w h = absurd cc
-somebody_by false true by count place es l w h = let same : place_of by ≡ place = cc in (same, ap (slice_get es) same)
+placed_by : (low within : Bool) (by count place : ℕ) → nat_le by MOST_ACTOR ≡ low → nat_lt (place_of by) count ≡ within
+    → (if low then None else (if within then Some (place_of by) else None)) ≡ Some place → (low ≡ false) × (place_of by ≡ place) × (place < count)
+placed_by true within by count place l w h = absurd cc
+placed_by false false by count place l w h = absurd cc
+placed_by false true by count place l w h =
+    let same : place_of by ≡ place = cc in
+    let lt : place_of by < count = grind (arith, nat_tests) in
+    (refl, same, subst (λ n. n < count) same lt)
 
--- and one with a place has the one there
+-- a place that an actor has lies within
+placed : (by count place : ℕ) → place_among by count ≡ Some place → (nat_le by MOST_ACTOR ≡ false) × (place_of by ≡ place) × (place < count)
+placed by count place h = placed_by (nat_le by MOST_ACTOR) (nat_lt (place_of by) count) by count place refl refl h
+
+-- and one with a place has the worker there
 pub somebody : (by count place : ℕ) (es : List Employed) → place_among by count ≡ Some place → (place_of by ≡ place) × (employed_by by es ≡ slice_get es place)
-somebody by count place es h = somebody_by (nat_le by MOST_ACTOR) (nat_lt (place_of by) count) by count place es refl refl h
+somebody by count place es h =
+    let p = placed by count place h in
+    (p.1, ap (λ b. if b then None else slice_get es (place_of by)) p.0 ∙ ap (slice_get es) p.1)
 
 -- what stands at a place within
 pub got_there : (ws : List Stepped) (place : ℕ) (d w : Stepped) → place < length ws → w ≡ get_or ws place d → slice_get ws place ≡ Some w
 got_there ws place d w lt is = slice_get-get_or ws place d lt ∙ ap Some (sym is)
 
-within_by : (low within : Bool) (by count place : ℕ) → nat_le by MOST_ACTOR ≡ low → nat_lt (place_of by) count ≡ within
-    → (if low then None else (if within then Some (place_of by) else None)) ≡ Some place → place < count
-within_by true within by count place l w h = absurd cc
-within_by false false by count place l w h = absurd cc
-within_by false true by count place l w h =
-    let same : place_of by ≡ place = cc in
-    let lt : place_of by < count = grind (arith, nat_tests) in
-    subst (λ n. n < count) same lt
-
--- a place lies within
-pub within : (by count place : ℕ) → place_among by count ≡ Some place → place < count
-within by count place h = within_by (nat_le by MOST_ACTOR) (nat_lt (place_of by) count) by count place refl refl h
+-- the worker at an actor's place, as the values show it
+pub shown_there : (inside shown : SimValue) (by place : ℕ) (d w : Stepped) → inside ≡ shown → place_among by (length shown.workers) ≡ Some place
+    → w ≡ get_or inside.workers place d → slice_get shown.workers place ≡ Some w
+shown_there inside shown by place d w is there got =
+    let lt = subst (λ (v : SimValue). place < length v.workers) (sym is) (placed by (length shown.workers) place there).2 in
+    ap (λ (v : SimValue). slice_get v.workers place) (sym is) ∙ got_there inside.workers place d w lt got
 
 -- the worker at a place of workers that are all free
 pub free_at : (ws : List Stepped) (place : ℕ) → AllByRecursion IsFree ws → IfSome (slice_get ws place) IsFree

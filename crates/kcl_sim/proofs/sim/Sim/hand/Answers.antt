@@ -1,7 +1,7 @@
-use Rattle.std.proofs.Common.{◌<◌, ◌∷◌, ◌++◌, [], length, ◌∙◌, ap, subst, sym, true, false}
-use Rattle.std.specs.Prelude.{slice_get, slice_set}
+use Rattle.std.proofs.Common.{◌∷◌, ◌++◌, [], ◌∙◌, ap, sym, true, false}
+use Rattle.std.specs.Prelude.{slice_set}
 use Rattle.kcl_sim.specs.Standing.{SimValue}
-use Rattle.kcl_sim.proofs.Employing.{got_there, within}
+use Rattle.kcl_sim.proofs.Employing.{shown_there}
 use Rattle.kcl_sim.proofs.HandLines.{hand_goes, hand_may, nobody_hands, nothing_hands, released_so}
 use Rattle.kcl_sim.proofs.Running.{on_any_err, on_ok_so}
 use Rattle.kcl_sim.proofs.sim.Sim.hand.Goals as goal
@@ -17,13 +17,9 @@ pub returns-in_default-released-clause-goes : goal.returns-in_default-released-c
 returns-in_default-released-clause-goes g c =
     on_ok_so c.print_word-in_default-released.result c.print_word-in_default-released.ensures.ok (λ wrote ran s.
     let there = sym c.place_of.ensures ∙ c.in-Some.is in
-    let lt : c.in-Some.place < length c.self.inside.workers.items =
-    subst (λ (v : SimValue). c.in-Some.place < length v.workers) (sym c.self.view_is)
-    (within c.args.by (length c.args.self.now.workers) c.in-Some.place there) in
     nothing_hands c.args.self.now _ ran c.args.at c.args.by c.in-Some.place c.args.key c.index_mut.result.now c.release-released.new.self c.args.to.now
     c.print_word-in_default-released.new.to s c.requires.going there
-    (ap (λ (v : SimValue). slice_get v.workers c.in-Some.place) (sym c.self.view_is) ∙ got_there c.self.inside.workers.items c.in-Some.place _
-    c.index_mut.result.now lt c.index_mut.ensures.value)
+    (shown_there _ c.args.self.now c.args.by c.in-Some.place _ c.index_mut.result.now c.self.view_is there c.index_mut.ensures.value)
     (ap (λ (v : SimValue). record v { workers = slice_set v.workers c.in-Some.place c.release-released.new.self }) c.self.view_is)
     c.in_default-released.ensures.kept c.in_default-released.ensures.none
     (wrote ∙ ap (λ w. c.args.to.now ++ (w ++ 10 ∷ [])) c.as_slice-in_default-released.ensures))
@@ -31,13 +27,9 @@ returns-in_default-released-clause-goes g c =
 pub returns-in_err-hand_over-clause-breaks : goal.returns-in_err-hand_over-clause-breaks
 returns-in_err-hand_over-clause-breaks g c = on_any_err c.from_residual.result (λ ran s.
     let there = sym c.place_of.ensures ∙ c.in-Some.is in
-    let lt : c.in-Some.place < length c.self.inside.workers.items =
-    subst (λ (v : SimValue). c.in-Some.place < length v.workers) (sym c.self.view_is)
-    (within c.args.by (length c.args.self.now.workers) c.in-Some.place there) in
     hand_may c.args.self.now _ c.hand_over.new.self ran c.args.at c.args.by c.in-Some.place c.args.key c.index_mut.result.now c.release-released.new.self
     c.new.result s c.requires.going there
-    (ap (λ (v : SimValue). slice_get v.workers c.in-Some.place) (sym c.self.view_is) ∙ got_there c.self.inside.workers.items c.in-Some.place _
-    c.index_mut.result.now lt c.index_mut.ensures.value)
+    (shown_there _ c.args.self.now c.args.by c.in-Some.place _ c.index_mut.result.now c.self.view_is there c.index_mut.ensures.value)
     (released_so c.index_mut.result.now c.release-released.new.self c.args.key _ _ c.new.result c.in-Some-released.ensures.some
     c.in-Some-released.ensures.made c.in-Some-released.ensures.maker
     c.new.ensures.held c.new.ensures.made c.new.ensures.stands)
@@ -47,13 +39,9 @@ returns-in_err-hand_over-clause-breaks g c = on_any_err c.from_residual.result (
 pub returns-clause-goes : goal.returns-clause-goes
 returns-clause-goes g c = λ ran s.
     let there = sym c.place_of.ensures ∙ c.in-Some.is in
-    let lt : c.in-Some.place < length c.self.inside.workers.items =
-    subst (λ (v : SimValue). c.in-Some.place < length v.workers) (sym c.self.view_is)
-    (within c.args.by (length c.args.self.now.workers) c.in-Some.place there) in
     hand_goes c.args.self.now _ c.hand_over.new.self _ ran c.args.at c.args.by c.in-Some.place c.args.key c.index_mut.result.now c.release-released.new.self
     c.new.result c.args.to.now c.hand_over.new.to s c.requires.going there
-    (ap (λ (v : SimValue). slice_get v.workers c.in-Some.place) (sym c.self.view_is) ∙ got_there c.self.inside.workers.items c.in-Some.place _
-    c.index_mut.result.now lt c.index_mut.ensures.value)
+    (shown_there _ c.args.self.now c.args.by c.in-Some.place _ c.index_mut.result.now c.self.view_is there c.index_mut.ensures.value)
     (released_so c.index_mut.result.now c.release-released.new.self c.args.key _ _ c.new.result c.in-Some-released.ensures.some
     c.in-Some-released.ensures.made c.in-Some-released.ensures.maker
     c.new.ensures.held c.new.ensures.made c.new.ensures.stands)

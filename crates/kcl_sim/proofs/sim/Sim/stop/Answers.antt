@@ -1,7 +1,7 @@
-use Rattle.std.proofs.Common.{◌<◌, ◌∷◌, ◌++◌, [], length, ◌∙◌, ap, subst, sym}
-use Rattle.std.specs.Prelude.{slice_get, slice_set}
+use Rattle.std.proofs.Common.{◌∷◌, ◌++◌, [], ◌∙◌, ap, sym}
+use Rattle.std.specs.Prelude.{slice_set}
 use Rattle.kcl_sim.specs.Standing.{SimValue}
-use Rattle.kcl_sim.proofs.Employing.{got_there, within}
+use Rattle.kcl_sim.proofs.Employing.{shown_there}
 use Rattle.kcl_sim.proofs.Running.{nobody_stops, on_ok_so, stop_goes}
 use Rattle.kcl_sim.proofs.Stepping.{stop_on}
 use Rattle.kcl_sim.proofs.sim.Sim.stop.Goals as goal
@@ -9,9 +9,8 @@ use Rattle.kcl_sim.proofs.sim.Sim.stop.Goals as goal
 pub returns-in_ok-print_word-in-Some-clause-goes : goal.returns-in_ok-print_word-in-Some-clause-goes
 returns-in_ok-print_word-in-Some-clause-goes g c = λ ran s.
     let there = sym c.place_of.ensures ∙ c.in-Some.is in
-    let lt : c.in-Some.place < length c.self.inside.workers.items = subst (λ (v : SimValue). c.in-Some.place < length v.workers) (sym c.self.view_is) (within c.args.by (length c.args.self.now.workers) c.in-Some.place there) in
     stop_goes c.args.self.now _ ran c.args.at c.args.by c.in-Some.place c.index_mut.result.now c.stop.new.self c.args.to.now c.print_word.new.to s c.requires there
-    (ap (λ (v : SimValue). slice_get v.workers c.in-Some.place) (sym c.self.view_is) ∙ got_there c.self.inside.workers.items c.in-Some.place _ c.index_mut.result.now lt c.index_mut.ensures.value)
+    (shown_there _ c.args.self.now c.args.by c.in-Some.place _ c.index_mut.result.now c.self.view_is there c.index_mut.ensures.value)
     (ap (λ (v : SimValue). record v { workers = slice_set v.workers c.in-Some.place c.stop.new.self }) c.self.view_is)
     (λ e h. stop_on c.index_mut.result.now c.stop.new.self e c.stop.ensures.made c.stop.ensures.maker c.stop.ensures.stands h)
     (c.in_ok-print_word-in-Some.ensures.ok ∙ ap (λ w. c.args.to.now ++ (w ++ 10 ∷ [])) c.as_slice.ensures)
