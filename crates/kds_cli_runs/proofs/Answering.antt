@@ -177,12 +177,7 @@ module _ (output : List Line → List ℕ) (more : JudgesOn) (grows : OutputsOn 
 
 pub replays : (o : Outcome) → IsReplayStatus (status_of o)
 replays outcome.Whole = tt
-replays (outcome.Unfinished n) = tt
-replays outcome.TooLong = tt
-replays (outcome.Stopped n) = tt
-replays outcome.Read = tt
-replays outcome.Write = tt
-replays outcome.Memory = tt
+replays _ = tt
 
 -- the turns of the first lines are lawful, also where memory ran out in the middle of the next one
 abbrev pub LawfulPart : Type 0
@@ -197,33 +192,26 @@ history_made status.Memory bytes lines later s lawful part parts (inl made) = su
 history_made status.Memory bytes lines later s lawful part parts (inr made) = part bytes lines made.1 made.0 s (parts ∙ ap (λ z. lines ++ z) made.2) made.3
 history_made _ bytes lines later s lawful part parts made = subst IsHistory (sym made.history) (lawful bytes lines later parts)
 
+-- the laws of every schedule
+pub record Laws : Type 0 where
+  pub lawful : (bytes : List ℕ) (lines later : List Line) → (judged bytes).lines ≡ lines ++ later → IsHistory (with_schedule fresh lines).history
+  pub part : LawfulPart
+  pub safe : (h : List Turn) → IsHistory h → IsSafe (journal h) (clock h)
+  pub served : (bytes : List ℕ) (lines later : List Line) → (judged bytes).lines ≡ lines ++ later → AreAllServed (with_schedule fresh lines)
+  pub handed : (bytes : List ℕ) → AreHandedOn bytes
+
 -- the state of the turns that ran is safe, and the processors were called for what is given
 pub run_safely : (output : List Line → List ℕ) (status : Status) (bytes : List ℕ) (held now : Option (List ℕ)) (s : SimValue)
-    → ((bytes : List ℕ) (lines later : List Line) → (judged bytes).lines ≡ lines ++ later → IsHistory (with_schedule fresh lines).history)
-    → LawfulPart
-    → ((h : List Turn) → IsHistory h → IsSafe (journal h) (clock h))
-    → ((bytes : List ℕ) (lines later : List Line) → (judged bytes).lines ≡ lines ++ later → AreAllServed (with_schedule fresh lines))
-    → ((bytes : List ℕ) → AreHandedOn bytes)
-    → RanBy output status bytes held now s → RanSafely output status bytes held now
-run_safely output status bytes held now s lawful part safe served handed so = record {
+    → Laws → RanBy output status bytes held now s → RanSafely output status bytes held now
+run_safely output status bytes held now s laws so = record {
   sim = s;
   so = so;
-  safe = safe s.history (history_made status bytes so.lines so.later s lawful part so.parts so.made);
-  served = served bytes so.lines so.later so.parts;
-  handed = handed bytes so.lines so.later so.parts;
+  safe = laws.safe s.history (history_made status bytes so.lines so.later s laws.lawful laws.part so.parts so.made);
+  served = laws.served bytes so.lines so.later so.parts;
+  handed = laws.handed bytes so.lines so.later so.parts;
 }
 
 pub ran_safely : (output : List Line → List ℕ) (status : Status) (all held now : Option (List ℕ)) (s : SimValue)
-    → ((bytes : List ℕ) (lines later : List Line) → (judged bytes).lines ≡ lines ++ later → IsHistory (with_schedule fresh lines).history)
-    → LawfulPart
-    → ((h : List Turn) → IsHistory h → IsSafe (journal h) (clock h))
-    → ((bytes : List ℕ) (lines later : List Line) → (judged bytes).lines ≡ lines ++ later → AreAllServed (with_schedule fresh lines))
-    → ((bytes : List ℕ) → AreHandedOn bytes)
-    → IfSome all (λ bytes. RanBy output status bytes held now s) → IfSome all (λ bytes. RanSafely output status bytes held now)
-ran_safely output status None held now s lawful part safe served handed so = tt
-ran_safely output status (Some bytes) held now s lawful part safe served handed so =
-    run_safely output status bytes held now s lawful part safe served handed so
-
-pub of_each : {P : List ℕ → Type 0} (all : Option (List ℕ)) → ((bytes : List ℕ) → P bytes) → IfSome all P
-of_each None each = tt
-of_each (Some bytes) each = each bytes
+    → Laws → IfSome all (λ bytes. RanBy output status bytes held now s) → IfSome all (λ bytes. RanSafely output status bytes held now)
+ran_safely output status None held now s laws so = tt
+ran_safely output status (Some bytes) held now s laws so = run_safely output status bytes held now s laws so

@@ -7,11 +7,11 @@ use Rattle.kds_defs.specs.Histories.{journal, clock}
 use Rattle.kds_defs.specs.Lawful.{IsHistory}
 use Rattle.kds_defs.specs.Safe.{IsSafe}
 use Rattle.kcl_audit.specs.Audited.{TellsAudit}
-use Rattle.kds_ends.specs.Moments.{Gives}
 use Rattle.kds_ends.specs.declared.status.Status.TheVariants.{Done, Memory, Unsound}
 use Rattle.kds_cli_tasks.specs.declared.task.Task.{Task}
 use Rattle.kds_cli_tasks.specs.declared.task.Task.TheVariants.{Replay, Answer, Audit, Serve, Drill}
 use Rattle.kds_server.specs.Texts.{Tells}
+use Rattle.kds_server.proofs.Turning.{gives_none}
 use Rattle.kds_session.specs.Text.{commands}
 use Rattle.kcl_script.specs.declared.line.Line.{Line}
 use Rattle.kcl_sim.specs.Output.{fresh, with_schedule}
@@ -19,8 +19,9 @@ use Rattle.kcl_sim.specs.Schedule.{history, judged}
 use Rattle.kcl_sim.specs.Serving.{AreAllServed}
 use Rattle.kcl_sim.specs.Standing.{SimValue}
 use Rattle.kds_cli_runs.specs.Answered.{AreHandedOn, RanBy}
+use Rattle.kds_server.specs.Around.{around}
 use Rattle.kds_cli_runs.specs.Ends.{Answers, Audited, Performed, Replayed, ReplayTells, shown}
-use Rattle.kds_cli_runs.proofs.Answering.{LawfulPart, run_safely}
+use Rattle.kds_cli_runs.proofs.Answering.{Laws, run_safely}
 use Rattle.kds_cli_runs.proofs.Journaling.{nothing_recorded, nothing_written}
 
 -- no turn ran
@@ -41,10 +42,6 @@ none_ran output bytes held = record {
   remains = tt;
 }
 
-gives_none : (moments : Option (List ℕ)) → Gives moments [] moments
-gives_none None = tt
-gives_none (Some told) = (refl, refl)
-
 tells_none : (all left held : Option (List ℕ)) → IfSome all (λ bytes. Tells Memory bytes left [] [] held held)
 tells_none None left held = tt
 tells_none (Some bytes) left held = record {
@@ -53,7 +50,7 @@ tells_none (Some bytes) left held = record {
 }
 
 -- a connection that got no command
-unserved : (all left moments held : Option (List ℕ)) → Answers all left moments held held Memory
+unserved : (all left moments held : Option (List ℕ)) → Answers Memory (around all left) (around held held) moments
 unserved all left moments held = record {
   kind = tt;
   spent = moments;
@@ -81,24 +78,21 @@ not_done e = cc
 not_unsound : Memory ≡ Unsound → ⊥
 not_unsound e = cc
 
-unaudited : (all held : Option (List ℕ)) → Audited Memory all held held
+unaudited : (all held : Option (List ℕ)) → Audited Memory all (around held held)
 unaudited all held = record { kind = tt; told = audit_none all held; safe = λ e. absurd (not_done e); legal = λ e. absurd (not_unsound e) }
 
-module _ (lawful : (bytes : List ℕ) (lines later : List Line) → (judged bytes).lines ≡ lines ++ later → IsHistory (with_schedule fresh lines).history)
-    (part : LawfulPart)
-    (safe : (h : List Turn) → IsHistory h → IsSafe (journal h) (clock h))
-    (served : (bytes : List ℕ) (lines later : List Line) → (judged bytes).lines ≡ lines ++ later → AreAllServed (with_schedule fresh lines))
-    (handed : (bytes : List ℕ) → AreHandedOn bytes) where
-  unreplayed : (journal : Bool) (all left held : Option (List ℕ)) → Replayed journal Memory all left held held
+module _ (laws : Laws) where
+  unreplayed : (journal : Bool) (all left held : Option (List ℕ)) → Replayed journal Memory (around all left) (around held held)
   unreplayed journal None left held = record { kind = tt; told = tt; ran = tt; sound = λ j e. tt }
   unreplayed journal (Some bytes) left held = record {
     kind = tt;
     told = told_none journal bytes left held;
-    ran = run_safely (shown journal Memory) Memory bytes held held still lawful part safe served handed (none_ran (shown journal Memory) bytes held);
+    ran = run_safely (shown journal Memory) Memory bytes held held still laws (none_ran (shown journal Memory) bytes held);
     sound = λ j e. absurd (not_done e);
   }
 
-  pub wanting : (task : Task) (bytes left moments held : Option (List ℕ)) → (listens : ℕ → Type 0) → Performed task Memory bytes left moments held held listens
+  pub wanting : (task : Task) (bytes left moments held : Option (List ℕ)) (listens : ℕ → Type 0)
+      → Performed task Memory (record { input = around bytes left; out = around held held; moments = moments; listens = listens })
   wanting (Replay journal) bytes left moments held listens = unreplayed journal bytes left held
   wanting Answer bytes left moments held listens = unserved bytes left moments held
   wanting Audit bytes left moments held listens = unaudited bytes held

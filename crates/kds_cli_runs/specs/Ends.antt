@@ -6,6 +6,7 @@ use Rattle.kcl_audit.specs.Audited.{IsAuditStatus, IsNoJournal, IsSafely, TellsA
 use Rattle.kds_ends.specs.declared.status.Status.{Status}
 use Rattle.kds_ends.specs.declared.status.Status.TheVariants.{Done, Unsound, Write, Memory, Door}
 use Rattle.kds_ends.specs.Causes.{AppendsPart}
+use Rattle.kds_server.specs.Around.{Around, around}
 use Rattle.kds_server.specs.Texts.{IsAnswerStatus}
 use Rattle.kds_server.specs.Serving.{Served}
 use Rattle.kds_cli_tasks.specs.declared.task.Task.{Task}
@@ -32,29 +33,29 @@ ReplayTells true status bytes left held now = JournalTells status bytes left hel
 
 -- A replay ended so: its output is told by the bytes, the turns that ran are those of the lines that were answered, and with
 -- Memory perhaps the first turns of one more, and an audit finds a journal sound that was written to its end.
-pub record Replayed (journal : Bool) (status : Status) (bytes left held now : Option (List ℕ)) : Type 0 where
+pub record Replayed (journal : Bool) (status : Status) (input out : Around (Option (List ℕ))) : Type 0 where
   pub kind : IsReplayStatus status
-  pub told : IfSome bytes (λ bs. ReplayTells journal status bs left held now)
-  pub ran : IfSome bytes (λ bs. RanSafely (shown journal status) status bs held now)
-  pub sound : journal ≡ true → status ≡ Done → IfSome bytes IsAuditedSound
+  pub told : IfSome input.before (λ bs. ReplayTells journal status bs input.after out.before out.after)
+  pub ran : IfSome input.before (λ bs. RanSafely (shown journal status) status bs out.before out.after)
+  pub sound : journal ≡ true → status ≡ Done → IfSome input.before IsAuditedSound
 
 -- ---- an audit
 
 -- An audit ended so: what it wrote is told by the bytes; a sound text is that of a legal journal, whose state is safe, and
 -- an unsound one that of no legal journal.
-pub record Audited (status : Status) (bytes held now : Option (List ℕ)) : Type 0 where
+pub record Audited (status : Status) (bytes : Option (List ℕ)) (out : Around (Option (List ℕ))) : Type 0 where
   pub kind : IsAuditStatus status
-  pub told : IfSome bytes (λ bs. TellsAudit status bs held now)
+  pub told : IfSome bytes (λ bs. TellsAudit status bs out.before out.after)
   pub safe : status ≡ Done → IfSome bytes IsSafely
   pub legal : status ≡ Unsound → IfSome bytes IsNoJournal
 
 -- ---- connections
 
 -- The machine without turns served a connection, whose end is this; the clock tells so many moments then.
-pub record Answers (all left moments start held : Option (List ℕ)) (status : Status) : Type 0 where
+pub record Answers (status : Status) (input out : Around (Option (List ℕ))) (moments : Option (List ℕ)) : Type 0 where
   pub kind : IsAnswerStatus status
   pub spent : Option (List ℕ)
-  pub served : Served [] all left moments spent start held status
+  pub served : Served [] input (around moments spent) out status
 
 -- it was written that the door listens, and it does; or nothing was
 abbrev pub SaysThatItListens : Option (List ℕ) → Option (List ℕ) → Type 0 → Type 0
@@ -70,13 +71,21 @@ ServeTells _ held now listens = ⊥
 
 -- ---- all of them
 
--- the run of a task ended so, where `listens` says that the door listens at a port
-abbrev pub Performed : Task → Status → Option (List ℕ) → Option (List ℕ) → Option (List ℕ) → Option (List ℕ) → Option (List ℕ) → (ℕ → Type 0) → Type 0
-Performed (Replay journal) status bytes left moments held now listens = Replayed journal status bytes left held now
-Performed Answer status bytes left moments held now listens = Answers bytes left moments held now status
-Performed Audit status bytes left moments held now listens = Audited status bytes held now
-Performed (Serve port passes) status bytes left moments held now listens = ServeTells status held now (listens port)
-Performed (Drill number workers records) status bytes left moments held now listens = DrillTells status number records held now
+-- The ends of a task: the bytes that are left of the input and those that the output has, before the run and after it; the moments
+-- that the clock tells; and whether the door then listens at a port. An end that doesn't report its bytes or moments has None.
+pub record TaskEnds : Type 1 where
+  pub input : Around (Option (List ℕ))
+  pub out : Around (Option (List ℕ))
+  pub moments : Option (List ℕ)
+  pub listens : ℕ → Type 0
+
+-- the run of a task ended so over these ends
+abbrev pub Performed : Task → Status → TaskEnds → Type 0
+Performed (Replay journal) status ends = Replayed journal status ends.input ends.out
+Performed Answer status ends = Answers status ends.input ends.out ends.moments
+Performed Audit status ends = Audited status ends.input.before ends.out
+Performed (Serve port passes) status ends = ServeTells status ends.out.before ends.out.after (ends.listens port)
+Performed (Drill number workers records) status ends = DrillTells status number records ends.out.before ends.out.after
 
 -- the task serves a door
 abbrev pub serves_door : Task → Bool

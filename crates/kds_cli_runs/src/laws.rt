@@ -9,6 +9,7 @@ ghost use Rattle.kds_cli_tasks.specs.declared.task.Task.{Task};
 ghost use Rattle.kcl_sim.specs.Schedule.{history, ran};
 ghost use Rattle.kcl_sim.specs.Serving.{AreAllServed};
 ghost use Rattle.kds_cli_runs.specs.Answered.{AreHandedOn};
+ghost use Rattle.kds_server.specs.Around.{around};
 ghost use Rattle.kds_cli_runs.specs.Ends.{Performed};
 
 use kcl_sim::{lawful, served};
@@ -36,7 +37,8 @@ pub fn schedules()
 
 /// Want of memory before anything is read is an end of each task, whose door doesn't listen.
 pub fn no_room()
-    ensures { (task : Task) (bytes left moments held : Option (List ℕ)) → Performed task Status.Memory bytes left moments held held (λ port. ⊥) }
+    ensures { (task : Task) (bytes left moments held : Option (List ℕ)) → Performed task Status.Memory
+        (record { input = around bytes left; out = around held held; moments = moments; listens = λ port. ⊥ }) }
 {
     lawful();
     safety();

@@ -8,6 +8,7 @@ ghost use Rattle.kds_cli_tasks.specs.declared.task.Task.TheVariants.{Replay};
 ghost use Rattle.kcl_sim.specs.Schedule.{history, ran};
 ghost use Rattle.kcl_sim.specs.Serving.{AreAllServed};
 ghost use Rattle.kds_cli_runs.specs.Answered.{AreHandedOn};
+ghost use Rattle.kds_server.specs.Around.{around};
 ghost use Rattle.kds_cli_runs.specs.Completed.{Completed};
 ghost use Rattle.kds_cli_runs.specs.Ends.{Performed};
 ghost use Rattle.kds_cli_runs.specs.Journal.{IsAuditedSound};
@@ -43,8 +44,8 @@ where
     ensures usage { result ≡ Status.Usage → task_of (texts_of words.now.items) ≡ None }
     ensures refused { task_of (texts_of words.now.items) ≡ None → (result ≡ Status.Usage) ⊎ (result ≡ Status.Memory) }
     ensures untouched { task_of (texts_of words.now.items) ≡ None → (input.new ≡ input.old) × (out.new ≡ out.old) }
-    ensures performed { IfSome (task_of (texts_of words.now.items)) (λ task.
-        Performed task result (S.left input.old) (S.left input.new) (C.moments clock) (K.held out.old) (K.held out.new) (D.listens door.new)) }
+    ensures performed { IfSome (task_of (texts_of words.now.items)) (λ task. Performed task result
+        (record { input = around (S.left input.old) (S.left input.new); out = around (K.held out.old) (K.held out.new); moments = C.moments clock; listens = D.listens door.new })) }
     ensures door_left { asks_for_door (task_of (texts_of words.now.items)) ≡ false → door.new ≡ door.old }
     ensures input_left { asks_for_input (task_of (texts_of words.now.items)) ≡ false → input.new ≡ input.old }
     ensures complete { (Rose (S.faults input.old) (S.faults input.new) → ⊥) → (Rose (K.faults out.old) (K.faults out.new) → ⊥)
@@ -92,8 +93,12 @@ where
     ensures door_left { asks_for_door (task_of (texts_of words.now.items)) ≡ false → door.new ≡ door.old }
     ensures input_left { asks_for_input (task_of (texts_of words.now.items)) ≡ false → input.new ≡ input.old }
     // Each task ends as told, and the error output is told this very end.
-    ensures ended { EndsSo result words.now.items (S.left input.old) (S.left input.new) (C.moments clock)
-        (K.held out.old) (K.held out.new) (E.held err.old) (E.held err.new) (E.faults err.old) (E.faults err.new) (D.listens door.new) }
+    ensures ended { EndsSo result words.now.items (record {
+      input = around (S.left input.old) (S.left input.new);
+      out = around (K.held out.old) (K.held out.new);
+      moments = C.moments clock;
+      listens = D.listens door.new;
+    }) (around (E.held err.old) (E.held err.new)) (around (E.faults err.old) (E.faults err.new)) }
     // Over ends whose faults don't rise each task ends as the bytes of its input decide, or by want of memory.
     ensures complete { (Rose (S.faults input.old) (S.faults input.new) → ⊥) → (Rose (K.faults out.old) (K.faults out.new) → ⊥)
         → (Rose (D.faults door.old) (D.faults door.new) → ⊥) → CompletesSo result words.now.items (S.left input.old) }

@@ -5,6 +5,7 @@ ghost use Rattle.kds_defs.specs.Safe.{IsSafe};
 ghost use Rattle.kds_ends.specs.Causes.{Rose};
 ghost use Rattle.kcl_sim.specs.Schedule.{history, ran};
 ghost use Rattle.kcl_sim.specs.Serving.{AreAllServed};
+ghost use Rattle.kds_server.specs.Around.{around};
 ghost use Rattle.kds_server.specs.Texts.{EndsAs, IsAnswerStatus, IsCrewStatus};
 ghost use Rattle.kds_server.specs.Serving.{Served};
 ghost use Rattle.kds_cli_runs.specs.Answered.{AreHandedOn, RanSafely};
@@ -86,7 +87,8 @@ pub fn run_answer<S: Source, K: Sink, C: Clock>(
 ) -> Status
     // The turns are those of the commands, each at its moment from the clock. Over a source that tells its bytes, the
     // commands, the responses and the end are those of these bytes.
-    ensures served { Served [] (S.left input.old) (S.left input.new) (C.moments clock.old) (C.moments clock.new) (K.held out.old) (K.held out.new) result }
+    ensures served { Served [] (around (S.left input.old) (S.left input.new)) (around (C.moments clock.old) (C.moments clock.new))
+        (around (K.held out.old) (K.held out.new)) result }
 
     // Over ends whose faults don't rise the connection ends as its bytes do, unless memory runs out.
     ensures complete { (Rose (S.faults input.old) (S.faults input.new) → ⊥) → (Rose (K.faults out.old) (K.faults out.new) → ⊥)

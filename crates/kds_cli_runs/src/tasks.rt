@@ -2,6 +2,7 @@
 ghost use Rattle.std.specs.Prelude.{◌≡◌, false};
 ghost use Rattle.kds_ends.specs.Causes.{Rose};
 ghost use Rattle.kds_cli_tasks.specs.Words.{IsWithin};
+ghost use Rattle.kds_server.specs.Around.{around};
 ghost use Rattle.kds_cli_runs.specs.Completed.{Completed};
 ghost use Rattle.kds_cli_runs.specs.Ends.{Performed, reads_input, serves_door};
 
@@ -34,7 +35,8 @@ where
     D::Input: Send,
     D::Output: Send,
     requires { IsWithin task }
-    ensures performed { Performed task result (S.left input.old) (S.left input.new) (C.moments clock) (K.held out.old) (K.held out.new) (D.listens door.new) }
+    ensures performed { Performed task result
+        (record { input = around (S.left input.old) (S.left input.new); out = around (K.held out.old) (K.held out.new); moments = C.moments clock; listens = D.listens door.new }) }
     // A task leaves the ends that it hasn't.
     ensures door_left { serves_door task ≡ false → door.new ≡ door.old }
     ensures input_left { reads_input task ≡ false → input.new ≡ input.old }

@@ -119,9 +119,6 @@ tells_part first (Some bytes) (Some rest) s given told start held now r o =
 pub front_none : (held : Option (List ℕ)) (text : List ℕ) → AppendsFront held held text
 front_none held text = ([], text, refl, Appends-nil held)
 
-pub front_all : (held now : Option (List ℕ)) (text : List ℕ) → Appends held now text → AppendsFront held now text
-front_all held now text a = (text, [], sym (append-nil text), a)
-
 -- where memory ran out
 pub tells_so_far : FirstPart → (all left : Option (List ℕ)) (s : SessionState) (given : List Command) (told : Answers) (start held : Option (List ℕ)) → Reads all left s start held given told → IfSome all (λ bytes. WrittenPart bytes given told start held)
 tells_so_far first all left s given told start held r = tells_part first all left s given told start held held r (front_none held s.output)
@@ -161,24 +158,15 @@ tells_told (Some bytes) given told a start held p = part_told bytes given told a
 
 pub kind_at : (e : Ending) → IsAnswerStatus (status_at e)
 kind_at boundary = tt
-kind_at inside = tt
-kind_at closed = tt
-kind_at (refused status) = tt
+kind_at _ = tt
 
 pub end_not_read : (e : Ending) → status_at e ≡ Read → ⊥
 end_not_read boundary h = cc
-end_not_read inside h = cc
-end_not_read closed h = cc
-end_not_read (refused status) h = cc
+end_not_read _ h = cc
 
 pub end_not_write : (e : Ending) → status_at e ≡ Write → ⊥
 end_not_write boundary h = cc
-end_not_write inside h = cc
-end_not_write closed h = cc
-end_not_write (refused status) h = cc
-
-pub same_some : (s t : Status) → Some s ≡ Some t → s ≡ t
-same_some s t e = cc
+end_not_write _ h = cc
 
 pub some_none : (s : Status) → Some s ≡ None → ⊥
 some_none s e = cc

@@ -7,6 +7,7 @@ use Rattle.kds_ends.specs.Moments.{Gives}
 use Rattle.kds_ends.specs.declared.status.Status.{Status}
 use Rattle.kds_ends.specs.declared.status.Status.TheVariants.{Memory}
 use Rattle.kds_session.specs.Text.{Answers}
+use Rattle.kds_server.specs.Around.{Around}
 use Rattle.kds_server.specs.Turns.{turns_at, followed, TurnsMade}
 use Rattle.kds_server.specs.Texts.{Tells}
 
@@ -15,22 +16,23 @@ abbrev pub AsksAtMostOnce : Status → Option (List ℕ) → Option (List ℕ) �
 AsksAtMostOnce Memory before now = (now ≡ before) ⊎ ((at : ℕ) × Gives before (at ∷ []) now)
 AsksAtMostOnce _ before now = now ≡ before
 
--- A connection that began after this history ended so. Its commands became turns. Where the source tells its bytes,
+-- A connection that began after this history ended so: the input, the clock's moments and the output are those of before and
+-- after it. Its commands became turns. Where the source tells its bytes,
 -- the commands, the text and the end are those of these bytes.
-pub record Served (h : List Turn) (all left before now start held : Option (List ℕ)) (status : Status) : Type 0 where
+pub record Served (h : List Turn) (input clock out : Around (Option (List ℕ))) (status : Status) : Type 0 where
   pub given : List Command
   pub told : Answers
   pub between : Option (List ℕ)
-  pub made : TurnsMade h before between given told
-  pub asked : AsksAtMostOnce status between now
-  pub tells : IfSome all (λ bytes. Tells status bytes left given told start held)
+  pub made : TurnsMade h clock.before between given told
+  pub asked : AsksAtMostOnce status between clock.after
+  pub tells : IfSome input.before (λ bytes. Tells status bytes input.after given told out.before out.after)
 
 -- the turns that it made
-abbrev pub turns_of : {h : List Turn} {all left before now start held : Option (List ℕ)} {status : Status} → Served h all left before now start held status → List Turn
+abbrev pub turns_of : {h : List Turn} {input clock out : Around (Option (List ℕ))} {status : Status} → Served h input clock out status → List Turn
 turns_of s = turns_at s.made.moments s.given
 
--- Whatever history the first machine stood for, the connection ended so after it, and the last machine stands for that
+-- Whatever history the machine stood for before, the connection ended so after it, and the machine then stands for that
 -- history followed by just the turns of the connection.
-abbrev pub ServedAfter : {M : Type 0} → (M → List Turn → Type 0) → (first last : M) (all left before now start held : Option (List ℕ)) (status : Status) → Type 0
-ServedAfter stands_for first last all left before now start held status =
-    (h : List Turn) → stands_for first h → (served : Served h all left before now start held status) × stands_for last (followed h (turns_of served))
+abbrev pub ServedAfter : {M : Type 0} → (M → List Turn → Type 0) → Around M → (input clock out : Around (Option (List ℕ))) (status : Status) → Type 0
+ServedAfter stands_for machine input clock out status =
+    (h : List Turn) → stands_for machine.before h → (served : Served h input clock out status) × stands_for machine.after (followed h (turns_of served))

@@ -10,6 +10,7 @@ use Rattle.kds_head.specs.declared.numbers.TheConstants.{HEAD_BYTES, BODY_BYTES}
 use Rattle.kds_session.specs.Text.{Answers}
 use Rattle.kds_session.specs.States.{SessionState}
 use Rattle.kds_session.specs.Standing.{traffic, StandsFor, to_come}
+use Rattle.kds_server.specs.Around.{Around, around}
 use Rattle.kds_server.specs.Serving.{AsksAtMostOnce}
 use Rattle.kds_server.specs.Texts.{Tells}
 
@@ -28,20 +29,20 @@ pub record Taken (makes : List ℕ → Type 0) (before now : Option (List ℕ)) 
   pub made : makes moments
 
 -- The commands so far were taken, and got these answers.
-pub record Running (makes : List ℕ → List Command → Answers → Type 0) (all left : Option (List ℕ)) (session : SessionState) (before now start held : Option (List ℕ)) : Type 0 where
+pub record Running (makes : List ℕ → List Command → Answers → Type 0) (session : SessionState) (input clock out : Around (Option (List ℕ))) : Type 0 where
   pub given : List Command
   pub told : Answers
-  pub reads : Reads all left session start held given told
-  pub taken : Taken (λ moments. makes moments given told) before now
+  pub reads : Reads input.before input.after session out.before out.after given told
+  pub taken : Taken (λ moments. makes moments given told) clock.before clock.after
 
 -- The connection ended so, after its commands were taken and got these answers.
-pub record Ended (makes : List ℕ → List Command → Answers → Type 0) (all left before now start held : Option (List ℕ)) (status : Status) : Type 0 where
+pub record Ended (makes : List ℕ → List Command → Answers → Type 0) (input clock out : Around (Option (List ℕ))) (status : Status) : Type 0 where
   pub given : List Command
   pub told : Answers
   pub between : Option (List ℕ)
-  pub taken : Taken (λ moments. makes moments given told) before between
-  pub asked : AsksAtMostOnce status between now
-  pub tells : IfSome all (λ bytes. Tells status bytes left given told start held)
+  pub taken : Taken (λ moments. makes moments given told) clock.before between
+  pub asked : AsksAtMostOnce status between clock.after
+  pub tells : IfSome input.before (λ bytes. Tells status bytes input.after given told out.before out.after)
 
 -- ---- whatever was before
 
@@ -56,24 +57,34 @@ EndsThere left session held left_now held_now status =
     (all start : Option (List ℕ)) (given : List Command) (told : Answers) → Reads all left session start held given told
     → IfSome all (λ bytes. Tells status bytes left_now given told start held_now)
 
+-- where a connection stands: the state of what makes its turns, its session, what is left of its input, its clock's moments, and
+-- what its output has
+pub record Point (S : Type 0) : Type 0 where
+  pub state : S
+  pub session : SessionState
+  pub left : Option (List ℕ)
+  pub clock : Option (List ℕ)
+  pub held : Option (List ℕ)
+
 -- what was taken so far, from the first state on
 module _ {S : Type 0} (made : S → List ℕ → List Command → Answers → S → Type 0) where
   abbrev pub MadeFrom : S → S → List ℕ → List Command → Answers → Type 0
   MadeFrom first now moments given told = made first moments given told now
 
-  -- the connection that ran so runs on so
-  abbrev pub RunsOn : (state : S) (left : Option (List ℕ)) (session : SessionState) (clock held : Option (List ℕ)) (state_now : S) (left_now : Option (List ℕ)) (session_now : SessionState) (clock_now held_now : Option (List ℕ)) → Type 0
-  RunsOn state left session clock held state_now left_now session_now clock_now held_now =
-      (first : S) (all before start : Option (List ℕ))
-      → Running (MadeFrom first state) all left session before clock start held
-      → Running (MadeFrom first state_now) all left_now session_now before clock_now start held_now
+  -- from these on a connection ran to here
+  abbrev pub RunsTo : (first : S) (all before start : Option (List ℕ)) → Point S → Type 0
+  RunsTo first all before start here =
+      Running (MadeFrom first here.state) here.session (around all here.left) (around before here.clock) (around start here.held)
 
-  -- the connection that ran so ended so
-  abbrev pub RunsOut : (state : S) (left : Option (List ℕ)) (session : SessionState) (clock held : Option (List ℕ)) (state_now : S) (left_now clock_now held_now : Option (List ℕ)) (status : Status) → Type 0
-  RunsOut state left session clock held state_now left_now clock_now held_now status =
-      (first : S) (all before start : Option (List ℕ))
-      → Running (MadeFrom first state) all left session before clock start held
-      → Ended (MadeFrom first state_now) all left_now before clock_now start held_now status
+  -- a connection that stands here runs on to there
+  abbrev pub RunsOn : Point S → Point S → Type 0
+  RunsOn here there = (first : S) (all before start : Option (List ℕ)) → RunsTo first all before start here → RunsTo first all before start there
+
+  -- or it ended there, so
+  abbrev pub RunsOut : Point S → Point S → Status → Type 0
+  RunsOut here there status =
+      (first : S) (all before start : Option (List ℕ)) → RunsTo first all before start here
+      → Ended (MadeFrom first there.state) (around all there.left) (around before there.clock) (around start there.held) status
 
   -- a command that waits was taken, and got its answer
   abbrev pub TakesOne : (what : Command) (state : S) (session : SessionState) (clock : Option (List ℕ)) (state_now : S) (session_now : SessionState) (clock_now : Option (List ℕ)) → Type 0
@@ -81,7 +92,7 @@ module _ {S : Type 0} (made : S → List ℕ → List Command → Answers → S 
       (first : S) (all left before start held : Option (List ℕ)) (given : List Command) (told : Answers)
       → Taken (λ moments. made first moments given told state) before clock
       → Reads all left session start held (given ++ what ∷ []) told
-      → Running (MadeFrom first state_now) all left session_now before clock_now start held
+      → Running (MadeFrom first state_now) session_now (around all left) (around before clock_now) (around start held)
 
   -- a command that waits was taken, or it wasn't, and memory ran out
   abbrev pub TakesNone : (what : Command) (state : S) (session : SessionState) (clock : Option (List ℕ)) (state_now : S) (clock_now : Option (List ℕ)) → Type 0
@@ -89,7 +100,7 @@ module _ {S : Type 0} (made : S → List ℕ → List Command → Answers → S 
       (first : S) (all left before start held : Option (List ℕ)) (given : List Command) (told : Answers)
       → Taken (λ moments. made first moments given told state) before clock
       → Reads all left session start held (given ++ what ∷ []) told
-      → Ended (MadeFrom first state_now) all left before clock_now start held Memory
+      → Ended (MadeFrom first state_now) (around all left) (around before clock_now) (around start held) Memory
 
 -- the bytes that an unfinished message may have, at most
 abbrev pub ROOM : ℕ

@@ -1,9 +1,10 @@
 use Rattle.std.proofs.Common.{◌≡◌, Some, refl, sym, inl, inr, ◌∙◌}
 use Rattle.kds_ends.specs.declared.status.Status.TheVariants.{Memory}
 use Rattle.kds_cli_tasks.specs.Words.{task_of, texts_of}
+use Rattle.kds_server.specs.Around.{around}
 use Rattle.kds_cli_runs.specs.Completed.{Completed}
 use Rattle.kds_cli_runs.specs.Ends.{Performed}
-use Rattle.kds_cli_runs.proofs.Asked.{completed_by, listens_or_not, no_door, no_input, none_completed, not_none, performed_by}
+use Rattle.kds_cli_runs.proofs.Asked.{asked_so, listens_or_not, no_door, no_input, none_completed, not_none}
 use Rattle.kds_cli_runs.proofs.Codes.{each, no_usage}
 use Rattle.kds_cli_runs.proofs.program.perform_words.Goals as goal
 
@@ -25,12 +26,12 @@ returns-in-Ok-Some-clause-untouched g c =
 
 pub returns-in-Ok-Some-clause-performed : goal.returns-in-Ok-Some-clause-performed
 returns-in-Ok-Some-clause-performed g c =
-    performed_by (task_of (texts_of c.args.words.now.items)) c.in-Ok-Some.task c.perform.result (g.S.Source.left c.args.input.now) _ _ _ _ _
-    (sym c.in-Ok-Some.field-0-is ∙ c.in-Ok-Some.ensures.task) c.perform.ensures.performed
+    asked_so _ (task_of (texts_of c.args.words.now.items)) c.in-Ok-Some.task (sym c.in-Ok-Some.field-0-is ∙ c.in-Ok-Some.ensures.task)
+    c.perform.ensures.performed
 
 pub returns-in-Ok-Some-clause-complete : goal.returns-in-Ok-Some-clause-complete
 returns-in-Ok-Some-clause-complete g c = λ read write door.
-    completed_by (task_of (texts_of c.args.words.now.items)) c.in-Ok-Some.task c.perform.result _ (sym c.in-Ok-Some.field-0-is ∙ c.in-Ok-Some.ensures.task)
+    asked_so _ (task_of (texts_of c.args.words.now.items)) c.in-Ok-Some.task (sym c.in-Ok-Some.field-0-is ∙ c.in-Ok-Some.ensures.task)
     (c.perform.ensures.complete read write door)
 
 pub returns-in-Ok-Some-clause-door_left : goal.returns-in-Ok-Some-clause-door_left
@@ -74,8 +75,14 @@ pub returns-in-Err-clause-untouched : goal.returns-in-Err-clause-untouched
 returns-in-Err-clause-untouched g c = λ none. (refl, refl)
 
 pub returns-in-Err-clause-performed : goal.returns-in-Err-clause-performed
-returns-in-Err-clause-performed g c = each (λ task. Performed task Memory _ _ _ _ _ _)
-    (λ task. listens_or_not task _ _ _ _ _ _ (c.no_room.ensures task _ _ _ _)) (task_of (texts_of c.args.words.now.items))
+returns-in-Err-clause-performed g c =
+    let left = g.S.Source.left c.args.input.now in
+    let held = g.K.Sink.held c.args.out.now in
+    let moments = g.C.Clock.moments c.args.clock in
+    let listens = g.D.Door.listens c.args.door.now in
+    each (λ task. Performed task Memory (record { input = around left left; out = around held held; moments = moments; listens = listens }))
+    (λ task. listens_or_not task (around left left) (around held held) moments listens (c.no_room.ensures task left left moments held))
+    (task_of (texts_of c.args.words.now.items))
 
 pub returns-in-Err-clause-complete : goal.returns-in-Err-clause-complete
 returns-in-Err-clause-complete g c = λ read write door. each (λ task. Completed task Memory _) (λ task. none_completed task _)

@@ -59,5 +59,5 @@ returns-clause-door g c = λ eight. c.perform_words-status.ensures.door (door_by
 
 pub returns-clause-sound : goal.returns-clause-sound
 returns-clause-sound g c = λ zero asked.
-    sound_by _ c.perform_words-status.result (g.S.Source.left c.args.input.now) _ _ _ _ _ c.perform_words-status.ensures.performed asked
+    sound_by _ c.perform_words-status.result _ c.perform_words-status.ensures.performed asked
     (done_by c.perform_words-status.result (sym c.code.ensures ∙ zero))

@@ -4,7 +4,8 @@ use Rattle.kcl_sim.specs.Schedule.{ran}
 use Rattle.kcl_sim.specs.Serving.{AreAllServed}
 use Rattle.kds_cli_runs.specs.Answered.{AreHandedOn}
 use Rattle.kds_cli_runs.specs.Journal.{recorded}
-use Rattle.kds_cli_runs.proofs.Answering.{of_each, ran_safely}
+use Rattle.kds_cli_runs.proofs.Answering.{ran_safely}
+use Rattle.kds_cli_runs.proofs.Codes.{each}
 use Rattle.kds_cli_runs.proofs.Completing.{replays}
 use Rattle.kds_cli_runs.proofs.Journaling.{false_true}
 use Rattle.kds_cli_runs.proofs.runs.run_replay.Goals as goal
@@ -15,8 +16,14 @@ returns-then-journal-clause-told g c = rw c.if-journal.true c.record_schedule.en
 pub returns-then-journal-clause-ran : goal.returns-then-journal-clause-ran
 returns-then-journal-clause-ran g c =
     rw c.if-journal.true
-    (ran_safely (recorded c.record_schedule.result.status) c.record_schedule.result.status (g.S.Source.left c.args.input.now) _ _ c.record_schedule.result.recorder
-    c.lawful.ensures.first c.lawful.ensures.part c.safety.ensures c.served.ensures.first c.schedules.ensures.handed c.record_schedule.ensures.ran)
+    (ran_safely (recorded c.record_schedule.result.status) c.record_schedule.result.status (g.S.Source.left c.args.input.now) _ _
+    c.record_schedule.result.recorder (record {
+      lawful = c.lawful.ensures.first;
+      part = c.lawful.ensures.part;
+      safe = c.safety.ensures;
+      served = c.served.ensures.first;
+      handed = c.schedules.ensures.handed;
+    }) c.record_schedule.ensures.ran)
 
 pub returns-clause-told : goal.returns-clause-told
 returns-clause-told g c = rw c.if-journal.false c.run_schedule.ensures.told
@@ -25,7 +32,13 @@ pub returns-clause-ran : goal.returns-clause-ran
 returns-clause-ran g c =
     rw c.if-journal.false
     (ran_safely (outputs fresh) c.run_schedule.result.status (g.S.Source.left c.args.input.now) _ _ c.run_schedule.result.sim
-    c.lawful.ensures.first c.lawful.ensures.part c.safety.ensures c.served.ensures.first c.schedules.ensures.handed c.run_schedule.ensures.ran)
+    (record {
+      lawful = c.lawful.ensures.first;
+      part = c.lawful.ensures.part;
+      safe = c.safety.ensures;
+      served = c.served.ensures.first;
+      handed = c.schedules.ensures.handed;
+    }) c.run_schedule.ensures.ran)
 
 pub returns-then-journal-clause-sound : goal.returns-then-journal-clause-sound
 returns-then-journal-clause-sound g c = λ asked done. c.record_schedule.ensures.sound done
@@ -44,13 +57,13 @@ returns-clause-complete g c = λ read write.
     c.run_schedule.ensures.told
 
 pub returns-then-journal-clause-served : goal.returns-then-journal-clause-served
-returns-then-journal-clause-served g c = of_each {P = λ bytes. AreAllServed (ran bytes)} (g.S.Source.left c.args.input.now) c.served.ensures.whole
+returns-then-journal-clause-served g c = each (λ bytes. AreAllServed (ran bytes)) c.served.ensures.whole (g.S.Source.left c.args.input.now)
 
 pub returns-clause-served : goal.returns-clause-served
-returns-clause-served g c = of_each {P = λ bytes. AreAllServed (ran bytes)} (g.S.Source.left c.args.input.now) c.served.ensures.whole
+returns-clause-served g c = each (λ bytes. AreAllServed (ran bytes)) c.served.ensures.whole (g.S.Source.left c.args.input.now)
 
 pub returns-then-journal-clause-handed : goal.returns-then-journal-clause-handed
-returns-then-journal-clause-handed g c = of_each {P = AreHandedOn} (g.S.Source.left c.args.input.now) c.schedules.ensures.handed
+returns-then-journal-clause-handed g c = each AreHandedOn c.schedules.ensures.handed (g.S.Source.left c.args.input.now)
 
 pub returns-clause-handed : goal.returns-clause-handed
-returns-clause-handed g c = of_each {P = AreHandedOn} (g.S.Source.left c.args.input.now) c.schedules.ensures.handed
+returns-clause-handed g c = each AreHandedOn c.schedules.ensures.handed (g.S.Source.left c.args.input.now)

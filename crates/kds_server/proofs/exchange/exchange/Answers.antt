@@ -3,7 +3,8 @@ use Rattle.std.specs.Option.{IfSome}
 use Rattle.kds_ends.specs.declared.status.Status.{Status}
 use Rattle.kds_session.specs.Standing.{end_of}
 use Rattle.kds_server.specs.Texts.{Tells, IsAnswerStatus}
-use Rattle.kds_server.proofs.Ends.{flushed, tells_part, tells_status, tells_over, tells_stop, kind_at, end_not_read, end_not_write, same_some, some_none}
+use Rattle.kds_base.proofs.Facts.{same_some}
+use Rattle.kds_server.proofs.Ends.{flushed, tells_part, tells_status, tells_over, tells_stop, kind_at, end_not_read, end_not_write, some_none}
 use Rattle.kds_server.proofs.exchange.exchange.Goals as goal
 
 pub returns-in-Err-clause-ended : goal.returns-in-Err-clause-ended
