@@ -7,7 +7,7 @@ use Rattle.std.specs.List.{find, filter, position_from}
 use Rattle.std.proofs.lemmas.Bool.{eqb-false, eqb-true, or_from}
 use Rattle.std.proofs.lemmas.List.{length-map}
 use Rattle.std.proofs.lemmas.Option.{none-some}
-use Rattle.kds_base.proofs.Facts.{above_so, apart, chosen, is_itself, is_other, le_so, not_chosen, same_some}
+use Rattle.kds_base.proofs.Facts.{above_so, apart, chosen, is_itself, is_other, le_so, same_some}
 use Rattle.kds_defs.specs.Journal.{Journal}
 use Rattle.kds_defs.specs.Shards.{is_open, open_count, open_in}
 use Rattle.kds_defs.specs.Streams.{is_live, live_streams, name_of, numbers_from, same_name, stream_named}
@@ -18,6 +18,10 @@ use Rattle.kds_service.proofs.Lists.{AreUpTo, above, either_way, not_below, risi
 use Rattle.kds_defs.specs.ScaleCommands.{open_elsewhere}
 use Rattle.kds_service.specs.Places.{open_beside, open_total, open_unless, place_of}
 use Rattle.kds_service.specs.Shown.{AreShown, IsRising, ServiceValue, ShowsAll, is_among, names_of, numbers_of}
+
+not_chosen : {A : Type 0} (b : Bool) (x y : A) → b ≡ false → (if b then x else y) ≡ y
+not_chosen true x y h = absurd cc
+not_chosen false x y h = refl
 
 -- ---- the live streams
 
