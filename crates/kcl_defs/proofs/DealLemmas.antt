@@ -299,9 +299,6 @@ agree_read by t deals T rs ended what place own one none h = (
   λ e. absurd (apart_tests (T.by == by) own e),
 )
 
-read_in_tenure : (which t : ℕ) (x : List Fetched) (b : Bool) → (which == t) ≡ b → b ≡ true → (if which == t then x else []) ≡ x
-read_in_tenure which t x b e h = ap (λ c. cond c x []) (e ∙ h)
-
 read_at : (by actor which t position limit place : ℕ) (deals : List Deal) (before found : Option TenureState) (T : TenureState) (rs : List Logged)
     (ended : Bool) (b : Bool) → (which == t) ≡ b → (b ≡ true → before ≡ Some T) → (T.by == actor) ≡ true → (actor == by) ≡ true → AgreeWith by t deals before
     → AgreeWith by t (with_answer (command.Read which position limit) (Ok (reply.Read (map stored rs) place ended)) deals)

@@ -100,7 +100,3 @@ life_among deals made past s =
 -- a turn of another actor is none of these commands
 pub others_turn : (by : ℕ) (turn : Turn) (h : List Turn) → (turn.by == by) ≡ false → deals_of by (turn ∷ h) ≡ deals_of by h
 others_turn by turn h other = ap (λ b. cond b (record { what = turn.what; answer = answer h turn } ∷ deals_of by h) (deals_of by h)) other
-
--- a turn of its own is one
-pub own_turn : (by : ℕ) (turn : Turn) (h : List Turn) → (turn.by == by) ≡ true → deals_of by (turn ∷ h) ≡ record { what = turn.what; answer = answer h turn } ∷ deals_of by h
-own_turn by turn h own = ap (λ b. cond b (record { what = turn.what; answer = answer h turn } ∷ deals_of by h) (deals_of by h)) own

@@ -596,9 +596,6 @@ take_good made now step what (Ok (reply.Taken tenure counter start)) deals w is 
 take_good made now step what (Ok _) deals w is new g = quiet_good (record { what = what; answer = _ }) deals w.consumers w.retired is g
 take_good made now step what (Err r) deals w is new g = quiet_good (record { what = what; answer = Err r }) deals w.consumers w.retired is g
 
-answered_fine : (deals : List Deal) (w : WorkerState) → w.waiting ≡ None → AreGood deals w.consumers w.retired → IsFine deals (settled w)
-answered_fine deals w none g = settle_fine deals w none g
-
 survey_none : (made : WorkerMade) (now : ℕ) (answer : Result Reply Refusal) (w : WorkerState) → w.waiting ≡ None → (after_survey made now answer w).waiting ≡ None
 survey_none made now (Ok (reply.Survey shards rows)) w none = none
 survey_none made now (Ok _) w none = none

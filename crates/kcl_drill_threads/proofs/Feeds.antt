@@ -10,7 +10,7 @@ use Rattle.kds_turn.proofs.Turns.{continues_all}
 use Rattle.kcl_drill.specs.Generated.{generated}
 use Rattle.kcl_drill_threads.specs.Asking.{Asks, HasAsked, HasBegun, IsAskErr, IsKept, turn_of}
 use Rattle.kcl_drill_threads.specs.Feeding.{Feeds, HasFed, HasFedSoFar, IsAfter, IsAtOwn, IsCrowdErr, IsFeedErr}
-use Rattle.kcl_drill_threads.proofs.Passing.{asked_all, asked_more, asked_same, begun_by, kept_all, kept_same, none_before, none_before_one}
+use Rattle.kcl_drill_threads.proofs.Passing.{asked_more, asked_same, begun_by, kept_all, kept_same, none_before, none_before_one}
 
 -- ---- the root
 
@@ -96,11 +96,6 @@ feeding_more all coming left before a b inv next (what, first, answer, is) =
       last = inr (record { last = turn_of a.by what; place = is.place; before = a.own; seen = is.seen; own = is.own });
     }
 
--- the end, where no command is left
-pub fed_all : (all coming left : List Command) (before a b : Standing) → IsFeeding all coming before a → IsKept a b → Asks false coming left a b → HasAsked all b
-fed_all all coming left before a b inv next (first, none, same) =
-    asked_same all a b next.by (ap (λ (p : Standing). p.own) same) (asked_all inv.made all a (inv.parts ∙ ap (λ cs. inv.made ++ cs) first) inv.asked)
-
 -- an error
 pub fed_some : (all coming : List Command) (before a b : Standing) → IsFeeding all coming before a → IsKept a b → b.own ≡ a.own → HasBegun all b
 fed_some all coming before a b inv next own = begun_by inv.made coming all b inv.parts (asked_same inv.made a b next.by own inv.asked)
@@ -114,16 +109,6 @@ feed_err all coming before a b e inv (inl (is, same)) = inl (is, subst (λ (p : 
 feed_err all coming before a b e inv (inr is) = inr is
 
 -- what is then said of the whole
-
-pub feeds_all : (all coming left : List Command) (before a b : Standing) → IsFeeding all coming before a → IsKept a b → Asks false coming left a b → Feeds {A = Unit {0}} all before b (Ok tt)
-feeds_all all coming left before a b inv next asks =
-    record {
-      kept = kept_all before a b inv.kept next;
-      asked = fed_all all coming left before a b inv next asks;
-      begun = tt;
-      none = none_after all coming before a b inv next (ap (λ (p : Standing). p.own) asks.2);
-      err = tt;
-    }
 
 pub feeds_some : (all coming : List Command) (before a b : Standing) (e : TurnErr) → IsFeeding all coming before a → IsKept a b → b.own ≡ a.own → IsAskErr a b e → Feeds {A = Unit {0}} all before b (Err e)
 feeds_some all coming before a b e inv next own is =

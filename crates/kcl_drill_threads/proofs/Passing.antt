@@ -54,9 +54,6 @@ asked_more made what a b by has own =
 pub asked_same : (made : List Command) (a b : Standing) → b.by ≡ a.by → b.own ≡ a.own → HasAsked made a → HasAsked made b
 asked_same made a b by own has = own ∙ has ∙ ap (λ n. turns_of n made) (sym by)
 
-pub asked_all : (made all : List Command) (p : Standing) → all ≡ made ++ [] → HasAsked made p → HasAsked all p
-asked_all made all p e has = has ∙ ap (turns_of p.by) (sym (e ∙ append-nil made))
-
 pub begun_by : (made left all : List Command) (p : Standing) → all ≡ made ++ left → HasAsked made p → HasBegun all p
 begun_by made left all p e has =
     (length made, has ∙ ap (turns_of p.by) (sym (ap (take (length made)) e ∙ take-append_seam made left)))

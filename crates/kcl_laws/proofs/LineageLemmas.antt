@@ -149,9 +149,6 @@ past_state log legal c s sh (Some x) at listed read =
 
 -- ---- an opened tenure was opened
 
-opened_later : (log : Journal) (line : Line) (t : ℕ) → WasOpened log t → WasOpened (line ∷ log) t
-opened_later log line t h = inr h
-
 opened_by : (log : Journal) (line : Line) (t : ℕ) (T : TenureState) → TenureStep log line t T → ((S : TenureState) → tenure log t ≡ Some S → S.opened ≡ true → WasOpened log t) → T.opened ≡ true → WasOpened (line ∷ log) t
 opened_by log line t T (Begun key number counter owner is new state) before h =
     let e = sym h ∙ ap (λ (S : TenureState). S.opened) state in absurd (true_false e)

@@ -75,26 +75,6 @@ finished_shows stands w s id answer h = record {
   retired = h.retired;
 }
 
-pub renewed_shows : {P F : Type 0} (stands : P → List Call → Type 0) (w : WorkerStanding P F) (s : WorkerState) (id : LeaseId) (counter now : ℕ) → ShowsState stands w s → ShowsState stands (record w { round = AtRenewals (Some id); waiting = None; held = renewed id counter now w.held }) (record s { waiting = None; round = AtRenewals (Some id); held = renewed id counter now s.held })
-renewed_shows stands w s id counter now h = record {
-  round = refl;
-  waiting = refl;
-  seen = h.seen;
-  held = ap (renewed id counter now) h.held;
-  consumers = h.consumers;
-  retired = h.retired;
-}
-
-pub lost_shows : {P F : Type 0} (stands : P → List Call → Type 0) (w : WorkerStanding P F) (s : WorkerState) (id : LeaseId) → ShowsState stands w s → ShowsState stands (record w { round = AtRenewals (Some id); waiting = None; held = without_held id w.held; consumers = lost_among (λ i. same_id i id) w.consumers }) (record s { waiting = None; round = AtRenewals (Some id); held = without_held id s.held; consumers = happens_to (λ k. same_id (id_of k) id) Losing s.consumers })
-lost_shows stands w s id h = record {
-  round = refl;
-  waiting = refl;
-  seen = h.seen;
-  held = ap (without_held id) h.held;
-  consumers = lost_stand stands (λ i. same_id i id) w.consumers s.consumers h.consumers;
-  retired = h.retired;
-}
-
 -- the consumer of a lease is in the same phase on both sides
 phase_found : {P : Type 0} (o : Option (Standing P)) (k : Option Known) → IsFoundSo o k → phase_or_opening o ≡ phase_in k
 phase_found None None f = refl

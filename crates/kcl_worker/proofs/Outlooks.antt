@@ -217,11 +217,6 @@ asked_stands {P} {F} stands w new now syncs takes asked what past free is g st =
       }),
     )
 
--- where no call is due a command may be asked
-pub may_ask : {P : Type 0} (o : Option Chore) (cs : List (Standing P)) → due_in cs ≡ None → IsAsking o cs
-may_ask None cs none = tt
-may_ask (Some chore) cs none = none
-
 -- ---- lists by their first element
 
 pub empty_list : {X : Type 0} (xs : List X) → length xs < 1 → xs ≡ []

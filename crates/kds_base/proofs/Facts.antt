@@ -33,10 +33,6 @@ pub chosen : {A : Type 0} (b : Bool) (x y : A) → b ≡ true → (if b then x e
 chosen true x y h = refl
 chosen false x y h = absurd cc
 
-pub not_chosen : {A : Type 0} (b : Bool) (x y : A) → b ≡ false → (if b then x else y) ≡ y
-not_chosen true x y h = absurd cc
-not_chosen false x y h = refl
-
 -- ---- numbers
 
 pub equal_so : (a b : ℕ) → (a == b) ≡ true → a ≡ b

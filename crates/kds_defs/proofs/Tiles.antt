@@ -61,9 +61,6 @@ other-closed (y ∷ ys) (suc sh) (suc other) closing differ = other-closed ys sh
 one_split : (r : Span) (at k : ℕ) → is_inside r at ≡ true → one (lower_part r at) k + one (upper_part r at) k ≡ one r k
 one_split r at k h = grind (arith, nat_tests)
 
-one_joined : (a b : Span) (k : ℕ) → a.start ≤ a.end → b.start ≤ b.end → follows a b ≡ true → one (record { start = a.start; end = b.end }) k ≡ one a k + one b k
-one_joined a b k oa ob h = grind (arith, nat_tests)
-
 -- the parts of a split, and a joined range, are not empty
 lower_ordered : (r : Span) (at : ℕ) → is_inside r at ≡ true → r.start ≤ at - 1
 lower_ordered r at h = grind (arith, nat_tests)

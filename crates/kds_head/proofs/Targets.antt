@@ -12,10 +12,6 @@ use Rattle.kds_head.specs.Target.{after_byte}
 abbrev run : Reached → List ℕ → Reached
 run r bs = fold after_byte r bs
 
-run-append : (r : Reached) (xs ys : List ℕ) → run r (xs ++ ys) ≡ run (run r xs) ys
-run-append r [] ys = refl
-run-append r (x ∷ xs) ys = run-append (after_byte r x) xs ys
-
 other_stays : (bs : List ℕ) → run Other bs ≡ Other
 other_stays [] = refl
 other_stays (b ∷ bs) = other_stays bs

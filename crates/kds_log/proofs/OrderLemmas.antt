@@ -53,11 +53,6 @@ left_choice : (b : Bool) (x : Stored) (xs : List Stored) (ys : List Logged) → 
 left_choice true x xs ys h = ap (λ zs. logged x ∷ zs) h
 left_choice false x xs ys h = h
 
--- what is left of stored records
-pub left_of_stored : (floor position : ℕ) (xs : List Stored) → map logged (filter (λ x. is_left floor position (logged x)) xs) ≡ left_among floor position (map logged xs)
-left_of_stored floor position [] = refl
-left_of_stored floor position (x ∷ xs) = left_choice (is_left floor position (logged x)) x _ _ (left_of_stored floor position xs)
-
 -- ---- the least number
 
 at_front : (n : ℕ) (ns : List ℕ) → Contains (n ∷ ns) n

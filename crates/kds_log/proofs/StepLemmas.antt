@@ -45,14 +45,5 @@ grows_all xs i batch left room whole le h =
 -- ---- the first record from a place on
 
 module _ (xs : List Stored) (i : ℕ) (rs : List Logged) (is_rest : rs ≡ ahead xs i) where
-  pub number_found : (x : Stored) → i < length xs → x ≡ get_or xs i x → Some x.seq ≡ first_number rs
-  number_found x within is = sym (ap first_number (is_rest ∙ ahead_more xs i x within is))
-
-  pub arrival_found : (x : Stored) → i < length xs → x ≡ get_or xs i x → Some x.arrival ≡ first_arrival rs
-  arrival_found x within is = sym (ap first_arrival (is_rest ∙ ahead_more xs i x within is))
-
   pub no_number : length xs ≤ i → None ≡ first_number rs
   no_number le = sym (ap first_number (is_rest ∙ ahead_none xs i le))
-
-  pub no_arrival : length xs ≤ i → None ≡ first_arrival rs
-  no_arrival le = sym (ap first_arrival (is_rest ∙ ahead_none xs i le))

@@ -76,15 +76,6 @@ pub range_tokens : (r : Span) (end start : ℕ) → end ≡ r.end → start ≡ 
 unfolding range_data
 range_tokens r end start is_end is_start = rw (is_end, is_start) refl
 
-pub parents_tokens : (s : Shard) → ((begin_array ∷ id_tokens s.parent) ++ id_tokens s.adjacent) ++ end_array ∷ [] ≡ tokens_of (list_data id_data (parents_of s))
-parents_tokens s = by_cases s.parent s.adjacent
-  where
-    by_cases : (a b : Option ℕ) → ((begin_array ∷ id_tokens a) ++ id_tokens b) ++ end_array ∷ [] ≡ tokens_of (list_data id_data (option_to_list a ++ option_to_list b))
-    by_cases None None = refl
-    by_cases None (Some b) = refl
-    by_cases (Some a) None = refl
-    by_cases (Some a) (Some b) = refl
-
 apart_child : (r k p i e : List Token) → ((((r ++ k) ++ p) ++ i) ++ e) ≡ r ++ (k ++ (p ++ (i ++ e)))
 apart_child r k p i e = simp append_assoc
 

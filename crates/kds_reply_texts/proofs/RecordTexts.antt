@@ -62,13 +62,6 @@ written_over s new rest old text part at size wide k front is long all fits same
     let len : length (take at s ++ (new ++ post_of at (length s - at) s)) ≡ k = ap length bytes ∙ length-append old text ∙ omega (arith, ap length over_all) in
     take_at _ _ k len ∙ bytes
 
--- what stands between the quotes of a string
-pub unquoted : (s text : List ℕ) → s ≡ quoted text → take (length s - 1 - 1) (drop 1 s) ≡ escape text
-unquoted s text is =
-    let e = escape text in
-    let len : length (quoted text) - 1 - 1 ≡ length e = omega (arith, length-append e (34 ∷ [])) in
-    rw (is, len) (take_at e (34 ∷ []) (length e) refl)
-
 -- what a writer has of one string
 pub string_text : (before : List ℕ) (ts : List Token) (text : List ℕ) → before ≡ [] → ts ≡ string text ∷ [] → before ++ print ts ≡ quoted text
 unfolding print_from

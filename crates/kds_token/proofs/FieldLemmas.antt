@@ -11,10 +11,6 @@ use Rattle.kds_base.proofs.NumberLemmas.{own, decimal_of_number, number_of_decim
 use Rattle.memchr.specs.Find.{NoneBefore, Passes, is_byte}
 use Rattle.kds_token.specs.Fields.{◌>>=◌, field, HasNoColon, in_time, moment_of}
 
-pub no_colon-append : (a b : List ℕ) → HasNoColon a → HasNoColon b → HasNoColon (a ++ b)
-no_colon-append [] b n m = m
-no_colon-append (x ∷ a) b n m = (n.0, no_colon-append a b n.1 m)
-
 pub field_at : (a b : List ℕ) → HasNoColon a → field (a ++ 58 ∷ b) ≡ Some (a, b)
 field_at [] b n = refl
 field_at (x ∷ a) b n = rw (n.0, field_at a b n.1) refl

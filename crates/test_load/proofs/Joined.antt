@@ -13,9 +13,6 @@ use Rattle.kds_turn.proofs.Turns.{has_one, times_append}
 abbrev pub HasFrom : ℕ → ℕ → Standing → Type 0
 HasFrom least last p = (n : ℕ) → least ≤ n → n ≤ last → 0 < times n (accounts_of p)
 
-pub has_last : (last : ℕ) (p : Standing) → last ≡ p.by → HasFrom last last p
-has_last last p e = λ n a b. let one = has_one n (account p.by p.own) (omega (arith, e, a, b)) in omega (arith, one)
-
 pub has_more : (least by last : ℕ) (p q r : Standing) → by + 1 ≡ least → q.by ≡ by → r.by ≡ p.by → r.joined ≡ p.joined ++ accounts_of q → HasFrom least last p → HasFrom by last r
 has_more least by last p q r e f same joined from = λ n a b.
     let all : times n r.joined ≡ times n p.joined + times n (accounts_of q) = ap (times n) joined ∙ times_append n p.joined (accounts_of q) in
@@ -23,9 +20,6 @@ has_more least by last p q r e f same joined from = λ n a b.
     dite (ℕ_discrete by n)
     (λ is. let one = has_one n (account q.by q.own) (f ∙ is) in omega (arith, all, own, one))
     (λ ne. let before = from n (omega (arith, e, a, ne)) b in omega (arith, all, own, before))
-
-pub has_all_from : (last : ℕ) (p : Standing) → HasFrom 1 last p → HasAll last p
-has_all_from last p from = λ n a b. from n (omega (arith, a)) b
 
 -- the passes before the last one are of the hall as well
 pub all_front : (id : TableId) (all xs : List Standing) (x : Standing) → all ≡ xs ++ x ∷ [] → All (λ p. p.hall ≡ id) all → All (λ p. p.hall ≡ id) xs
