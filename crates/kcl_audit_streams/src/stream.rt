@@ -349,6 +349,7 @@ impl Stream {
         self.hours = hours;
         self.floor = before.max(floor_at(clock, hours));
     }
+
     /// After a good entry of this live stream, other than its making. After `Memory` it is as before.
     pub fn add(&mut self, clock: Moment, what: &Entry) -> Result<(), Memory>
         requires fit { IsFit what.now }
