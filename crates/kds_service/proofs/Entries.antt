@@ -7,7 +7,8 @@ use Rattle.std.proofs.lemmas.List.{map-append}
 use Rattle.std.proofs.lemmas.Option.{none-some}
 use Rattle.indexmap.specs.IndexMap.{insert_entry, set_value_at}
 use Rattle.kds_stream.specs.Value.{StreamValue}
-use Rattle.kds_service.proofs.Lists.{at_push, at_remove, at_set, either_way, map_same, set_same}
+use Rattle.kds_base.proofs.Facts.{all_append}
+use Rattle.kds_service.proofs.Lists.{all_remove, all_set, either_way, map_same, set_same}
 use Rattle.kds_service.specs.Places.{ArePlaced}
 use Rattle.kds_service.specs.Shown.{AreAt, names_of}
 
@@ -43,7 +44,7 @@ map_take_out f (x ∷ xs) (suc i) = ap (λ ys. f x ∷ ys) (map_take_out f xs i)
 pub placed_set : (c i : ℕ) (es : List (List ℕ × StreamValue)) (x v : StreamValue) → ArePlaced c es → slice_get (values_of es) i ≡ Some x → v.name ≡ x.name → v.clock ≡ c → ArePlaced c (set_value_at es i v)
 placed_set c i es x v placed here name clock = record {
   named = keys_set es i v ∙ placed.named ∙ sym (map_same (λ u. u.name) i (values_of es) x v here name) ∙ ap names_of (sym (values_set es i v));
-  at = subst (AreAt c) (sym (values_set es i v)) (at_set c i (values_of es) v placed.at clock);
+  at = subst (AreAt c) (sym (values_set es i v)) (all_set (λ u. u.clock ≡ c) i (values_of es) v placed.at clock);
 }
 
 -- after an error nothing has changed
@@ -60,7 +61,9 @@ placed_push c es fs k v placed pushed name clock = record {
       ∙ ap (λ n. names_of (values_of es) ++ (n ∷ [])) name
       ∙ sym (map-append (λ u. u.name) (values_of es) (v ∷ []))
       ∙ ap names_of (sym (ap values_of pushed ∙ map-append (λ e. e.1) es ((k, v) ∷ [])));
-  at = subst (AreAt c) (sym (ap values_of pushed ∙ map-append (λ e. e.1) es ((k, v) ∷ []))) (at_push c (values_of es) v placed.at clock);
+  at =
+      subst (AreAt c) (sym (ap values_of pushed ∙ map-append (λ e. e.1) es ((k, v) ∷ [])))
+      (all_append (λ u. u.clock ≡ c) (values_of es) (v ∷ []) placed.at (clock, tt));
 }
 
 pub placed_remove : (c i : ℕ) (es fs : List (List ℕ × StreamValue)) → ArePlaced c es → fs ≡ remove es i → ArePlaced c fs
@@ -71,7 +74,7 @@ placed_remove c i es fs placed taken = record {
       ∙ ap (λ ks. remove ks i) placed.named
       ∙ sym (map_take_out (λ u. u.name) (values_of es) i)
       ∙ ap names_of (sym (ap values_of taken ∙ map_take_out (λ e. e.1) es i));
-  at = subst (AreAt c) (sym (ap values_of taken ∙ map_take_out (λ e. e.1) es i)) (at_remove c i (values_of es) placed.at);
+  at = subst (AreAt c) (sym (ap values_of taken ∙ map_take_out (λ e. e.1) es i)) (all_remove (λ u. u.clock ≡ c) i (values_of es) placed.at);
 }
 
 -- the same keys over streams of the same names

@@ -12,7 +12,7 @@ use Rattle.kds_defs.proofs.Decisions.{after_refused}
 use Rattle.kds_stream.specs.Serving.{Serves, asks_for_room, is_of_stream}
 use Rattle.kds_stream.specs.Showing.{Shows}
 use Rattle.kds_stream.specs.Value.{StreamValue}
-use Rattle.kds_service.proofs.Lists.{at_get}
+use Rattle.kds_service.proofs.Lists.{all_get}
 use Rattle.kds_service.proofs.Lives.{own_lines}
 use Rattle.kds_service.proofs.Lookups.{told_so}
 use Rattle.kds_service.specs.Lines.{AreOf}
@@ -34,7 +34,7 @@ pub stream_leads : {E : Type 0} (c i : ℕ) (vs ws : List StreamValue) (x v : St
     → IfOk r (λ a. Serves what room x v a) → IfOk r (LeadsTo c vs ws what)
 stream_leads c i vs ws x v what room (Err e) change at here found set own asked no_is clock_is served = tt
 stream_leads c i vs ws x v what room (Ok gives) change at here found set own asked no_is clock_is served = λ b n log by all.
-    let now = at_get c i vs x at here in
+    let now = all_get (λ u. u.clock ≡ c) i vs x at here in
     let told = told_so (service c b n vs) log i x what room all here found asked in
     let led = subst (λ m. (gives ≡ answer_of (decide log m by what)) × Shows v (with_lines (lines_of (decide log m by what)) log)) now (served log by told) in
     let lines = lines_of (decide log c by what) in

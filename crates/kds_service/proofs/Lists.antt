@@ -1,5 +1,6 @@
 -- Streams in a list: at a place, after one is replaced, after one is added, and after one is taken out.
 use Rattle.std.proofs.Common.{◌≡◌, ◌≢◌, ℕ, zero, suc, ◌+◌, ◌<◌, ◌≤◌, Bool, true, false, ◌==◌, List, [], ◌∷◌, ◌++◌, length, map, take, drop, remove, slice_get, slice_set, Some, refl, sym, ap, subst, ◌∙◌, arith}
+use Rattle.std.specs.List.{AllByRecursion}
 use Rattle.std.proofs.lemmas.Bool.{or_parts, or_from}
 use Rattle.std.proofs.lemmas.List.{drop_more}
 use Rattle.std.proofs.lemmas.Option.{get_or_from_slice_get, none-some, slice_get_within}
@@ -14,17 +15,26 @@ pub either_way : {P : Type 0} (b : Bool) → (b ≡ true → P) → (b ≡ false
 either_way true holds fails = holds refl
 either_way false holds fails = fails refl
 
+-- ---- what holds of each
+
+module _ {X : Type 0} (P : X → Type 0) where
+  pub all_get : (i : ℕ) (xs : List X) (x : X) → AllByRecursion P xs → slice_get xs i ≡ Some x → P x
+  all_get i [] x all here = absurd (none-some x here)
+  all_get zero (y ∷ ys) x all here = subst P (same_some y x here) all.0
+  all_get (suc i) (y ∷ ys) x all here = all_get i ys x all.1 here
+
+  pub all_set : (i : ℕ) (xs : List X) (x : X) → AllByRecursion P xs → P x → AllByRecursion P (slice_set xs i x)
+  all_set i [] x all new = tt
+  all_set zero (y ∷ ys) x all new = (new, all.1)
+  all_set (suc i) (y ∷ ys) x all new = (all.0, all_set i ys x all.1 new)
+
+  pub all_remove : (i : ℕ) (xs : List X) → AllByRecursion P xs → AllByRecursion P (remove xs i)
+  all_remove zero [] all = tt
+  all_remove (suc i) [] all = tt
+  all_remove zero (y ∷ ys) all = all.1
+  all_remove (suc i) (y ∷ ys) all = (all.0, all_remove i ys all.1)
+
 -- ---- at a place
-
-pub at_get : (c i : ℕ) (vs : List StreamValue) (x : StreamValue) → AreAt c vs → slice_get vs i ≡ Some x → x.clock ≡ c
-at_get c i [] x at here = absurd (none-some x here)
-at_get c zero (v ∷ vs) x at here = subst (λ (u : StreamValue). u.clock ≡ c) (same_some v x here) at.0
-at_get c (suc i) (v ∷ vs) x at here = at_get c i vs x at.1 here
-
-pub shown_get : (log : Journal) (i : ℕ) (vs : List StreamValue) (x : StreamValue) → AreShown log vs → slice_get vs i ≡ Some x → Shows x log
-shown_get log i [] x shown here = absurd (none-some x here)
-shown_get log zero (v ∷ vs) x shown here = subst (λ u. Shows u log) (same_some v x here) shown.0
-shown_get log (suc i) (v ∷ vs) x shown here = shown_get log i vs x shown.1 here
 
 -- below the length there is one
 pub there_is : (i : ℕ) (vs : List StreamValue) → i < length vs → (x : StreamValue) × (slice_get vs i ≡ Some x)
@@ -51,11 +61,6 @@ not_below low s (n ∷ ns) below rising =
     or_from (n == s) (is_among ns s) (is_other n s (λ e. absurd (omega (arith, below, rising.0, e)))) (not_below n s ns (omega (arith, rising.0)) rising.1)
 
 -- ---- one is replaced
-
-pub at_set : (c i : ℕ) (vs : List StreamValue) (v : StreamValue) → AreAt c vs → v.clock ≡ c → AreAt c (slice_set vs i v)
-at_set c i [] v at clock = tt
-at_set c zero (u ∷ us) v at clock = (clock, at.1)
-at_set c (suc i) (u ∷ us) v at clock = (at.0, at_set c i us v at.1 clock)
 
 -- by itself
 pub set_same : (i : ℕ) (vs : List StreamValue) (x : StreamValue) → slice_get vs i ≡ Some x → slice_set vs i x ≡ vs
@@ -86,22 +91,11 @@ shown_set log log' c low (suc i) (u ∷ us) x v rising at shown here new others 
   shown_set log log' c u.no i us x v rising.1 at.1 shown.1 here new others,
 )
 
--- the same journal, where only one is replaced
-pub shown_step : (log : Journal) (i : ℕ) (vs : List StreamValue) (v : StreamValue) → AreShown log vs → Shows v log → AreShown log (slice_set vs i v)
-shown_step log i [] v shown new = tt
-shown_step log zero (u ∷ us) v shown new = (new, shown.1)
-shown_step log (suc i) (u ∷ us) v shown new = (shown.0, shown_step log i us v shown.1 new)
-
 -- ---- one is added
-
-pub at_push : (c : ℕ) (vs : List StreamValue) (v : StreamValue) → AreAt c vs → v.clock ≡ c → AreAt c (vs ++ (v ∷ []))
-at_push c [] v at clock = (clock, tt)
-at_push c (u ∷ us) v at clock = (at.0, at_push c us v at.1 clock)
 
 -- they are at most this number
 abbrev pub AreUpTo : ℕ → List StreamValue → Type 0
-AreUpTo n [] = Unit {0}
-AreUpTo n (v ∷ vs) = (v.no ≤ n) × AreUpTo n vs
+AreUpTo n vs = AllByRecursion (λ v. v.no ≤ n) vs
 
 pub rising_push : (low n m : ℕ) (vs : List StreamValue) → low < m → n < m → AreUpTo n vs → IsRising low (numbers_of vs) → IsRising low (numbers_of vs ++ (m ∷ []))
 rising_push low n m [] first last below rising = (first, tt)
@@ -119,15 +113,6 @@ shown_push log log' c n [] v below at shown new others = (new, tt)
 shown_push log log' c n (u ∷ us) v below at shown new others = (others u shown.0 at.0 below.0, shown_push log log' c n us v below.1 at.1 shown.1 new others)
 
 -- ---- one is taken out
-
-pub at_remove : (c i : ℕ) (vs : List StreamValue) → AreAt c vs → AreAt c (remove vs i)
-at_remove c i [] at = at_none i
-  where
-    at_none : (i : ℕ) → AreAt c (remove [] i)
-    at_none zero = tt
-    at_none (suc i) = tt
-at_remove c zero (v ∷ vs) at = at.1
-at_remove c (suc i) (v ∷ vs) at = (at.0, at_remove c i vs at.1)
 
 pub rising_remove : (low i : ℕ) (vs : List StreamValue) → IsRising low (numbers_of vs) → IsRising low (numbers_of (remove vs i))
 rising_remove low zero [] rising = tt

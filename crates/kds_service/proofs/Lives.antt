@@ -1,10 +1,11 @@
 -- What the lines of one stream leave of the others, and that a command which is for one stream writes such lines.
-use Rattle.std.proofs.Common.{◌≡◌, ◌≢◌, ℕ, zero, suc, ◌+◌, ◌<◌, ◌≤◌, Bool, true, ◌==◌, List, [], ◌∷◌, ◌++◌, remove, slice_get, slice_set}
+use Rattle.std.proofs.Common.{◌≡◌, ◌≢◌, ℕ, ◌+◌, ◌<◌, ◌≤◌, Bool, true, ◌==◌, List, [], ◌∷◌, ◌++◌, remove, slice_get, slice_set}
 use Rattle.std.proofs.Common.{Some, None, refl, sym, ap, subst, ◌∙◌, arith}
 use Rattle.std.specs.Prelude.{not, Result}
 use Rattle.std.proofs.lemmas.List.{map-append}
-use Rattle.std.proofs.lemmas.Option.{none-some, same_Some}
+use Rattle.std.proofs.lemmas.Option.{same_Some}
 use Rattle.std.proofs.lemmas.Bool.{and_left, and_right, or_from}
+use Rattle.kds_base.proofs.Facts.{all_append}
 use Rattle.kds_defs.proofs.Elsewhere.{count_same, fresh_empty, fresh_other, of_no_stream, of_other}
 use Rattle.kds_defs.proofs.Elsewhere as elsewhere
 use Rattle.kds_defs.specs.declared.command.Command.{Command}
@@ -22,7 +23,7 @@ use Rattle.kds_defs.proofs.Walk.{Tells, Puts, Splits, Merges, Keeps, Enforces}
 use Rattle.kds_stream.specs.Serving.{is_of_stream}
 use Rattle.kds_stream.specs.Showing.{Shows}
 use Rattle.kds_stream.specs.Value.{StreamValue}
-use Rattle.kds_service.proofs.Lists.{AreUpTo, among_push, among_remove, at_push, at_remove, at_set, map_same, either_way}
+use Rattle.kds_service.proofs.Lists.{among_push, among_remove, all_get, all_remove, all_set, map_same, either_way}
 use Rattle.kds_service.proofs.Lists.{rising_push, rising_remove, shown_push, shown_remove, shown_set}
 use Rattle.kds_service.proofs.Readings.{up_to}
 use Rattle.kds_service.specs.Lines.{AreOf, IsLineOf, is_within_life}
@@ -67,11 +68,6 @@ live_more s t c (line ∷ lines) log of = live_more s t c lines (line ∷ log) o
 beyond : (n s t : ℕ) → s ≤ n → n < t → t ≡ s → ⊥
 beyond n s t a b e = absurd (omega arith)
 
-up_at : (n i : ℕ) (vs : List StreamValue) (x : StreamValue) → AreUpTo n vs → slice_get vs i ≡ Some x → x.no ≤ n
-up_at n i [] x up here = absurd (none-some x here)
-up_at n zero (v ∷ vs) x up here = subst (λ (u : StreamValue). u.no ≤ n) (same_Some v x here) up.0
-up_at n (suc i) (v ∷ vs) x up here = up_at n i vs x up.1 here
-
 -- a stream goes on to show the journal with its lines, and the service with it
 pub shows_after : (c b n i : ℕ) (vs : List StreamValue) (x v : StreamValue) (log : Journal) (lines : List Line) → LinesOfOthers
     → ShowsAll (service c b n vs) log → slice_get vs i ≡ Some x → v.no ≡ x.no → v.clock ≡ c → AreOf x.no c lines → Shows v (with_lines lines log)
@@ -80,14 +76,16 @@ shows_after c b n i vs x v log lines law all here numbered clock of shown =
     let numbers : numbers_of (slice_set vs i v) ≡ numbers_of vs = map_same (λ u. u.no) i vs x v here numbered in
     record {
       made = made_more x.no c lines log of ∙ all.made;
-      at = at_set c i vs v all.at clock;
+      at = all_set (λ u. u.clock ≡ c) i vs v all.at clock;
       rising = subst (IsRising 0) (sym numbers) all.rising;
       shown =
           shown_set log (with_lines lines log) c 0 i vs x v all.rising all.at all.shown here shown
           (λ u is at differ. shows_more u c x.no lines log law at (λ e. differ (sym e)) of is);
       others = λ s out. live_more x.no s c lines log of ∙ all.others s (ap (λ ns. is_among ns s) (sym numbers) ∙ out);
       unmade =
-          λ s later. fresh_more x.no s c lines log (λ same. beyond n x.no s (up_at n i vs x (up_to n vs log all.shown all.unmade) here) later (sym same)) of
+          λ s later.
+          let up = all_get (λ u. u.no ≤ n) i vs x (up_to n vs log all.shown all.unmade) here in
+          fresh_more x.no s c lines log (λ same. beyond n x.no s up later (sym same)) of
           (all.unmade s later);
     }
 
@@ -104,7 +102,7 @@ shows_added c b n by count name vs v log law all numbered clock shown =
     map-append (λ u. u.no) vs (v ∷ []) ∙ ap (λ m. numbers_of vs ++ (m ∷ [])) numbered in
     record {
       made = ap (λ m. m + 1) all.made;
-      at = at_push c vs v all.at clock;
+      at = all_append (λ u. u.clock ≡ c) vs (v ∷ []) all.at (clock, tt);
       rising = subst (IsRising 0) (sym numbers) (rising_push 0 n (n + 1) vs (omega arith) (omega arith) up all.rising);
       shown =
           shown_push log (line ∷ log) c n vs v up all.at all.shown shown
@@ -130,7 +128,7 @@ shows_removed c b n by i vs x log law all here =
     let up = up_to n vs log all.shown all.unmade in
     record {
       made = all.made;
-      at = at_remove c i vs all.at;
+      at = all_remove (λ u. u.clock ≡ c) i vs all.at;
       rising = rising_remove 0 i vs all.rising;
       shown =
           shown_remove log (line ∷ log) c 0 i vs x all.rising all.at all.shown here
@@ -138,7 +136,9 @@ shows_removed c b n by i vs x log law all here =
       others =
           λ s out. either_way (x.no == s) (λ e. and_left (not (x.no == s)) (is_live log s) (ap not e))
           (λ e. and_right (not (x.no == s)) (is_live log s) (all.others s (among_remove i s vs x here out e)));
-      unmade = λ s later. fresh_other log line s (all.unmade s later) (λ same. beyond n x.no s (up_at n i vs x up here) later (sym (same_Some _ _ same)));
+      unmade = λ s later.
+          fresh_other log line s (all.unmade s later)
+          (λ same. beyond n x.no s (all_get (λ u. u.no ≤ n) i vs x up here) later (sym (same_Some _ _ same)));
     }
 
 -- ---- a line of a lease

@@ -19,8 +19,9 @@ use Rattle.kds_defs.specs.Streams.{is_live}
 use Rattle.kds_defs.specs.Subjects.{name_of_command}
 use Rattle.kds_defs.proofs.Decisions.{passed_if, refused_if, with_none}
 use Rattle.kds_stream.specs.Serving.{IsToldOf, asks_for_room, is_of_stream, token_of}
+use Rattle.kds_stream.specs.Showing.{Shows}
 use Rattle.kds_stream.specs.Value.{StreamValue}
-use Rattle.kds_service.proofs.Lists.{shown_get}
+use Rattle.kds_service.proofs.Lists.{all_get}
 use Rattle.kds_service.proofs.Readings.{beside_is, from_zero, has_name, named_at, none_named, not_among, number_at, open_are, own_and_beside}
 use Rattle.kds_service.specs.Places.{expiry, open_beside, place_at, place_by, place_for, place_of}
 use Rattle.kds_service.specs.Shown.{ServiceValue, ShowsAll, numbers_of}
@@ -95,7 +96,7 @@ gone_so w log by _ all own young none = with_none _ _ _ (none_named w log _ all 
 pub told_so : (w : ServiceValue) (log : Journal) (i : ℕ) (x : StreamValue) (what : Command) (room : ℕ) → ShowsAll w log → slice_get w.streams i ≡ Some x
     → place_for w.streams what ≡ Some i → (asks_for_room what ≡ true → room ≡ OPEN_SHARDS - open_beside w.streams x.no) → IsToldOf what room x log
 told_so w log i x what room all here found asked = record {
-  shown = shown_get log i w.streams x all.shown here;
+  shown = all_get (λ v. Shows v log) i w.streams x all.shown here;
   named = λ name is.
       let at = sym (name_place w.streams what name is) ∙ found in
       (has_name name i w.streams x at here, named_at w log name i x all at here);

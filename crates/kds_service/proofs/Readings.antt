@@ -1,5 +1,5 @@
 -- What the streams of a service say of the journal that they show.
-use Rattle.std.proofs.Common.{◌≡◌, ◌≢◌, ℕ, zero, suc, ◌+◌, ◌<◌, ◌≤◌, Bool, true, false, ◌==◌, cond, List, [], ◌∷◌, length, slice_get, Option, Some}
+use Rattle.std.proofs.Common.{◌≡◌, ◌≢◌, ℕ, zero, suc, ◌+◌, ◌<◌, ◌≤◌, Bool, true, false, ◌==◌, cond, List, [], ◌∷◌, length, map, slice_get, Option, Some}
 use Rattle.std.proofs.Common.{None, refl, sym, ap, subst, ◌∙◌, arith}
 use Rattle.std.specs.Prelude.{if◌then◌else◌, is_some, nat_le, not}
 use Rattle.std.specs.Cmp.Lexicographic.{bytes_decides, nat_list_eq_equiv}
@@ -125,6 +125,13 @@ later_fails p n i x xs is =
     past : (n i : ℕ) → n ≡ n + suc i → ⊥
     past n i h = absurd (omega (arith, h))
 
+-- what is found passes
+pub found_passes : {X Y : Type 0} (f : X → Y) (p : Y → Bool) (n i : ℕ) (xs : List X) (x : X) → position_from p n (map f xs) ≡ Some (n + i)
+    → slice_get xs i ≡ Some x → p (f x) ≡ true
+found_passes f p n i [] x is here = absurd (none-some x here)
+found_passes f p n zero (y ∷ ys) x is here = ap (λ z. p (f z)) (sym (same_some y x here)) ∙ first_passes p n (f y) (map f ys) is
+found_passes f p n (suc i) (y ∷ ys) x is here = found_passes f p (n + 1) i ys x (later_fails p n i (f y) (map f ys) is).1 here
+
 pub none_passes : {X : Type 0} (p : X → Bool) (n : ℕ) (x : X) (xs : List X) → position_from p n (x ∷ xs) ≡ None
     → (p x ≡ false) × (position_from p (n + 1) xs ≡ None)
 none_passes p n x xs none = either_way (p x) (λ e. absurd (none-some n (sym none ∙ hit p n x xs e))) (λ e. (e, sym (missed p n x xs e) ∙ none))
@@ -181,10 +188,7 @@ some_named w log name all = by (place_of w.streams name) refl
 
 pub number_at : (n i s : ℕ) (vs : List StreamValue) (x : StreamValue) → position_from (λ m. m == s) n (numbers_of vs) ≡ Some (n + i) → slice_get vs i ≡ Some x
     → s ≡ x.no
-number_at n i s [] x is here = absurd (none-some x here)
-number_at n zero s (v ∷ vs) x is here =
-    sym (eqb-true v.no s (first_passes (λ m. m == s) n v.no (numbers_of vs) is)) ∙ ap (λ (u : StreamValue). u.no) (same_some v x here)
-number_at n (suc i) s (v ∷ vs) x is here = number_at (n + 1) i s vs x (later_fails (λ m. m == s) n i v.no (numbers_of vs) is).1 here
+number_at n i s vs x is here = sym (eqb-true x.no s (found_passes (λ v. v.no) (λ m. m == s) n i vs x is here))
 
 pub not_among : (n s : ℕ) (ns : List ℕ) → position_from (λ m. m == s) n ns ≡ None → is_among ns s ≡ false
 not_among n s [] none = refl
@@ -232,12 +236,5 @@ own_and_beside (suc i) low (v ∷ vs) x rising here =
 
 -- ---- the stream of a name has just this name
 
-named_like : (name : List ℕ) (n i : ℕ) (vs : List StreamValue) (x : StreamValue) → position_from (same_name name) n (names_of vs) ≡ Some (n + i)
-    → slice_get vs i ≡ Some x → same_name name x.name ≡ true
-named_like name n i [] x is here = absurd (none-some x here)
-named_like name n zero (v ∷ vs) x is here =
-    ap (λ (u : StreamValue). same_name name u.name) (sym (same_some v x here)) ∙ first_passes (same_name name) n v.name (names_of vs) is
-named_like name n (suc i) (v ∷ vs) x is here = named_like name (n + 1) i vs x (later_fails (same_name name) n i v.name (names_of vs) is).1 here
-
 pub has_name : (name : List ℕ) (i : ℕ) (vs : List StreamValue) (x : StreamValue) → place_of vs name ≡ Some i → slice_get vs i ≡ Some x → name ≡ x.name
-has_name name i vs x is here = (bytes_decides name x.name).0 (named_like name 0 i vs x (is ∙ ap Some (from_zero i)) here)
+has_name name i vs x is here = (bytes_decides name x.name).0 (found_passes (λ v. v.name) (same_name name) 0 i vs x (is ∙ ap Some (from_zero i)) here)

@@ -1,5 +1,6 @@
 -- Which journals the streams of a service show.
 use Rattle.std.specs.Prelude.{ℕ, ◌≡◌, ◌+◌, ◌==◌, ◌||◌, ◌<◌, ◌++◌, Bool, false, List, [], ◌∷◌, map, remove, slice_get, slice_set, Result, Some}
+use Rattle.std.specs.List.{AllByRecursion}
 use Rattle.kds_defs.specs.declared.command.Command.{Command}
 use Rattle.kds_defs.specs.declared.reply.Refusal.{Refusal}
 use Rattle.kds_defs.specs.declared.reply.Reply.{Reply}
@@ -31,8 +32,7 @@ numbers_of vs = map (λ v. v.no) vs
 
 -- all stand at the clock
 abbrev pub AreAt : ℕ → List StreamValue → Type 0
-AreAt c [] = Unit {0}
-AreAt c (v ∷ vs) = (v.clock ≡ c) × AreAt c vs
+AreAt c vs = AllByRecursion (λ v. v.clock ≡ c) vs
 
 -- each number is above the one before it, and all are above the lowest
 abbrev pub IsRising : ℕ → List ℕ → Type 0
@@ -46,8 +46,7 @@ is_among (n ∷ ns) s = (n == s) || is_among ns s
 
 -- each shows the journal
 abbrev pub AreShown : Journal → List StreamValue → Type 0
-AreShown log [] = Unit {0}
-AreShown log (v ∷ vs) = Shows v log × AreShown log vs
+AreShown log vs = AllByRecursion (λ v. Shows v log) vs
 
 -- the live streams of the journal are those of the service, and as many were made
 pub record ShowsAll (w : ServiceValue) (log : Journal) : Type 0 where

@@ -1,6 +1,5 @@
 -- The logs of a stream: one record more, and the trim.
 use Rattle.std.proofs.Common.{◌≡◌, ℕ, zero, suc, ◌≤◌, List, [], ◌∷◌, ◌++◌, length, get_or, map, take, drop, Option, Some, None, refl, ap, ◌∙◌, arith}
-use Rattle.std.specs.Prelude.{slice_set}
 use Rattle.std.specs.List.{AllByRecursion}
 use Rattle.std.proofs.lemmas.List.{append_assoc, map-append, take_at}
 use Rattle.kds_base.proofs.Facts.{all_weaker}
@@ -34,11 +33,6 @@ pub log_at : (ls : List LogWithRoom) (i : ℕ) (l : LogWithRoom) → l ≡ get_o
 log_at [] i l is = refl
 log_at (x ∷ ls) zero l is = ap log_of is
 log_at (x ∷ ls) (suc i) l is = log_at ls i l is
-
-pub logs-set : (ls : List LogWithRoom) (i : ℕ) (l : LogWithRoom) → map log_of (slice_set ls i l) ≡ slice_set (map log_of ls) i (log_of l)
-logs-set [] i l = refl
-logs-set (x ∷ ls) zero l = refl
-logs-set (x ∷ ls) (suc i) l = ap (λ (ys : List LogValue). log_of x ∷ ys) (logs-set ls i l)
 
 pub length-appended : (i : ℕ) (r : Logged) (ls : List LogValue) → length (with_appended i r ls) ≡ length ls
 length-appended i r [] = refl

@@ -1,6 +1,5 @@
 -- The windows of the shards of a stream: those of no puts, and later ones.
-use Rattle.std.proofs.Common.{◌≡◌, ℕ, zero, suc, ◌+◌, ◌≤◌, List, [], ◌∷◌, ◌++◌, length, sym, ap, subst, ◌∙◌, arith, length-append}
-use Rattle.std.specs.Prelude.{slice_set}
+use Rattle.std.proofs.Common.{◌≡◌, ℕ, ◌+◌, ◌≤◌, List, [], ◌∷◌, ◌++◌, length, sym, ap, subst, ◌∙◌, arith, length-append}
 use Rattle.std.specs.List.{AllByRecursion}
 use Rattle.std.proofs.lemmas.List.{append_assoc}
 use Rattle.kds_base.proofs.Facts.{all_weaker, all_append}
@@ -8,13 +7,6 @@ use Rattle.kds_defs.specs.Rates.{SizedPut}
 use Rattle.kds_rate.specs.Windows.{StandsFor, WindowValue}
 use Rattle.kds_stream_logs.specs.Rating.{IsCounted, IsUnused, StandFor}
 use Rattle.kds_stream.specs.Rating.{AreRated}
-
--- ---- at a place
-
-pub counted_set : (moment i : ℕ) (ws : List WindowValue) (w : WindowValue) → IsCounted moment w → AllByRecursion (IsCounted moment) ws → AllByRecursion (IsCounted moment) (slice_set ws i w)
-counted_set moment i [] w is h = tt
-counted_set moment zero (x ∷ ws) w is h = (is, h.1)
-counted_set moment (suc i) (x ∷ ws) w is h = (h.0, counted_set moment i ws w is h.1)
 
 -- ---- windows of no puts
 
@@ -28,9 +20,6 @@ stand_more f n (w ∷ ws) new unused none h = (h.0, stand_more f (n + 1) ws new 
 
 pub counted_unused : (moment : ℕ) (ws : List WindowValue) → AllByRecursion IsUnused ws → AllByRecursion (IsCounted moment) ws
 counted_unused moment ws h = all_weaker IsUnused (IsCounted moment) (λ w u. omega (arith, u.never)) ws h
-
-pub unused_more : (ws : List WindowValue) (w : WindowValue) → IsUnused w → AllByRecursion IsUnused ws → AllByRecursion IsUnused (ws ++ w ∷ [])
-unused_more ws w u h = all_append IsUnused ws (w ∷ []) h (u, tt)
 
 pub one_window : (new reserved before : List WindowValue) (a : WindowValue) → new ≡ reserved ++ a ∷ [] → reserved ≡ before → new ≡ before ++ (a ∷ [])
 one_window new reserved before a more same = more ∙ ap (λ (us : List WindowValue). us ++ a ∷ []) same

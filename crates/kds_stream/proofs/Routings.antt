@@ -1,5 +1,5 @@
 -- Records that are stored together: what the stream shows after them.
-use Rattle.std.proofs.Common.{◌≡◌, ◌≢◌, ℕ, suc, ◌+◌, ◌^◌, ◌<◌, ◌≤◌, Bool, true, false, List, [], ◌∷◌, length, map, refl, sym, ap, subst, ◌∙◌, arith}
+use Rattle.std.proofs.Common.{◌≡◌, ◌≢◌, ℕ, suc, ◌+◌, ◌^◌, ◌<◌, ◌≤◌, Bool, true, false, List, [], ◌∷◌, length, refl, sym, ap, subst, ◌∙◌, arith}
 use Rattle.std.specs.Prelude.{◌==◌, nat_lt, if◌then◌else◌, Ok, Err}
 use Rattle.std.specs.List.{AllByRecursion, filter}
 use Rattle.std.proofs.lemmas.Bool.Decides.{nat_tests}
@@ -31,7 +31,8 @@ use Rattle.kds_stream_logs.specs.declared.routes.Routed.{Routed}
 use Rattle.kds_stream_logs.specs.declared.routes.Routes.{Routes}
 use Rattle.kds_stream_logs.specs.Rating.{StandFor}
 use Rattle.kds_stream.specs.Rating.{AreRated, ShowsRates}
-use Rattle.kds_stream_logs.specs.Routes.{AreInTurn, AreRouted, CanTake, GoesOn, IsWithin, after_item, after_items, after_number, is_held, outcome_of, outcomes, taken, routed_items, settled_each, with_each}
+use Rattle.kds_stream_logs.specs.Routes.{AreInTurn, AreRouted, CanTake, IsWithin, after_item, after_items, after_number, is_held}
+use Rattle.kds_stream_logs.specs.Routes.{outcome_of, outcomes, taken, routed_items, settled_each, with_each}
 use Rattle.kds_stream.specs.Showing.{Shows, ShowsStored}
 use Rattle.kds_stream_logs.specs.Logs.{IsBelow, settled_at, with_appended}
 use Rattle.kds_stream.specs.Value.{EndsUnder, IsStream, StreamValue}
@@ -51,17 +52,6 @@ after_at xs c on f item items b sh is = ap (λ d. after_items xs c on (after_ite
 outcomes_at : (xs : List ShardState) (c : ℕ) (on : Bool) (f : ℕ → List SizedPut) (n : ℕ) (item : NewItem) (items : List NewItem) (b : Bool) → is_held xs c on f item ≡ b
     → outcomes xs c on f n (item ∷ items) ≡ outcome_of xs n item b ∷ outcomes xs c on (after_item xs c f item b) (after_number n b) items
 outcomes_at xs c on f n item items b is = ap (λ d. outcome_of xs n item d ∷ outcomes xs c on (after_item xs c f item d) (after_number n d) items) is
-
--- an item that would be taken when the numbers are used up
-pub numbers_past : (xs : List ShardState) (c : ℕ) (on : Bool) (f : ℕ → List SizedPut) (n : ℕ) (whole items rest : List NewItem) (item : NewItem) (r : Routes) (us : List WindowValue) → items ≡ item ∷ rest → (h : GoesOn xs c on f n whole items r us) → is_held xs c on h.present item ≡ false → r.next + 1 ≡ 2 ^ 64 → 2 ^ 64 ≤ n + length (taken xs c on f whole)
-numbers_past xs c on f n whole items rest item r us are h free full =
-    let ts = taken xs c on (after_item xs c h.present item false) rest in
-    let some : length (taken xs c on h.present items) ≡ suc (length ts) = ap (λ ys. length (taken xs c on h.present ys)) are ∙ ap length (taken_at xs c on h.present item rest false free) in
-    omega (arith, h.next_is, some, full)
-
-all_map : {A B : Type 0} (f : A → B) (P : B → Type 0) (xs : List A) → AllByRecursion P (map f xs) → AllByRecursion (λ x. P (f x)) xs
-all_map f P [] h = tt
-all_map f P (x ∷ xs) h = (h.0, all_map f P xs h.1)
 
 -- a stream's logs can take them, and they are in turn
 pub can_take : (v : StreamValue) (items : List NewItem) (rs : List Routed) → IsStream v → rs ≡ routed_items v.tree v.clock v.next items → AllByRecursion (IsWithin (length v.tree)) rs → AllByRecursion (CanTake v.logs) rs

@@ -1,7 +1,8 @@
-use Rattle.std.proofs.Common.{slice_get, slice_set, sym, ap, subst, ◌∙◌, arith}
+use Rattle.std.proofs.Common.{◌≡◌, slice_get, slice_set, sym, ap, subst, ◌∙◌, arith}
 use Rattle.indexmap.specs.IndexMap.{values}
+use Rattle.kds_stream.specs.Showing.{Shows}
 use Rattle.kds_service.proofs.Entries.{keys_set, values_set}
-use Rattle.kds_service.proofs.Lists.{at_get, get_rest, set_rest, shown_get, shown_step}
+use Rattle.kds_service.proofs.Lists.{all_get, all_set, get_rest, set_rest}
 use Rattle.kds_service.specs.Clocks.{advanced}
 use Rattle.kds_service.specs.Shown.{AreShown}
 use Rattle.kds_service.proofs.clocks.advance_all.Goals as goal
@@ -11,7 +12,7 @@ advance-requires c =
     let i = c.loop-i.i in
     let vs = values c.args.streams.now in
     let here = sym (get_rest (advanced c.args.clock) vs i) ∙ ap (λ xs. slice_get xs i) (sym c.loop-i.invariant.value) ∙ c.index_mut.ensures.value in
-    omega (arith, at_get c.args.before i vs _ c.requires.at here, c.requires.later)
+    omega (arith, all_get (λ v. v.clock ≡ c.args.before) i vs _ c.requires.at here, c.requires.later)
 
 pub loop-i-preserved : goal.loop-i-preserved
 loop-i-preserved c =
@@ -26,5 +27,6 @@ loop-i-preserved c =
       shows = λ log shown.
           let before = c.loop-i.invariant.shows log shown in
           subst (AreShown log) (sym (values_set c.loop-i.streams.entries i new))
-          (shown_step log i (values c.loop-i.streams) new before (c.advance.ensures.shows log (shown_get log i (values c.loop-i.streams) _ before c.index_mut.ensures.value)));
+          (all_set (λ v. Shows v log) i (values c.loop-i.streams) new before
+          (c.advance.ensures.shows log (all_get (λ v. Shows v log) i (values c.loop-i.streams) _ before c.index_mut.ensures.value)));
     }

@@ -1,5 +1,5 @@
 -- The stream at the place that is found decides the command; where its token is too old, or there is no place, it is refused.
-use Rattle.std.proofs.Common.{sym, ap, ◌∙◌}
+use Rattle.std.proofs.Common.{◌≡◌, sym, ap, ◌∙◌}
 use Rattle.std.specs.Prelude.{◌-◌}
 use Rattle.kds_base.proofs.Facts.{same_some}
 use Rattle.kds_defs.specs.declared.limits.TheConstants.{OPEN_SHARDS}
@@ -7,7 +7,7 @@ use Rattle.kds_defs.specs.declared.reply.Refusal.TheVariants as refusal
 use Rattle.indexmap.specs.IndexMap.{values}
 use Rattle.kds_service.proofs.Entries.{kept_set, placed_set, values_set}
 use Rattle.kds_service.proofs.Leading.{refused_leads, stream_leads}
-use Rattle.kds_service.proofs.Lists.{at_get}
+use Rattle.kds_service.proofs.Lists.{all_get}
 use Rattle.kds_service.proofs.Lookups.{expired_so, gone_so, numbered, token_place}
 use Rattle.kds_service.specs.Places.{open_beside}
 use Rattle.kds_service.specs.Shown.{service}
@@ -48,7 +48,7 @@ returns-in-Some-find-clause-placed c =
     let x = c.index_mut.result.now in
     let here = c.index_mut.ensures.value in
     placed_set a.clock c.in-Some-find.i a.streams.now.entries x c.serve.new.self c.requires.placed here c.serve.ensures.fields.1
-    (c.serve.ensures.fields.2 ∙ at_get a.clock c.in-Some-find.i (values a.streams.now) x c.requires.placed.at here)
+    (c.serve.ensures.fields.2 ∙ all_get (λ v. v.clock ≡ a.clock) c.in-Some-find.i (values a.streams.now) x c.requires.placed.at here)
 
 pub returns-in-Some-find-clause-kept : goal.returns-in-Some-find-clause-kept
 returns-in-Some-find-clause-kept c =
