@@ -1,5 +1,6 @@
 -- What a stream shows after a split or a merge, and that it is a stream still.
-use Rattle.std.proofs.Common.{◌≡◌, ◌≢◌, ℕ, zero, suc, ◌+◌, ◌<◌, ◌≤◌, Bool, List, [], ◌∷◌, ◌++◌, length, None, refl, sym, ap, subst, ◌∙◌, arith, length-append}
+use Rattle.std.proofs.Common.{◌≡◌, ◌≢◌, ℕ, zero, suc, ◌+◌, ◌^◌, ◌<◌, ◌≤◌, Bool, List, [], ◌∷◌, ◌++◌, length, None}
+use Rattle.std.proofs.Common.{refl, sym, ap, subst, ◌∙◌, arith, length-append}
 use Rattle.std.specs.Prelude.{◌==◌, Ok}
 use Rattle.std.specs.List.{AllByRecursion, filter}
 use Rattle.kds_base.proofs.Facts.{is_itself, chosen, all_weaker, all_append}
@@ -63,21 +64,23 @@ all_empty P new p h = all_weaker (λ l. l ≡ empty_log) P (λ l is. subst P (sy
 
 -- ---- the stream after it
 
-pub stream_grown : (v : StreamValue) (tree : List ShardState) (new : List LogValue) (ws : List WindowValue) (next : ℕ) → next ≡ v.next + 1 → v.next ≢ last_number → AllByRecursion (λ l. l ≡ empty_log) new → AllByRecursion IsUnused ws → length ws ≡ length new → length tree ≡ length v.tree + length new → length (filter is_open tree) ≤ OPEN_SHARDS → AllByRecursion (EndsUnder next) tree → IsStream v
+pub stream_grown : (v : StreamValue) (tree : List ShardState) (new : List LogValue) (ws : List WindowValue) (next : ℕ) → v.next ≤ next → next < 2 ^ 64
+    → AllByRecursion (λ l. l ≡ empty_log) new → AllByRecursion IsUnused ws → length ws ≡ length new → length tree ≡ length v.tree + length new
+    → length (filter is_open tree) ≤ OPEN_SHARDS → AllByRecursion (EndsUnder next) tree → IsStream v
     → IsStream (record v { tree = tree; logs = v.logs ++ new; windows = v.windows ++ ws; next = next; clock_before = v.clock; cut_before = v.cut })
-stream_grown v tree new ws next drawn free empty unused beside grown few ends is = record {
+stream_grown v tree new ws next more within empty unused beside grown few ends is = record {
   as_many = omega (arith, length-append v.logs new, is.as_many, grown);
   few = few;
   lasting = is.lasting;
-  numbers = all_append (IsBelow next) v.logs new (below_higher v.next next v.logs (omega (arith, drawn)) is.numbers) (all_empty (IsBelow next) new tt empty);
+  numbers = all_append (IsBelow next) v.logs new (below_higher v.next next v.logs more is.numbers) (all_empty (IsBelow next) new tt empty);
   endings = ends;
   arrivals = all_append (HasArrived v.clock) v.logs new (arrived_later v.clock_before v.clock v.logs is.order is.arrivals) (all_empty (HasArrived v.clock) new tt empty);
   order = omega arith;
   trims = is.trims;
   trims_before = is.trims;
   rated = rated_more v.clock_before v.clock (length v.tree) (length tree) v.windows ws is.order (omega (arith, grown, beside)) unused is.rated;
-  drawn = omega (arith, drawn);
-  fits = one_free v.next next drawn free is.fits;
+  drawn = omega (arith, more, is.drawn);
+  fits = within;
 }
 
 -- ... of a journal with one line more, which adds no record
@@ -150,7 +153,8 @@ stream_split v sh at next tree logs windows ws drawn free few passes tree_is log
     let how : Closing = record { number = v.next; clock = v.clock } in
     subst (λ (us : List WindowValue). IsStream (record v { tree = tree; logs = logs; windows = us; next = next; clock_before = v.clock; cut_before = v.cut })) (sym windows_are)
     (subst (λ (ls : List LogValue). IsStream (record v { tree = tree; logs = ls; windows = v.windows ++ ws; next = next; clock_before = v.clock; cut_before = v.cut })) (sym logs_are)
-    (stream_grown v tree (empty_log ∷ empty_log ∷ []) ws next drawn free (refl, (refl, tt)) unused beside (ap length tree_is ∙ length_split sh at (v.next + 1) how v.tree)
+    (stream_grown v tree (empty_log ∷ empty_log ∷ []) ws next (omega (arith, drawn)) (one_free v.next next drawn free is.fits) (refl, (refl, tt)) unused beside
+    (ap length tree_is ∙ length_split sh at (v.next + 1) how v.tree)
     (subst (λ (xs : List ShardState). length (filter is_open xs) ≤ OPEN_SHARDS) (sym tree_is) (few_split v.tree sh at (v.next + 1) how few passes))
     (subst (AllByRecursion (EndsUnder next)) (sym tree_is) (ends_split next sh at (v.next + 1) how v.tree (omega (arith, drawn)) (ends_later v.next next v.tree (omega (arith, drawn)) is.endings))) is))
 
@@ -160,7 +164,8 @@ stream_merged v sh other next tree logs windows ws drawn free passes tree_is log
     let how : Closing = record { number = v.next; clock = v.clock } in
     subst (λ (us : List WindowValue). IsStream (record v { tree = tree; logs = logs; windows = us; next = next; clock_before = v.clock; cut_before = v.cut })) (sym windows_are)
     (subst (λ (ls : List LogValue). IsStream (record v { tree = tree; logs = ls; windows = v.windows ++ ws; next = next; clock_before = v.clock; cut_before = v.cut })) (sym logs_are)
-    (stream_grown v tree (empty_log ∷ []) ws next drawn free (refl, tt) unused beside (ap length tree_is ∙ length_merged sh other (v.next + 1) how v.tree)
+    (stream_grown v tree (empty_log ∷ []) ws next (omega (arith, drawn)) (one_free v.next next drawn free is.fits) (refl, tt) unused beside
+    (ap length tree_is ∙ length_merged sh other (v.next + 1) how v.tree)
     (subst (λ (xs : List ShardState). length (filter is_open xs) ≤ OPEN_SHARDS) (sym tree_is) (few_merged v.tree sh other (v.next + 1) how is.few passes))
     (subst (AllByRecursion (EndsUnder next)) (sym tree_is) (ends_merged next sh other (v.next + 1) how v.tree (omega (arith, drawn)) (ends_later v.next next v.tree (omega (arith, drawn)) is.endings))) is))
 

@@ -199,23 +199,23 @@ shows_puts (item ∷ items) v log by f enforces same none within trims shown =
 
 -- ---- a stream still
 
-stream_none : (v : StreamValue) (next : ℕ) → next ≡ v.next → IsStream v → IsStream (record v { next = next; clock_before = v.clock; cut_before = v.cut })
-stream_none v next same is =
-    let numbers : AllByRecursion (IsBelow next) v.logs = subst (λ n. AllByRecursion (IsBelow n) v.logs) (sym same) is.numbers in
-    record {
-      as_many = is.as_many;
-      few = is.few;
-      lasting = is.lasting;
-      numbers = numbers;
-      endings = subst (λ n. AllByRecursion (EndsUnder n) v.tree) (sym same) is.endings;
-      arrivals = arrived_later v.clock_before v.clock v.logs is.order is.arrivals;
-      order = omega arith;
-      trims = is.trims;
-      trims_before = is.trims;
-      rated = rated_later v.clock_before v.clock (length v.tree) v.windows is.order is.rated;
-      drawn = omega (arith, same, is.drawn);
-      fits = omega (arith, same, is.fits);
-    }
+-- with other windows, and the same next number
+pub stream_same : (v : StreamValue) (windows : List WindowValue) (next : ℕ) → next ≡ v.next → AreRated v.clock (length v.tree) windows → IsStream v
+    → IsStream (record v { windows = windows; next = next; clock_before = v.clock; cut_before = v.cut })
+stream_same v windows next same rated is = record {
+  as_many = is.as_many;
+  few = is.few;
+  lasting = is.lasting;
+  numbers = subst (λ n. AllByRecursion (IsBelow n) v.logs) (sym same) is.numbers;
+  endings = subst (λ n. AllByRecursion (EndsUnder n) v.tree) (sym same) is.endings;
+  arrivals = arrived_later v.clock_before v.clock v.logs is.order is.arrivals;
+  order = omega arith;
+  trims = is.trims;
+  trims_before = is.trims;
+  rated = rated;
+  drawn = omega (arith, same, is.drawn);
+  fits = omega (arith, same, is.fits);
+}
 
 number_free : (n m k : ℕ) → m ≡ n + suc k → m < 2 ^ 64 → n ≢ last_number
 number_free n m k is fits e = absurd (omega (arith, is, fits, e))
@@ -223,27 +223,11 @@ number_free n m k is fits e = absurd (omega (arith, is, fits, e))
 pub stream_puts : (items : List NewItem) (v : StreamValue) (next : ℕ) → next ≡ v.next + length items → next < 2 ^ 64 → IsStream v
     → IsStream (record v { logs = with_each (routed_items v.tree v.clock v.next items) v.logs; next = next; clock_before = v.clock; cut_before = v.cut })
 unfolding after_one
-stream_puts [] v next drawn fits is = stream_none v next (omega (arith, drawn)) is
+stream_puts [] v next drawn fits is =
+    stream_same v v.windows next (omega (arith, drawn)) (rated_later v.clock_before v.clock (length v.tree) v.windows is.order is.rated) is
 stream_puts (item ∷ items) v next drawn fits is =
     stream_puts items (after_one v item) next (omega (arith, drawn)) fits
     (stream_put v (home_among (filter is_open v.tree) item.hash) (v.next + 1) (put_record v item) _ v.windows refl (number_free v.next next (length items) drawn fits) refl refl refl (rated_later v.clock_before v.clock (length v.tree) v.windows is.order is.rated) is)
-
--- with other windows
-pub stream_rated : (v : StreamValue) (windows : List WindowValue) → AreRated v.clock_before (length v.tree) windows → IsStream v → IsStream (record v { windows = windows })
-stream_rated v windows rated is = record {
-  as_many = is.as_many;
-  few = is.few;
-  lasting = is.lasting;
-  numbers = is.numbers;
-  endings = is.endings;
-  arrivals = is.arrivals;
-  order = is.order;
-  trims = is.trims;
-  trims_before = is.trims_before;
-  rated = rated;
-  drawn = is.drawn;
-  fits = is.fits;
-}
 
 -- ---- the decision
 

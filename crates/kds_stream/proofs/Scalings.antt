@@ -16,7 +16,7 @@ use Rattle.kds_defs.specs.Histories.{answer_of, lines_of}
 use Rattle.kds_defs.specs.Journal.{Journal, Line, plain_line, with_lines}
 use Rattle.kds_defs.specs.Records.{next_number}
 use Rattle.kds_base.specs.Span.{uniform_from}
-use Rattle.kds_base.proofs.Facts.{neither_left, all_append}
+use Rattle.kds_base.proofs.Facts.{neither_left}
 use Rattle.kds_defs.specs.Scaling.{apart, is_start, scale, starts_of, uniform_starts, with_start}
 use Rattle.kds_defs.specs.ScaleCommands.{made_by, starts_among, step_entry, step_lines, steps_to}
 use Rattle.kds_defs.specs.Shards.{ShardState, is_open, shards}
@@ -24,17 +24,14 @@ use Rattle.kds_defs.specs.StreamCommands.{last_number}
 use Rattle.kds_defs.proofs.Counted.{length_split, length_merged}
 use Rattle.kds_log.specs.Log.{LogValue}
 use Rattle.kds_rate.specs.Windows.{WindowValue}
-use Rattle.kds_stream.proofs.LogLemmas.{arrived_later, below_higher}
 use Rattle.kds_stream.proofs.NewStreams.{all_replicate}
 use Rattle.kds_stream.proofs.Puts.{ends_later}
-use Rattle.kds_stream.proofs.Rates.{rated_more}
-use Rattle.kds_stream.proofs.Resharded.{ends_merged, ends_split, shows_merged, shows_split}
+use Rattle.kds_stream.proofs.Resharded.{ends_merged, ends_split, shows_merged, shows_split, stream_grown}
 use Rattle.kds_stream_logs.specs.Rating.{IsUnused}
-use Rattle.kds_stream.specs.Rating.{AreRated}
 use Rattle.kds_stream.specs.Showing.{Shows, merge_line, split_line}
 use Rattle.kds_stream_logs.specs.Steps.{entries_in, home_in, scaled, starts_in, stepped}
 use Rattle.kds_stream.specs.Steps.{are_spent, scale_where}
-use Rattle.kds_stream_logs.specs.Logs.{HasArrived, IsBelow, empty_log}
+use Rattle.kds_stream_logs.specs.Logs.{empty_log}
 use Rattle.kds_stream.specs.Value.{EndsUnder, IsStream, StreamValue}
 
 -- ---- the shards after the steps
@@ -58,20 +55,14 @@ stream_scaled v steps tree logs windows ws next tree_is few drawn fits logs_are 
     let grown : length tree ≡ length v.tree + made_by steps = ap length tree_is ∙ length_scaled steps v.next v.clock v.tree in
     let new : List LogValue = replicate (made_by steps) empty_log in
     let as_long : length new ≡ made_by steps = length-replicate (made_by steps) empty_log in
-    record {
-      as_many = ap length logs_are ∙ omega (arith, length-append v.logs new, as_long, is.as_many, grown);
-      few = few;
-      lasting = is.lasting;
-      numbers = subst (AllByRecursion (IsBelow next)) (sym logs_are) (all_append (IsBelow next) v.logs new (below_higher v.next next v.logs (omega (arith, drawn)) is.numbers) (all_replicate (IsBelow next) (made_by steps) empty_log tt));
-      endings = subst (AllByRecursion (EndsUnder next)) (sym tree_is) (ends_scaled steps v.next v.clock next v.tree (omega (arith, drawn)) (ends_later v.next next v.tree (omega (arith, drawn)) is.endings));
-      arrivals = subst (AllByRecursion (HasArrived v.clock)) (sym logs_are) (all_append (HasArrived v.clock) v.logs new (arrived_later v.clock_before v.clock v.logs is.order is.arrivals) (all_replicate (HasArrived v.clock) (made_by steps) empty_log tt));
-      order = omega arith;
-      trims = is.trims;
-      trims_before = is.trims;
-      rated = subst (AreRated v.clock (length tree)) (sym windows_are) (rated_more v.clock_before v.clock (length v.tree) (length tree) v.windows ws is.order (omega (arith, grown, many)) unused is.rated);
-      drawn = omega (arith, drawn, is.drawn);
-      fits = fits;
-    }
+    let ends : AllByRecursion (EndsUnder next) (scaled steps v.next v.clock v.tree) =
+    ends_scaled steps v.next v.clock next v.tree (omega (arith, drawn)) (ends_later v.next next v.tree (omega (arith, drawn)) is.endings) in
+    subst (λ (us : List WindowValue). IsStream (record v { tree = tree; logs = logs; windows = us; next = next; clock_before = v.clock; cut_before = v.cut }))
+    (sym windows_are)
+    (subst (λ (ls : List LogValue).
+    IsStream (record v { tree = tree; logs = ls; windows = v.windows ++ ws; next = next; clock_before = v.clock; cut_before = v.cut })) (sym logs_are)
+    (stream_grown v tree new ws next (omega (arith, drawn)) fits (all_replicate (λ l. l ≡ empty_log) (made_by steps) empty_log refl) unused (many ∙ sym as_long)
+    (omega (arith, grown, as_long)) few (subst (AllByRecursion (EndsUnder next)) (sym tree_is) ends) is))
 
 -- ---- what it shows
 

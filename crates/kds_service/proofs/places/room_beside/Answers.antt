@@ -1,3 +1,4 @@
+-- Each stream takes from the room what it has open.
 use Rattle.std.proofs.Common.{ap, arith}
 use Rattle.indexmap.specs.IndexMap.{values}
 use Rattle.kds_service.proofs.Lists.{drop_get}

@@ -1,3 +1,4 @@
+-- Each command leads as the function that serves it ensures.
 use Rattle.std.proofs.Common.{refl}
 use Rattle.std.specs.Prelude.{Ok}
 use Rattle.indexmap.specs.IndexMap.{values}

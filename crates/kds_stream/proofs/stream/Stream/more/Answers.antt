@@ -1,3 +1,4 @@
+-- A token that is too old is refused, and any other lists the shards after its own.
 use Rattle.std.proofs.Common.{◌≡◌, Some, true, false, sym, subst, ap, ◌∙◌}
 use Rattle.std.specs.Prelude.{not, IfOk}
 use Rattle.kds_defs.proofs.Decisions.{passed_if, refused_if}

@@ -10,7 +10,7 @@ use Rattle.kds_log.specs.Log.{LogValue, LogWithRoom, log_of}
 use Rattle.kds_rate.specs.Windows.{WindowValue}
 use Rattle.kds_stream.proofs.LogLemmas.{written_back}
 use Rattle.kds_stream.proofs.Puts.{led_along}
-use Rattle.kds_stream.proofs.Routings.{can_take, in_turn, puts_done, puts_spent, shows_each, stream_each, stream_puts, stream_rated, with_logs}
+use Rattle.kds_stream.proofs.Routings.{can_take, in_turn, puts_done, puts_spent, shows_each, stream_each, stream_puts, stream_same, with_logs}
 use Rattle.kds_stream_logs.specs.declared.routes.Routed.{Routed}
 use Rattle.kds_stream_logs.specs.declared.routes.Routes.{Routes}
 use Rattle.kds_stream_logs.specs.Rating.{StandFor}
@@ -68,7 +68,7 @@ invariant_of-self-2 c =
     ∙ c.in_ok-put_all.ensures.ok
     ∙ ap (λ (ls : List LogWithRoom). settled_each f ps (with_each rs (map log_of ls))) c.deref_mut-2.ensures.value
     ∙ ap (λ (qs : List Routed). settled_each f ps (with_each qs v.logs)) are in
-    let stored = stream_rated _ ws rated (stream_puts placed.items v next drawn placed.fits c.self.invariant) in
+    let stored = stream_same _ ws next refl rated (stream_puts placed.items v next drawn placed.fits c.self.invariant) in
     subst (λ (us : List WindowValue). IsStream (with_logs v kept us next)) (sym (written_back c.in_ok-windows.windows.len ws c.in_ok-windows.windows.items many))
     (subst (λ (ls : List LogValue). IsStream (with_logs v ls ws next)) (sym back) (stream_each v ws next ps _ stored))
 
