@@ -1,5 +1,5 @@
 -- The text of a legal journal is found sound, unless a length in it is too great.
-use Rattle.std.proofs.Common.{◌≡◌, ◌⊎◌, ℕ, ◌+◌, ◌≤◌, ◌<◌, ◌^◌, Bool, true, false, cond, List, [], ◌∷◌, ◌++◌, length, map, Option, Some, None, refl, sym, ap}
+use Rattle.std.proofs.Common.{◌≡◌, ◌⊎◌, ℕ, ◌+◌, ◌≤◌, ◌<◌, ◌^◌, Bool, true, false, cond, List, [], ◌∷◌, ◌++◌, length, map, Option, Some, None, refl, sym, ap, arith}
 use Rattle.std.proofs.Common.{subst, ◌∙◌, inl, inr}
 use Rattle.std.specs.Prelude.{◌≢◌, flat_map, if◌then◌else◌, Ok, Err}
 use Rattle.std.specs.List.{AllByRecursion, onto_first}
@@ -9,7 +9,7 @@ use Rattle.std.proofs.lemmas.List.Splits.{slice_split-cons_no, slice_split-cons_
 use Rattle.std.proofs.lemmas.Slice.Eq.{bytes_eq-Decides}
 use Rattle.kds_defs.specs.Journal.{Journal, Line, with_lines}
 use Rattle.kds_defs.specs.Legal.{IsGood, IsLegal, last_clock}
-use Rattle.kds_lines.specs.Lines.{End, Lined, ended, is_feed, is_over, lined, lined_from, pieces, preceded, too_long, unfinished, whole}
+use Rattle.kds_lines.specs.Lines.{End, Lined, ended, is_feed, is_over, lined, lined_from, pieces, preceded, too_long}
 use Rattle.kcl_script_fields.specs.Fields.{Lacks}
 use Rattle.kcl_journal.specs.declared.line.EntryLine.{EntryLine}
 use Rattle.kcl_journal.specs.declared.line.TheConstants.{FIRST_VERSION, VERSION}
@@ -18,8 +18,8 @@ use Rattle.kcl_journal.specs.Ranges.{IsEntryLine}
 use Rattle.kcl_audit_streams.specs.declared.rule.Rule.TheVariants as rule
 use Rattle.kcl_audit_streams.specs.Verdict.{verdict}
 use Rattle.kcl_audit_judge.proofs.GoodLines.{not_below}
-use Rattle.kcl_audit.specs.Progress.{AuditEnd, Progress, after_end, after_entry, after_line, after_other, audit_of, behind_end, closed, finish, found}
-use Rattle.kcl_audit.specs.Progress.{fresh, going, line_of, line_step, next, over, progress, progress_from, sound, step, without_end}
+use Rattle.kcl_audit.specs.Progress.{AuditEnd, Progress, after_end, after_entry, after_line, after_other, audit_of, closed, finish, found}
+use Rattle.kcl_audit.specs.Progress.{fresh, going, line_of, line_step, next, over, progress, progress_from, sound, step}
 use Rattle.kcl_audit.specs.Text.{IsJournal, counted, entries_text, journal_of, with_feed}
 use Rattle.kcl_audit.proofs.SoundTexts.{lines_are}
 
@@ -75,21 +75,9 @@ past p text z n stops lacks later used =
     past_by (is_over (length text) more) p text (lined_from more (pieces z)) n stops (later more))
 
 -- only a length that is too great leaves out both verdicts
-without_over : (count : ℕ) (end : End) → without_end count end ≡ over → end ≡ too_long
-without_over count whole h = absurd cc
-without_over count unfinished h = absurd cc
-without_over count too_long h = refl
-
-behind_over : (count : ℕ) (end : End) → behind_end count end ≡ over → end ≡ too_long
-behind_over count whole h = absurd cc
-behind_over count unfinished h = absurd cc
-behind_over count too_long h = refl
-
 finish_over : (p : Progress) (end : End) → finish p end ≡ over → end ≡ too_long
-finish_over fresh end h = without_over 0 end h
-finish_over (going v log count) end h = without_over count end h
-finish_over (closed count) end h = behind_over count end h
 finish_over (found n r) end h = absurd cc
+finish_over _ end h = grind (arith, h)
 
 pub over_so : (bytes : List ℕ) → audit_of bytes ≡ over → (lined bytes).end ≡ too_long
 over_so bytes h = finish_over (progress (lined bytes).texts) (lined bytes).end h

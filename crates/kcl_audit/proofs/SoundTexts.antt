@@ -1,5 +1,5 @@
 -- A text whose audit is sound is that of a legal journal.
-use Rattle.std.proofs.Common.{◌≡◌, ℕ, ◌+◌, ◌≤◌, ◌<◌, ◌^◌, Bool, true, false, List, [], ◌∷◌, ◌++◌, length, map, Option, Some, None, refl, sym, ap, subst}
+use Rattle.std.proofs.Common.{◌≡◌, ℕ, ◌+◌, ◌≤◌, ◌<◌, ◌^◌, Bool, true, false, List, [], ◌∷◌, ◌++◌, length, map, Option, Some, None, refl, sym, ap, subst, arith}
 use Rattle.std.proofs.Common.{◌∙◌, inl, inr}
 use Rattle.std.specs.Prelude.{nat_lt, reverse, flat_map, if◌then◌else◌, Ok, Err}
 use Rattle.std.specs.List.{AllByRecursion, join_with_byte}
@@ -20,8 +20,8 @@ use Rattle.kcl_journal.specs.Ranges.{IsEntryLine}
 use Rattle.kcl_audit_streams.specs.declared.rule.Rule.{Rule}
 use Rattle.kcl_audit_streams.specs.declared.rule.Rule.TheVariants as rule
 use Rattle.kcl_audit_streams.specs.Verdict.{IsFit, Verdict, verdict}
-use Rattle.kcl_audit.specs.Progress.{Progress, after_end, after_entry, after_line, after_other, audit_of, behind_end, closed, finish, found, fresh, going}
-use Rattle.kcl_audit.specs.Progress.{line_of, next, progress, progress_from, sound, step, without_end}
+use Rattle.kcl_audit.specs.Progress.{Progress, after_end, after_entry, after_line, after_other, audit_of, closed, finish, found, fresh, going}
+use Rattle.kcl_audit.specs.Progress.{line_of, next, progress, progress_from, sound, step}
 use Rattle.kcl_audit.specs.Text.{IsJournal, counted, heading_text, journal_of, with_feed}
 use Rattle.kcl_audit.proofs.Fits.{tellable_fit}
 
@@ -57,21 +57,9 @@ whole_text bytes h = sym (join_with_byte-slice_split 10 bytes) ∙ whole_from 0 
 
 -- ---- how a sound audit ends
 
-behind_so : (count : ℕ) (end : End) (n : ℕ) → behind_end count end ≡ sound n → (count ≡ n) × (end ≡ whole)
-behind_so count whole n h = (cc, refl)
-behind_so count unfinished n h = absurd cc
-behind_so count too_long n h = absurd cc
-
-never_without : (count : ℕ) (end : End) (n : ℕ) → without_end count end ≡ sound n → ⊥
-never_without count whole n h = cc
-never_without count unfinished n h = cc
-never_without count too_long n h = cc
-
 finish_so : (p : Progress) (end : End) (n : ℕ) → finish p end ≡ sound n → (p ≡ closed n) × (end ≡ whole)
-finish_so fresh end n h = absurd (never_without 0 end n h)
-finish_so (going v log count) end n h = absurd (never_without count end n h)
-finish_so (closed count) end n h = let b = behind_so count end n h in (ap closed b.0, b.1)
-finish_so (found m r) end n h = absurd cc
+finish_so (closed count) whole n h = grind (arith, h)
+finish_so _ _ n h = absurd (grind (arith, h))
 
 found_stays : (m : ℕ) (r : Rule) (texts : List (List ℕ)) (n : ℕ) → progress_from (found m r) texts ≡ closed n → ⊥
 found_stays m r [] n h = cc
