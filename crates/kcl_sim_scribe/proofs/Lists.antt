@@ -1,5 +1,5 @@
 -- Lists: what a test finds or keeps.
-use Rattle.std.proofs.Common.{◌≡◌, ℕ, zero, suc, ◌+◌, ◌≤◌, List, [], ◌∷◌, ◌++◌, length, map, take, drop, Bool, true, false}
+use Rattle.std.proofs.Common.{◌≡◌, ℕ, zero, suc, ◌+◌, ◌≤◌, List, [], ◌∷◌, ◌++◌, length, map, take, drop, Bool, true}
 use Rattle.std.proofs.Common.{Some, refl, ap, ◌∙◌, arith, inl, inr, subst}
 use Rattle.std.proofs.lemmas.Bool.{cases_Bool}
 use Rattle.std.proofs.lemmas.List.{append-nil, drop_all, take_all}
@@ -27,24 +27,12 @@ unmapped Q f (x ∷ xs) all = (all.0, unmapped Q f xs all.1)
 -- two tests, one after the other
 pub both_tests : {A : Type 0} (p q : A → Bool) (xs : List A) → filter (λ x. q x && p x) xs ≡ filter q (filter p xs)
 both_tests p q [] = refl
-both_tests p q (x ∷ xs) = elim (cases_Bool (p x)) [
-  | inl here ↦ elim (cases_Bool (q x)) [
-    | inl too ↦ rw (here, too) (ap (λ ys. x ∷ ys) (both_tests p q xs))
-    | inr out ↦ rw (here, out) (both_tests p q xs)
-  ]
-  | inr there ↦ elim (cases_Bool (q x)) [
-    | inl too ↦ rw (there, too) (both_tests p q xs)
-    | inr out ↦ rw (there, out) (both_tests p q xs)
-  ]
-]
+both_tests p q (x ∷ xs) = grind (arith, both_tests p q xs)
 
 -- two tests that agree on each
 pub same_kept : {A : Type 0} (p q : A → Bool) (xs : List A) → AllByRecursion (λ x. p x ≡ q x) xs → filter p xs ≡ filter q xs
 same_kept p q [] all = refl
-same_kept p q (x ∷ xs) all = elim (cases_Bool (q x)) [
-  | inl here ↦ let too : p x ≡ true = all.0 ∙ here in rw (here, too) (ap (λ ys. x ∷ ys) (same_kept p q xs all.1))
-  | inr there ↦ let out : p x ≡ false = all.0 ∙ there in rw (there, out) (same_kept p q xs all.1)
-]
+same_kept p q (x ∷ xs) all = grind (arith, all.0, same_kept p q xs all.1)
 
 -- ---- numbers
 

@@ -1,6 +1,6 @@
 -- What a scribe knows of a journal after the making of a stream.
-use Rattle.std.proofs.Common.{◌≡◌, ℕ, suc, ◌+◌, ◌^◌, ◌/◌, ◌≤◌, List, [], ◌∷◌, ◌++◌, length, Bool, false, refl, sym, ap, ◌∙◌, arith, inl, inr, subst}
-use Rattle.std.proofs.lemmas.Bool.{cases_Bool, eqb-true}
+use Rattle.std.proofs.Common.{◌≡◌, ℕ, suc, ◌+◌, ◌^◌, ◌/◌, ◌≤◌, List, [], ◌∷◌, ◌++◌, length, Bool, false, refl, sym, ap, ◌∙◌, arith, subst}
+use Rattle.std.proofs.lemmas.Bool.Decides.{nat_tests}
 use Rattle.std.proofs.lemmas.List.{map_push}
 use Rattle.std.proofs.lemmas.List.Elements.{filter-append}
 use Rattle.std.specs.List.{AllByRecursion, filter}
@@ -21,10 +21,7 @@ pub length_made : (count start : ℕ) → length (made_shards count start) ≡ c
 length_made count start = length_first 0 start (uniform count) ∙ length_uniform (2 ^ 128 / count) 0 count
 
 above : (m n : ℕ) → n ≤ m → (m + 1 == n) ≡ false
-above m n below = elim (cases_Bool (m + 1 == n)) [
-  | inl same ↦ let e : m + 1 ≡ n = eqb-true (m + 1) n same in absurd (omega (arith, e, below))
-  | inr other ↦ other
-]
+above m n below = grind (arith, nat_tests, below)
 
 module _ (log : Journal) (c by count : ℕ) (name : List ℕ) where
   abbrev line : Line

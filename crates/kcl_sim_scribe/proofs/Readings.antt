@@ -1,5 +1,5 @@
 -- What a scribe knows of a journal, after a line of it other than the making of a stream.
-use Rattle.std.proofs.Common.{◌≡◌, ℕ, ◌+◌, ◌<◌, ◌≤◌, List, [], ◌∷◌, length, map, Bool, true, false, Option, Some, refl, sym, ap, ◌∙◌, arith, inl, inr, subst}
+use Rattle.std.proofs.Common.{◌≡◌, ℕ, ◌+◌, ◌<◌, ◌≤◌, List, [], ◌∷◌, length, map, Bool, true, false, refl, sym, ap, ◌∙◌, arith, inl, inr, subst}
 use Rattle.std.proofs.lemmas.Bool.{cases_Bool, eqb-true, ne_eqb}
 use Rattle.std.specs.List.{AllByRecursion, filter, find}
 use Rattle.std.specs.Prelude.{◌==◌, ◌&&◌, not, option_map, if◌then◌else◌}
@@ -21,20 +21,10 @@ no_of v = v.no
 
 -- ---- the stream of a name
 
-pick : (b : Bool) (v : Known) (x : Option ℕ) (y : Option Known) → x ≡ option_map no_of y
-    → (if b then Some v.no else x) ≡ option_map no_of (if b then Some v else y)
-pick true v x y h = refl
-pick false v x y h = h
-
 named_among : (log : Journal) (name : List ℕ) (vs : List Known) → AllByRecursion (IsKnown log) vs
     → find (λ s. same_name (name_of log s) name) (map no_of vs) ≡ option_map no_of (known_as name vs)
 named_among log name [] all = refl
-named_among log name (v ∷ vs) all =
-    let test : same_name (name_of log v.no) name ≡ same_name v.name name = ap (λ n. same_name n name) all.0.named in
-    elim (cases_Bool (same_name v.name name)) [
-      | inl here ↦ let too : same_name (name_of log v.no) name ≡ true = test ∙ here in rw (too, here) refl
-      | inr there ↦ let out : same_name (name_of log v.no) name ≡ false = test ∙ there in rw (out, there) (named_among log name vs all.1)
-    ]
+named_among log name (v ∷ vs) all = grind (arith, all.0.named, named_among log name vs all.1)
 
 pub named_is : (log : Journal) (made : ℕ) (vs : List Known) (name : List ℕ) → Knows log made vs → stream_named log name ≡ option_map no_of (known_as name vs)
 named_is log made vs name k = ap (find (λ s. same_name (name_of log s) name)) k.live ∙ named_among log name vs k.known
@@ -156,14 +146,7 @@ same_no log line e v f k = (entry_kept log line e v f k).same
 gone_among : (log : Journal) (line : Line) (e : Entry) (vs : List Known) → Fits log e → AllByRecursion (IsKnown log) vs
     → filter (λ s. not (is_gone e s)) (map no_of vs) ≡ map no_of (changed e vs)
 gone_among log line e [] f all = refl
-gone_among log line e (v ∷ vs) f all =
-    let same = same_no log line e v f all.0 in
-    let rest = gone_among log line e vs f all.1 in
-    let test : not (is_gone e (renumbered e v).no) ≡ not (is_gone e v.no) = ap (λ n. not (is_gone e n)) same in
-    elim (cases_Bool (not (is_gone e v.no))) [
-      | inl stays ↦ let too : not (is_gone e (renumbered e v).no) ≡ true = test ∙ stays in rw (stays, too) (λ i. sym same i ∷ rest i)
-      | inr goes ↦ let too : not (is_gone e (renumbered e v).no) ≡ false = test ∙ goes in rw (goes, too) rest
-    ]
+gone_among log line e (v ∷ vs) f all = grind (arith, same_no log line e v f all.0, gone_among log line e vs f all.1)
 
 agree : (log : Journal) (e : Entry) (ns : List ℕ) → Fits log e
     → AllByRecursion (λ s. is_live_after e s (is_live log s) ≡ (not (is_gone e s) && is_live log s)) ns

@@ -60,11 +60,7 @@ puts_told : (log : Journal) (c by s : ℕ)
     (items : List NewItem) → map told_by (put_lines log c by s items) ≡ lines_by c by (put_entries s items (put_outcomes log c by s items))
 puts_told log c by s [] = refl
 puts_told log c by s (item ∷ items) =
-    let line : Line = put_line log c by s (next_number log s) item in
-    elim (cases_Bool (is_held_back log c s item)) [
-      | inl held ↦ rw held (puts_told log c by s items)
-      | inr free ↦ rw free (ap (λ ls. told_by line ∷ ls) (puts_told (line ∷ log) c by s items))
-    ]
+    grind (arith, puts_told log c by s items, puts_told (put_line log c by s (next_number log s) item ∷ log) c by s items)
 
 -- where no item or no outcome is left, there is no further entry
 pub none_put : (s : ℕ) (items : List NewItem) (outcomes : List Outcome) → (items ≡ []) ⊎ (outcomes ≡ []) → put_entries s items outcomes ≡ []
