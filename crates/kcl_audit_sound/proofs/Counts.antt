@@ -1,10 +1,9 @@
 -- How many streams, shards and tenures a legal journal has made, at most.
-use Rattle.std.proofs.Common.{◌≡◌, ℕ, zero, suc, ◌+◌, ◌^◌, ◌<◌, ◌≤◌, Bool, true, false, List, [], ◌∷◌, length, refl, sym, ap, subst, arith}
-use Rattle.std.specs.Prelude.{◌==◌, cond, slice_get, if◌then◌else◌, Option, Some, None}
+use Rattle.std.proofs.Common.{◌≡◌, ℕ, zero, suc, ◌+◌, ◌^◌, ◌<◌, ◌≤◌, Bool, true, false, List, [], ◌∷◌, length, refl, ap, arith}
+use Rattle.std.specs.Prelude.{◌==◌, slice_get, if◌then◌else◌, Option, Some, None}
 use Rattle.std.specs.List.{filter}
 use Rattle.std.proofs.lemmas.Bool.Decides.{nat_tests}
 use Rattle.std.proofs.lemmas.Bool.{or_parts}
-use Rattle.kds_base.specs.Span.{covers}
 use Rattle.kds_base.proofs.Facts.{equal_so}
 use Rattle.kds_defs.specs.declared.entry.Entry.{Entry}
 use Rattle.kds_defs.specs.declared.entry.Entry.TheVariants as entry
@@ -113,18 +112,10 @@ pub listed_fits : (log : Journal) (c s sh : ℕ) → IsLegal log → is_listed l
 listed_fits log c s sh legal h = omega (arith, there_below log c s sh (shard_at log s sh) refl h, shards_fit log legal s)
 
 -- the home of a key
-home_by : (b d : Bool) (x : ShardState) (xs : List ShardState) (k m : ℕ) → covers x.range k ≡ d → x.no < m → home_among (filter is_open xs) k < m
-    → home_among (cond b (x ∷ filter is_open xs) (filter is_open xs)) k < m
-home_by false d x xs k m is below rest = rest
-home_by true true x xs k m is below rest =
-    subst (λ n. n < m) (ap (λ b. if b then x.no else home_among (filter is_open xs) k) (sym is)) below
-home_by true false x xs k m is below rest =
-    subst (λ n. n < m) (ap (λ b. if b then x.no else home_among (filter is_open xs) k) (sym is)) rest
-
 home_below : (xs : List ShardState) (n k m : ℕ) → AreNumbered n xs → n + length xs ≤ m → 0 < m → home_among (filter is_open xs) k < m
 home_below [] n k m numbers le some = some
 home_below (x ∷ xs) n k m numbers le some =
-    home_by (is_open x) (covers x.range k) x xs k m refl (omega (arith, numbers.0, le)) (home_below xs (n + 1) k m numbers.1 (omega (arith, le)) some)
+    grind (arith, numbers.0, le, home_below xs (n + 1) k m numbers.1 (omega (arith, le)) some)
 
 pub home_fits : (log : Journal) (s k : ℕ) → AreNumbered 0 (shards log s) → length (shards log s) ≤ 2 ^ 64 → home log s k < 2 ^ 64
 home_fits log s k numbers le = home_below (shards log s) 0 k (2 ^ 64) numbers (omega (arith, le)) (omega arith)

@@ -1,5 +1,5 @@
 -- The lines of each command that is accepted after a legal journal can be told.
-use Rattle.std.proofs.Common.{◌≡◌, ℕ, ◌+◌, ◌^◌, ◌<◌, ◌≤◌, Bool, true, false, List, [], ◌∷◌, length, refl, arith}
+use Rattle.std.proofs.Common.{◌≡◌, ℕ, ◌+◌, ◌^◌, ◌<◌, ◌≤◌, Bool, true, false, List, [], ◌∷◌, length, arith}
 use Rattle.std.specs.Prelude.{Ok, Result, ◌==◌, ◌&&◌, not, if◌then◌else◌}
 use Rattle.std.specs.List.{AllByRecursion}
 use Rattle.std.proofs.lemmas.Bool.Decides.{nat_tests}
@@ -49,9 +49,7 @@ after_free : (n : ℕ) → (n == last_number) ≡ false → n ≤ last_number �
 after_free n free le = grind (arith, nat_tests)
 
 both_hold : (a b : Bool) → not (a && b) ≡ false → (a ≡ true) × (b ≡ true)
-both_hold true true h = (refl, refl)
-both_hold true false h = absurd cc
-both_hold false b h = absurd cc
+both_hold a b h = (grind (arith, h), grind (arith, h))
 
 origin_counts : (b : Bool) (from : Origin) → IsOrigin from → IsOrigin (if b then origin.TrimHorizon else from)
 origin_counts true from is = tt
