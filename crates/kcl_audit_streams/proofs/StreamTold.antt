@@ -1,10 +1,9 @@
 -- What the entry of a stream tells, by what a judge keeps of it.
 use Rattle.std.proofs.Common.{◌≡◌, ◌≢◌, ℕ, zero, suc, ◌+◌, ◌≤◌, Bool, true, false, List, length, slice_get, Option, Some, None}
 use Rattle.std.proofs.Common.{refl, sym, ap, subst, ◌∙◌, arith}
-use Rattle.std.specs.Prelude.{◌==◌, ◌&&◌, ◌||◌, not, is_some, nat_lt, nat_le, if◌then◌else◌, IfSome, Result, Ok}
+use Rattle.std.specs.Prelude.{◌==◌, ◌&&◌, not, is_some, nat_lt, nat_le, if◌then◌else◌, IfSome, Result, Ok}
 use Rattle.std.specs.List.{AllByRecursion}
 use Rattle.std.proofs.lemmas.Bool.Decides.{nat_tests}
-use Rattle.kds_base.specs.Span.{are_adjacent, is_inside}
 use Rattle.kds_base.proofs.Facts.{is_itself, plus_none}
 use Rattle.kds_defs.specs.declared.command.NewItem.{NewItem}
 use Rattle.kds_defs.specs.declared.entry.Entry.{Entry}
@@ -19,13 +18,12 @@ use Rattle.kds_defs.specs.Legal.{in_stream, item_of, last_clock, told}
 use Rattle.kds_defs.specs.PutCommands.{enforce, put}
 use Rattle.kds_defs.specs.Records.{next_number}
 use Rattle.kds_defs.specs.declared.limits.TheConstants.{OPEN_SHARDS}
-use Rattle.kds_defs.specs.Shards.{ShardState, is_listed, is_listed_state, open_count, range_of, shard_at}
-use Rattle.kds_defs.specs.StreamCommands.{delete, is_open_at, keep, last_number, merge, put_line, split}
+use Rattle.kds_defs.specs.Shards.{ShardState, is_listed, is_listed_state, open_count, shard_at}
+use Rattle.kds_defs.specs.StreamCommands.{delete, keep, merge, put_line, split}
 use Rattle.kds_defs.specs.Streams.{hours, is_live, trim_floor}
 use Rattle.kds_defs.specs.Subjects.{stream_of}
 use Rattle.kds_defs.proofs.Leads.{Leads, past_test}
-use Rattle.kds_tree.specs.Tree.{merge_refusal, split_refusal}
-use Rattle.kcl_audit_streams.specs.Judging.{agrees, entry_verdict, home_in, put_verdict, refused, refused_by, split_verdict, merge_verdict}
+use Rattle.kcl_audit_streams.specs.Judging.{agrees, entry_verdict, home_in, put_verdict, refused, split_verdict, merge_verdict}
 use Rattle.kcl_audit_streams.specs.Standing.{IsStream, StreamValue, floor_in, is_listed_in, is_listed_of}
 use Rattle.kcl_audit_streams.specs.Verdict.{Verdict, judged}
 use Rattle.kcl_audit_streams.proofs.SameEntries.{same_refl}
@@ -103,32 +101,6 @@ listed_made live f None h = grind (arith, h)
 pub swapped : (a b : ℕ) → (a == b) ≡ (b == a)
 swapped a b = grind (arith, nat_tests)
 
--- what a split is judged, by what is known of the shard
-abbrev split_by : Option ShardState → Bool → Bool → ℕ → ℕ → ℕ → Bool → Verdict
-split_by o listed full at len next same =
-    if not listed then refused refusal.NoShard else
-    if not (is_open_at o) then refused refusal.ShardClosed else
-    if not (is_inside (range_of o) at) then refused refusal.BadSplit else
-    if full then refused refusal.Full else
-    if nat_lt last_number (len + 1) || next == last_number then refused refusal.Spent else
-    agrees same
-
-split_cases : (o : Option ShardState) (listed full : Bool) (sh at len next : ℕ) (xs : List ShardState) (same : Bool) → slice_get xs sh ≡ o → (listed ≡ true → is_some o ≡ true)
-    → split_by o listed full at len next same
-    ≡ (if not listed then refused refusal.NoShard else refused_by (split_refusal xs sh at) (if full then refused refusal.Full else if nat_lt last_number (len + 1) || next == last_number then refused refusal.Spent else agrees same))
-split_cases o false full sh at len next xs same is made = refl
-split_cases None true full sh at len next xs same is made = absurd (cc (made refl))
-split_cases (Some x) true full sh at len next xs same is made = rw is (grind arith)
-
--- the same of a merge
-abbrev merge_by : Option ShardState → Option ShardState → Bool → ℕ → ℕ → Bool → Verdict
-merge_by o p listed len next same =
-    if not listed then refused refusal.NoShard else
-    if not (is_open_at o && is_open_at p) then refused refusal.ShardClosed else
-    if not (are_adjacent (range_of o) (range_of p)) then refused refusal.NotAdjacent else
-    if nat_lt last_number len || next == last_number then refused refusal.Spent else
-    agrees same
-
 split_told : (log : Journal) (clock by s sh at m low high : ℕ) (v : StreamValue) (full : Bool) → IsStream log s v → last_clock log ≤ clock
     → full ≡ nat_le OPEN_SHARDS (open_count log)
     → judged (split log clock by s sh at) (entry.Split s sh at m low high) ≡ split_verdict v clock sh at full m low high
@@ -136,28 +108,17 @@ split_told log clock by s sh at m low high v full st order room =
     let n = length v.tree in
     then_refuse _ _ _ _ _ (then_refuse _ _ _ _ _ (then_refuse _ _ _ _ _ (then_refuse _ _ _ _ _ (then_refuse _ _ _ _ _ refl))))
     ∙ rw (listed_is log clock s sh v st order, sym room, st.shards_are, st.draws, is_itself s, is_itself sh, is_itself at)
-    (rw (swapped v.next m, swapped n low, swapped (n + 1) high) (
-    split_cases (slice_get v.tree sh) _ full sh at n v.next v.tree _ refl (λ h. listed_made v.live (floor_in v clock) (slice_get v.tree sh) h)))
-
-merge_cases : (o p : Option ShardState) (a b : Bool) (sh other len next : ℕ) (xs : List ShardState) (same : Bool) → slice_get xs sh ≡ o → slice_get xs other ≡ p → (a ≡ true → is_some o ≡ true) → (b ≡ true → is_some p ≡ true)
-    → merge_by o p (a && b) len next same
-    ≡ (if not (a && b) then refused refusal.NoShard else refused_by (merge_refusal xs sh other) (if nat_lt last_number len || next == last_number then refused refusal.Spent else agrees same))
-merge_cases o p false b sh other len next xs same is also made there = refl
-merge_cases o p true false sh other len next xs same is also made there = refl
-merge_cases None p true true sh other len next xs same is also made there = absurd (cc (made refl))
-merge_cases (Some x) None true true sh other len next xs same is also made there = absurd (cc (there refl))
-merge_cases (Some x) (Some y) true true sh other len next xs same is also made there = rw (is, also) (grind arith)
+    (rw (swapped v.next m, swapped n low, swapped (n + 1) high) (grind (arith, listed_made v.live (floor_in v clock) (slice_get v.tree sh))))
 
 merge_told : (log : Journal) (clock by s sh other m child : ℕ) (v : StreamValue) → IsStream log s v → last_clock log ≤ clock
     → judged (merge log clock by s sh other) (entry.Merged s sh other m child) ≡ merge_verdict v clock sh other m child
 merge_told log clock by s sh other m child v st order =
     let n = length v.tree in
     let made : (q : ℕ) → is_listed_in (Some v) clock q ≡ true → is_some (slice_get v.tree q) ≡ true =
-    λ q h. listed_made v.live (floor_in v clock) (slice_get v.tree q) h in
+    λ q. listed_made v.live (floor_in v clock) (slice_get v.tree q) in
     then_refuse _ _ _ _ _ (then_refuse _ _ _ _ _ (then_refuse _ _ _ _ _ (then_refuse _ _ _ _ _ refl)))
     ∙ rw (listed_is log clock s sh v st order, listed_is log clock s other v st order, st.shards_are, st.draws)
-    (rw (is_itself s, is_itself sh, is_itself other, swapped v.next m, swapped n child, plus_none n) (
-    merge_cases (slice_get v.tree sh) (slice_get v.tree other) _ _ sh other n v.next v.tree _ refl refl (made sh) (made other)))
+    (rw (is_itself s, is_itself sh, is_itself other, swapped v.next m, swapped n child, plus_none n) (grind (arith, made sh, made other)))
 
 -- ---- each entry, once its stream is live
 
