@@ -64,7 +64,6 @@ pub fn judge(streams: &[Stream], clock: Moment, what: &Entry) -> Result<(), Rule
             name,
             shards,
         } => judge_made(streams, *stream, name, *shards),
-        Entry::Gone { stream } => in_stream(streams, *stream).map(|_| ()),
         Entry::Put {
             stream,
             shard,
@@ -91,9 +90,10 @@ pub fn judge(streams: &[Stream], clock: Moment, what: &Entry) -> Result<(), Rule
             seq,
             child,
         } => in_stream(streams, *stream)?.judge_merge(clock, *shard, *other, *seq, *child),
-        Entry::Kept { stream, hours: _ } => in_stream(streams, *stream).map(|_| ()),
-        Entry::Enforced { stream, on: _ } => in_stream(streams, *stream).map(|_| ()),
-        _ => Ok(()),
+        _ => match what.stream() {
+            Some(stream) => in_stream(streams, stream).map(|_| ()),
+            None => Ok(()),
+        },
     }
 }
 
