@@ -349,4 +349,5 @@ idle_same stands w past s =
     ap (λ r. is_stopping r && not (is_due_in w) && not (is_giving_in w) && is_nothing_held w.held) shows.round
     ∙ ap (λ b. is_stopping state.round && not b && not (is_giving_in w) && is_nothing_held w.held) (same (λ p. is_some (due_call p)))
     ∙ ap (λ b. is_stopping state.round && not (list_any is_due_known state.consumers) && not b && is_nothing_held w.held) (same is_giving_phase)
-    ∙ ap (λ h. is_stopping state.round && not (list_any is_due_known state.consumers) && not (list_any is_giving state.consumers) && is_nothing_held h) shows.held
+    ∙ ap (λ h. is_stopping state.round && not (list_any is_due_known state.consumers) && not (list_any is_giving state.consumers) && is_nothing_held h)
+    shows.held
