@@ -2,10 +2,7 @@
 use Rattle.std.proofs.Common.{◌≡◌, ℕ, Bool, true, false, List, [], ◌++◌, Option, Some, None, refl, inl, inr}
 use Rattle.std.specs.Option.{IfSome}
 use Rattle.std.proofs.KnownBytes.{Appends-nil}
-use Rattle.kds_defs.specs.declared.command.Turn.{Turn}
 use Rattle.kds_defs.specs.Histories.{journal, clock}
-use Rattle.kds_defs.specs.Lawful.{IsHistory}
-use Rattle.kds_defs.specs.Safe.{IsSafe}
 use Rattle.kcl_audit.specs.Audited.{TellsAudit}
 use Rattle.kds_ends.specs.declared.status.Status.TheVariants.{Done, Memory, Unsound}
 use Rattle.kds_cli_tasks.specs.declared.task.Task.{Task}
@@ -14,9 +11,7 @@ use Rattle.kds_server.specs.Texts.{Tells}
 use Rattle.kds_server.proofs.Turning.{gives_none}
 use Rattle.kds_session.specs.Text.{commands}
 use Rattle.kcl_script.specs.declared.line.Line.{Line}
-use Rattle.kcl_sim.specs.Output.{fresh, with_schedule}
 use Rattle.kcl_sim.specs.Schedule.{history, judged}
-use Rattle.kcl_sim.specs.Serving.{AreAllServed}
 use Rattle.kcl_sim.specs.Standing.{SimValue}
 use Rattle.kds_cli_runs.specs.Answered.{AreHandedOn, RanBy}
 use Rattle.kds_server.specs.Around.{around}

@@ -6,32 +6,19 @@ use Rattle.std.specs.Str.{IsUtf8}
 use Rattle.std.proofs.lemmas.Str.{IsUtf8-nil, utf8_lossy-IsUtf8}
 use Rattle.kds_base.proofs.Facts.{all_append, all_filter}
 use Rattle.kds_defs.specs.declared.command.Command.{Command}
-use Rattle.kds_defs.specs.declared.command.Command.TheVariants as command
-use Rattle.kds_defs.specs.declared.command.NewItem.{NewItem}
-use Rattle.kds_defs.specs.declared.command.Start.{Start}
-use Rattle.kds_defs.specs.declared.command.Target.{Target}
-use Rattle.kds_defs.specs.declared.command.Target.TheVariants as target
 use Rattle.kds_defs.specs.declared.command.Turn.{Turn}
 use Rattle.kds_defs.specs.declared.entry.Entry.{Entry}
 use Rattle.kds_defs.specs.declared.entry.Entry.TheVariants as entry
 use Rattle.kds_defs.specs.declared.limits.TheConstants.{BATCH_BYTES}
-use Rattle.kds_defs.specs.declared.reply.Iter.{Iter}
-use Rattle.kds_defs.specs.declared.reply.Page.{Page}
 use Rattle.kds_defs.specs.declared.reply.Refusal.{Refusal}
 use Rattle.kds_defs.specs.declared.reply.Reply.{Reply}
-use Rattle.kds_defs.specs.declared.scale.ScaleStep.{ScaleStep}
 use Rattle.kds_defs.specs.Decision.{Decision, refuse◌if◌else◌, with◌or◌then◌}
 use Rattle.kds_defs.specs.Histories.{decide, lines_of, answer_of, clock, journal, answer}
 use Rattle.kds_defs.specs.Journal.{Line, Journal, plain_line, with_lines}
 use Rattle.kds_defs.specs.Lawful.{IsLawful, IsItem, AreItems, IsLawfulCommand, IsHistory}
 use Rattle.kds_defs.specs.LeaseCommands.{open_shard, past_parent, past_parents, past_target, read, with_held, with_tenure}
 use Rattle.kds_defs.specs.Leases.{TenureState, reach, row, tenure}
-use Rattle.kds_defs.specs.Listings.{more, get_iterator, get_records, records_reply, ends_at}
 use Rattle.kds_defs.specs.Records.{Logged, next_number, stored, records_after, records, is_left, left_from, beginning, batch}
-use Rattle.kds_defs.specs.Shards.{ShardState, shard_at}
-use Rattle.kds_defs.specs.PutCommands.{is_held_back, put, put_lines, put_many}
-use Rattle.kds_defs.specs.ScaleCommands.{scale_stream, step_entry, step_lines, steps_to}
-use Rattle.kds_defs.specs.StreamCommands.{create, put_line, split, merge, keep}
 use Rattle.kds_defs.specs.Streams.{is_live, stream_named, trim_floor}
 use Rattle.kds_defs.proofs.Walk.{Outcome, IsAdded, Alone, Stored_one, Answers, Adds, Gets, Puts, Reads, each_journal, of_all, walk}
 use Rattle.kds_reply.specs.Keys.{records_in, IsPrintedWhole, ArePrintedWhole}
