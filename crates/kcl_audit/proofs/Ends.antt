@@ -47,10 +47,6 @@ pub ended : (bytes : List ℕ) (texts rest : List (List ℕ)) (end : End) → (l
 ended bytes texts rest end parts none is =
     ap (λ ts. finish (progress ts) (lined bytes).end) (parts ∙ ap (λ r. texts ++ r) none ∙ append-nil texts) ∙ ap (finish (progress texts)) is
 
-pub too_long_is : (p : Progress) → is_bad p ≡ false → finish p too_long ≡ over
-too_long_is (found n r) h = absurd cc
-too_long_is _ h = refl
-
 pub sound_is : (end : AuditEnd) → is_sound end ≡ true → (n : ℕ) × (end ≡ sound n)
 sound_is (sound n) h = (n, refl)
 sound_is _ h = absurd cc

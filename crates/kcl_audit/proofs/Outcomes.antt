@@ -10,7 +10,7 @@ use Rattle.kcl_audit.specs.Text.{report}
 use Rattle.kcl_audit.specs.Stages.{Broke, IsOver, TakerValue, Took, end_by, is_bad, texts_report}
 use Rattle.kcl_audit.specs.Audited.{TellsAudit, TellsEnd}
 use Rattle.kcl_audit.proofs.Ends.{is_bad_found}
-use Rattle.kcl_audit.proofs.Telling.{bad_tells, end_tells, long_tells, memory_tells, read_tells, write_tells}
+use Rattle.kcl_audit.proofs.Telling.{bad_tells, end_tells, memory_tells, read_tells, write_tells}
 
 -- all was written, unless the sink failed or memory ran out
 all_of : (o : Outcome) (back : List ℕ) → (o ≡ outcome.Write → ⊥) → (o ≡ outcome.Memory → ⊥) → Unwritten o back → back ≡ []
@@ -45,10 +45,6 @@ module _ (v : TakerValue) (bytes : List ℕ) (left start mid : Option (List ℕ)
   module _ (good : (texts : List (List ℕ)) → Took v texts → false ≡ is_bad (progress texts)) where
     pub told_read : Reads outcome.Read → TellsAudit status.Read bytes start mid
     told_read t = read_tells bytes t.texts t.rest t.front t.back start mid t.parts t.output_is t.written t.unwritten (sym (good t.texts t.taken))
-
-    pub told_long : Reads outcome.TooLong → TellsAudit status.TooLong bytes start mid
-    told_long t =
-        long_tells bytes t.texts t.rest t.front t.back start mid t.parts t.output_is t.written t.unwritten (sym (good t.texts t.taken)) t.because.1 t.because.0
 
     -- a line is left out behind a bad entry alone
     pub told_stopped : (n : ℕ) (s : Status) → Reads (outcome.Stopped n) → TellsAudit s bytes start mid

@@ -44,15 +44,6 @@ module _ (v : ℕ) (version : IsVersion v) (log : Journal) (count : ℕ) (e : En
   good_by (Ok u) h st = (version, (line_of e ∷ log, (refl, st)))
   good_by (Err r) h st = absurd cc
 
-module _ (count : ℕ) (a : JudgeValue) where
-  pub ended_bad : (x : Verdict) (name : List ℕ) → Some name ≡ name_in x → IsNamed (next count) name (after_end count x)
-  ended_bad (Ok u) name h = absurd cc
-  ended_bad (Err r) name h = let same : name ≡ rule_name r = cc in (r, (refl, same))
-
-  pub ended_good : (x : Verdict) → None ≡ name_in x → after_end count x ≡ closed count
-  ended_good (Ok u) h = refl
-  ended_good (Err r) h = absurd cc
-
 -- ---- after one more line
 
 module _ (old new : TakerValue) (texts : List (List ℕ)) (text : List ℕ) (before : is_found old.stage ≡ false) (took : Took old texts)
@@ -76,36 +67,3 @@ on_err (Ok x) X h = tt
 on_err (Err e) X h = h
 
 -- ---- where the lines end
-
-pub bad_at : (s : Stage) (a : JudgeValue) (p : Progress) → IsAt s a p → is_found s ≡ is_bad p
-bad_at stage.Fresh a p h = sym (ap is_bad h.0)
-bad_at (stage.Going version count) a p h = sym (ap is_bad h.1.1.0)
-bad_at (stage.Closed count) a p h = sym (ap is_bad h)
-bad_at (stage.Found n name) a p h = sym (ap is_bad h.1.0)
-
-pub finish_found : (n : ℕ) (name : List ℕ) (p : Progress) (end : End) (from : List ℕ) → IsNamed n name p → Finishes p end false from from
-finish_found n name p end from h = subst (λ q. Finishes q end false from from) (sym h.1.0)
-    (record { says_so = refl; added = []; text = append-nil _; wrote = sym (append-nil from) })
-
-pub finish_closed : (count : ℕ) (p : Progress) (from to : List ℕ) → p ≡ closed count → to ≡ from ++ sound_text count → Finishes p whole true from to
-finish_closed count p from to h wrote = subst (λ q. Finishes q whole true from to) (sym h)
-    (record { says_so = refl; added = sound_text count; text = refl; wrote = wrote })
-
-pub finish_behind : (count : ℕ) (p : Progress) (from to : List ℕ) → p ≡ closed count → to ≡ from ++ named_text (next (next count)) (codes "Form")
-    → Finishes p unfinished false from to
-finish_behind count p from to h wrote = subst (λ q. Finishes q unfinished false from to) (sym h)
-    (record { says_so = refl; added = named_text (next (next count)) (codes "Form"); text = refl; wrote = wrote })
-
-pub finish_going : (v count : ℕ) (log : Journal) (p : Progress) (b : Bool) (from to : List ℕ) → p ≡ going v log count
-    → to ≡ from ++ named_text (next count) (codes "Form") → Finishes p (end_by b) false from to
-finish_going v count log p true from to h wrote = subst (λ q. Finishes q unfinished false from to) (sym h)
-    (record { says_so = refl; added = named_text (next count) (codes "Form"); text = refl; wrote = wrote })
-finish_going v count log p false from to h wrote = subst (λ q. Finishes q whole false from to) (sym h)
-    (record { says_so = refl; added = named_text (next count) (codes "Form"); text = refl; wrote = wrote })
-
-pub finish_fresh : (p : Progress) (b : Bool) (from to : List ℕ) → p ≡ fresh → to ≡ from ++ named_text (next 0) (codes "Form")
-    → Finishes p (end_by b) false from to
-finish_fresh p true from to h wrote = subst (λ q. Finishes q unfinished false from to) (sym h)
-    (record { says_so = refl; added = named_text (next 0) (codes "Form"); text = refl; wrote = wrote })
-finish_fresh p false from to h wrote = subst (λ q. Finishes q whole false from to) (sym h)
-    (record { says_so = refl; added = named_text (next 0) (codes "Form"); text = refl; wrote = wrote })

@@ -11,7 +11,7 @@ use Rattle.kcl_audit.specs.Progress.{audit_of, finish, progress}
 use Rattle.kcl_audit.specs.Text.{audit_text, report}
 use Rattle.kcl_audit.specs.Stages.{end_by, is_bad}
 use Rattle.kcl_audit.specs.Audited.{TellsAudit, TellsEnd}
-use Rattle.kcl_audit.proofs.Ends.{bad_is, ended, found_in, sound_is, too_long_is, unreported, unsound_is}
+use Rattle.kcl_audit.proofs.Ends.{bad_is, ended, found_in, sound_is, unreported, unsound_is}
 
 -- ---- known bytes
 
@@ -57,9 +57,6 @@ module _ (bytes : List ℕ) (texts rest : List (List ℕ)) (front back : List �
 
     pub read_tells : is_bad (progress texts) ≡ false → TellsAudit status.Read bytes held mid
     read_tells h = nothing h
-
-    pub long_tells : is_bad (progress texts) ≡ false → rest ≡ [] → (lined bytes).end ≡ too_long → TellsAudit status.TooLong bytes held mid
-    long_tells h none is = (ended bytes texts rest too_long parts none is ∙ too_long_is (progress texts) h, nothing h)
 
     -- ---- where the lines end
 

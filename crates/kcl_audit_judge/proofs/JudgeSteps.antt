@@ -22,13 +22,6 @@ use Rattle.kcl_audit_judge.proofs.StreamsAfter.{shows_after, stream_told}
 
 -- ---- another clock
 
-pub facing_shown : (old new : Facing) (rs : List Row) (ts : List TenureValue) (log : Journal) → new.shows log → Stands (leases old rs ts) log
-    → Stands (leases new rs ts) log
-facing_shown old new rs ts log shows st = stands_of new rs ts log shows (rows_of old rs ts log st) (tenures_of old rs ts log st)
-
-pub shows_clock : (w : StreamsValue) (c : ℕ) (log : Journal) → last_clock log ≤ c → Shows w log → Shows (record { clock = c; streams = w.streams }) log
-shows_clock w c log order sh = record { all = sh.all; order = order }
-
 -- ---- an entry of a stream
 
 module _ (a : JudgeValue) (old new : StreamsValue) (rs : List Row) (ts : List TenureValue) (is_a : judge old rs ts ≡ a) (by : ℕ) (what : Entry)
@@ -57,9 +50,3 @@ module _ (a : JudgeValue) (old new : StreamsValue) (rs : List Row) (ts : List Te
       → IfOk r (λ v. OnOk v (Holds (judge new rs ts) (entry_line a.streams.clock by what ∷ log)))
   stream_good (Ok v) at is after st = added_by_value v at is after st
   stream_good (Err e) at is after st = tt
-
--- after a judgement there is a journal that it stands for
-pub stands_on : (v : Verdict) (log : Journal) (line : Line) (a : JudgeValue) → OnOk v (judging.Stands a (line ∷ log)) → OnErr v (judging.Stands a log)
-    → (after : Journal) × judging.Stands a after
-stands_on (Ok u) log line a good bad = (line ∷ log, good)
-stands_on (Err r) log line a good bad = (log, bad)

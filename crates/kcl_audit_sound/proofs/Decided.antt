@@ -42,9 +42,6 @@ next_counter n counter same free fits = (omega arith, grind (arith, nat_tests))
 row_counter : (n counter : ℕ) → not (n == counter) ≡ false → (n == last_number) ≡ false → counter < 2 ^ 64 → (1 ≤ n + 1) × (n + 1 < 2 ^ 64)
 row_counter n counter same free fits = (omega arith, grind (arith, nat_tests))
 
-free_number : (n : ℕ) → (n == last_number) ≡ false → n ≤ last_number → n < 2 ^ 64
-free_number n free le = omega (arith, le)
-
 after_free : (n : ℕ) → (n == last_number) ≡ false → n ≤ last_number → n + 1 < 2 ^ 64
 after_free n free le = grind (arith, nat_tests)
 

@@ -38,10 +38,6 @@ ahead_more sh floor position xs i x b lt is t =
 abbrev pub Grows : List ℕ → ℕ → ℕ → List Logged → List ℕ → Type 0
 Grows numbers left room rest whole = numbers ++ numbers_of (beginning left room rest) ≡ whole
 
-beginning_full : (left room : ℕ) (r : Logged) (rest : List Logged) → room < r.bytes → beginning left room (r ∷ rest) ≡ []
-beginning_full zero room r rest h = refl
-beginning_full (suc left) room r rest h = rw (is_above r.bytes room h) refl
-
 module _ (sh floor position : ℕ) (xs : List Sized) (i : ℕ) (x : Sized) (within : i < length xs) (is : x ≡ get_or xs i x) where
   -- a record that is left, and is_le, is taken
   pub grows_by : (numbers : List ℕ) (left room : ℕ) (whole : List ℕ) → counts sh floor position x ≡ true → (left ≡ 0 → ⊥) → x.bytes ≤ room
@@ -51,23 +47,6 @@ module _ (sh floor position : ℕ) (xs : List Sized) (i : ℕ) (x : Sized) (with
       let one : beginning left room (ahead sh floor position xs i) ≡ logged x ∷ beginning (left - 1) (room - x.bytes) rest =
       ap (beginning left room) (ahead_more sh floor position xs i x true within is t) ∙ beginning_one left room (logged x) rest some (is_le x.bytes room small) in
       append_assoc numbers (x.seq ∷ []) (numbers_of (beginning (left - 1) (room - x.bytes) rest)) ∙ ap (λ taken. numbers ++ numbers_of taken) (sym one) ∙ h
-
-  -- one that doesn't count is passed over
-  pub grows_past : (numbers : List ℕ) (left room : ℕ) (whole : List ℕ) → counts sh floor position x ≡ false
-      → Grows numbers left room (ahead sh floor position xs i) whole → Grows numbers left room (ahead sh floor position xs (i + 1)) whole
-  grows_past numbers left room whole t h = ap (λ rest. numbers ++ numbers_of (beginning left room rest)) (sym (ahead_more sh floor position xs i x false within is t)) ∙ h
-
-  -- one that doesn't fit ends the batch
-  pub grows_full : (numbers : List ℕ) (left room : ℕ) (whole : List ℕ) → counts sh floor position x ≡ true → room < x.bytes
-      → Grows numbers left room (ahead sh floor position xs i) whole → numbers ≡ whole
-  grows_full numbers left room whole t big h =
-      sym (append-nil numbers)
-      ∙ ap (λ taken. numbers ++ numbers_of taken) (sym (ap (beginning left room) (ahead_more sh floor position xs i x true within is t) ∙ beginning_full left room (logged x) (ahead sh floor position xs (i + 1)) big)) ∙ h
-
--- no more may be taken
-pub grows_to : (numbers : List ℕ) (left room : ℕ) (rest : List Logged) (whole : List ℕ) → left ≡ 0 → Grows numbers left room rest whole → numbers ≡ whole
-grows_to numbers zero room rest whole none h = sym (append-nil numbers) ∙ h
-grows_to numbers (suc left) room rest whole none h = absurd (omega (arith, none))
 
 -- at the end of the records the batch is whole
 pub grows_all : (sh floor position : ℕ) (xs : List Sized) (i : ℕ) (numbers : List ℕ) (left room : ℕ) (whole : List ℕ) → length xs ≤ i

@@ -43,12 +43,6 @@ changed_get (u ∷ vs) zero g v is = let same : u ≡ v = cc in ap (λ (x : Stre
 changed_get (u ∷ vs) (suc i) g v is = ap (λ xs. u ∷ xs) (changed_get vs i g v is)
 
 module _ (vs : List StreamValue) (s : ℕ) (f : StreamValue → Verdict) (good : in_live (live_at vs s) f ≡ Ok tt) (i : ℕ) (is : i ≡ s) where
-  pub has_number : 1 ≤ i
-  has_number = let o = is_of vs s f good in omega (arith, o.some, is)
-
-  pub has_place : i - 1 < length vs
-  has_place = let o = is_of vs s f good in subst (λ n. n - 1 < length vs) (sym is) (slice_get_within vs (s - 1) o.value o.at)
-
   module _ (old : StreamValue) (read : old ≡ slice_index_or vs (i - 1) old) where
     same_value : old ≡ (is_of vs s f good).value
     same_value = let o = is_of vs s f good in read ∙ get_or_from_slice_get vs (i - 1) o.value old (ap (λ n. slice_get vs (n - 1)) is ∙ o.at)
@@ -68,9 +62,6 @@ module _ (vs : List StreamValue) (s : ℕ) (f : StreamValue → Verdict) (good :
     changed_if (Ok u) g new e = changed_there g new e
     changed_if (Err x) g new e = tt
 
-    pub same_there : (new : StreamValue) → new ≡ old → slice_set vs (i - 1) new ≡ vs
-    same_there new e = ap (slice_set vs (i - 1)) (e ∙ read) ∙ set-get_or vs (i - 1) old
-
 -- ---- what a good entry tells of its stream
 
 pub agrees_so : (b : Bool) → agrees b ≡ Ok tt → b ≡ true
@@ -88,9 +79,6 @@ past_by None next h = (refl, h)
 -- it has the next number, which isn't the last
 abbrev pub Draws : StreamValue → ℕ → Type 0
 Draws v number = (number ≡ v.next) × (v.next ≢ last_number)
-
-pub put_draws : (v : StreamValue) (clock sh number hash bytes : ℕ) → put_verdict v clock sh number hash bytes ≡ Ok tt → Draws v number
-put_draws v clock sh number hash bytes h = (grind (arith, nat_tests, h), grind (arith, nat_tests, h))
 
 pub split_draws : (v : StreamValue) (clock sh at : ℕ) (full : Bool) (number low high : ℕ) → split_verdict v clock sh at full number low high ≡ Ok tt → (split_refusal v.tree sh at ≡ None) × Draws v number
 split_draws v clock sh at full number low high h =

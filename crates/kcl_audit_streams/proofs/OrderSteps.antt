@@ -21,30 +21,7 @@ under_more : (next : ℕ) (rs : List Sized) → AreUnder next rs → AreUnder (n
 under_more next [] h = tt
 under_more next (r ∷ rs) h = let one : r.seq < next = h.0 in (omega arith, under_more next rs h.1)
 
-under_put : (next : ℕ) (rs : List Sized) (x : Sized) → AreUnder next rs → x.seq < next → AreUnder next (rs ++ x ∷ [])
-under_put next [] x h lt = (lt, tt)
-under_put next (r ∷ rs) x h lt = (h.0, under_put next rs x h.1 lt)
-
-under_at : (next : ℕ) (rs : List Sized) (i : ℕ) (d : Sized) → AreUnder next rs → i < length rs → (get_or rs i d).seq < next
-under_at next [] i d h lt = absurd (omega arith)
-under_at next (r ∷ rs) zero d h lt = h.0
-under_at next (r ∷ rs) (suc i) d h lt = under_at next rs i d h.1 (omega arith)
-
--- so they stay where a number is drawn
-pub numbered_more : (next : ℕ) (rs : List Sized) → AreNumbered next rs → AreNumbered (next + 1) rs
-numbered_more next rs h = (h.0, under_more next rs h.1)
-
--- and where a record takes it
-pub numbered_put : (next : ℕ) (rs : List Sized) (x : Sized) → x.seq ≡ next → AreNumbered next rs → AreNumbered (next + 1) (rs ++ x ∷ [])
-numbered_put next rs x is h =
-    let last : (d : Sized) → 0 < length rs → (get_or rs (length rs - 1) d).seq ≤ x.seq =
-    λ d some. (let one = under_at next rs (length rs - 1) d h.1 (omega arith) in omega (arith, one, is)) in
-    (IsNonDecreasingBy-push (λ (r : Sized). r.seq) rs x h.0 last, under_put (next + 1) rs x (under_more next rs h.1) (omega (arith, is)))
-
 -- ---- positions
-
-below_not_left : (floor position : ℕ) (r : Sized) → r.seq < position → is_left floor position (logged r) ≡ false
-below_not_left floor position r h = grind (arith, nat_tests)
 
 -- a record below the position isn't left
 past_one : (sh floor position : ℕ) (x : Sized) (xs : List Sized) (b : Bool) → is_in sh x ≡ b → x.seq < position → left_in sh floor position (x ∷ xs) ≡ left_in sh floor position xs

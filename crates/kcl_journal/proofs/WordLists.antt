@@ -135,10 +135,6 @@ last_number ns n text h is = rw (words_nowhere text h, is) refl
 pub no_last : (ns : List ℕ) (text : List ℕ) → parted 32 text ≡ None → number text ≡ None → with_front ns (numbers_of (words text)) ≡ None
 no_last ns text h is = rw (words_nowhere text h, is) refl
 
-pub no_front : (o : Option (List ℕ)) → o ≡ with_front [] o
-no_front None = refl
-no_front (Some ns) = refl
-
 pub shorter : (text : List ℕ) (p : List ℕ × List ℕ) → parted 32 text ≡ Some p → length p.1 < length text
 shorter text p h =
     let s = parted_spells 32 text p h in

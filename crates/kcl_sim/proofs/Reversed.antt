@@ -2,6 +2,3 @@
 use Rattle.std.proofs.Common.{◌≡◌, List, [], ◌∷◌, ◌++◌, reverse}
 use Rattle.std.proofs.lemmas.List.{reverse-append}
 use Rattle.kds_defs.specs.declared.command.Turn.{Turn}
-
-pub reverse-push : (ts : List Turn) (t : Turn) → reverse (ts ++ t ∷ []) ≡ t ∷ reverse ts
-reverse-push ts t = reverse-append ts (t ∷ [])

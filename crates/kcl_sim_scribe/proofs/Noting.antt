@@ -122,10 +122,6 @@ pub other_after : (s : ScribeValue) (what : Command)
 other_after s (command.Create name count) r o = absurd o
 other_after s what r o = refl
 
-pub other_can : (s : ScribeValue) (what : Command) → IsOther what → CanTell s what → MayNumber (changed_name what) s.streams what
-other_can s (command.Create name count) o can = absurd o
-other_can s what o can = can
-
 -- the streams after the entries of lines
 pub changed_lines : (c by : ℕ) (es : List Entry) (vs : List Known) → changed_by (map (λ (l : EntryLine). l.what) (lines_by c by es)) vs ≡ changed_by es vs
 changed_lines c by es vs = ap (λ xs. changed_by xs vs) (what_of c by es)
