@@ -1,0 +1,7 @@
+use Rattle.std.proofs.Common.{rules}
+use Rattle.kcl_script_fields.specs.Fields.{two}
+use Rattle.kcl_journal.proofs.streams.split.Goals as goal
+
+pub returns : goal.returns
+unfolding two
+returns c = search rules
