@@ -1,6 +1,6 @@
 -- The lines that a command of the stream service adds depend on the stream lines alone, clocks aside.
 use Rattle.std.proofs.Common.{◌≡◌, ℕ, ◌+◌, ◌<◌, ◌≤◌, max, Bool, true, false, List, [], ◌∷◌, length, Option, Some, None, refl, sym, ap, subst, ◌∙◌, arith}
-use Rattle.std.specs.Prelude.{Result, ◌==◌, ◌&&◌, ◌||◌, not, nat_le, nat_lt, map, cond, is_some, if◌then◌else◌}
+use Rattle.std.specs.Prelude.{◌==◌, ◌&&◌, ◌||◌, not, nat_le, nat_lt, map, cond, is_some, if◌then◌else◌}
 use Rattle.std.specs.List.{filter, AllByRecursion}
 use Rattle.std.proofs.lemmas.List.{length-map}
 use Rattle.std.proofs.lemmas.Bool.{cond_both}
@@ -28,7 +28,7 @@ use Rattle.kds_defs.specs.PutCommands.{enforced_after, is_enforced, is_held_back
 use Rattle.kds_defs.specs.Rates.{is_throttled, puts}
 use Rattle.kds_defs.specs.StreamCommands.{create, put_line, split, merge, keep, is_open_at, last_number}
 use Rattle.kds_defs.specs.Streams.{made_count, live_streams, stream_named}
-use Rattle.kds_defs.proofs.Walk.{Outcome, IsAdded, Alone, Refuses, Answers, Adds, Creates, Enforces, each_line, walk}
+use Rattle.kds_defs.proofs.Walk.{IsAdded, Alone, Creates, Enforces, each_line, query_idle}
 use Rattle.kcl_drill.specs.Apart.{AreBasic, LEAST_RETENTION, is_basic, is_stream_entry, stream_lines, service_turns}
 use Rattle.kcl_drill.proofs.Inner.{lease_basic}
 use Rattle.kcl_drill.proofs.Readings.{enforced_same, forget, kept, made_count_same, hours_same, next_number_same, home_same, length_same, range_same, open_same, live_same, named_same, open_count_same, IsYoung, young_if_legal, listed_same}
@@ -57,21 +57,11 @@ lines_same : (f : ℕ → ℕ) (ls ls' : List Line) (r r' : Reply) → map (forg
 unfolding AddsSame
 lines_same f ls ls' r r' is = is
 
--- what asks the service and changes nothing adds no line
-query_idle : (log : Journal) (c by : ℕ) (what : Command) (lines : List Line) (answer : Result Reply Refusal) → Outcome log c by what lines answer
-    → is_query what ≡ true → lines ≡ []
-query_idle log c by _ _ _ (Refuses what r may) query = refl
-query_idle log c by _ _ _ (Answers what r shows) query = refl
-query_idle log c by _ _ _ (Adds _ _ _ (Creates name count fits)) query = absurd cc
-query_idle log c by _ _ _ _ query = absurd cc
-
 queries_same : (f : ℕ → ℕ) (log log' : Journal) (c c' by by' : ℕ) (what : Command) → is_query what ≡ true
     → AddsSame f (decide log c by what) (decide log' c' by' what)
 unfolding AddsSame
 queries_same f log log' c c' by by' what query =
-    let none = query_idle log c by what _ _ (walk log c by what) query in
-    let none' = query_idle log' c' by' what _ _ (walk log' c' by' what) query in
-    ap (map (forget f)) (none ∙ sym none')
+    ap (map (forget f)) (query_idle log c by what query ∙ sym (query_idle log' c' by' what query))
 
 -- ---- no limits are on
 

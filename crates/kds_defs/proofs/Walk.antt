@@ -27,7 +27,7 @@ use Rattle.kds_defs.specs.declared.scale.ScaleStep.TheVariants.{Join, Cut}
 use Rattle.kds_defs.specs.Decision.{Decision, Accepted, refuse◌if◌else◌, with◌or◌then◌}
 use Rattle.kds_defs.specs.Histories.{answer_of, clock, decide, decision, journal, lines_of}
 use Rattle.kds_defs.specs.Journal.{Line, Journal, plain_line, with_lines}
-use Rattle.kds_defs.specs.Kinds.{is_lease_refusal, is_service, is_service_refusal}
+use Rattle.kds_defs.specs.Kinds.{is_lease_refusal, is_query, is_service, is_service_refusal}
 use Rattle.kds_defs.specs.LeaseCommands.{counting_origin}
 use Rattle.kds_defs.specs.Leases.{TenureState, counter_in, delivered, reach, row, taken_count, tenure, with_given}
 use Rattle.kds_defs.specs.Listings.{behind, ends_at, iterator_at, records_reply}
@@ -279,6 +279,17 @@ each_of P log c by _ _ _ (Stores name items s named fits) each =
 each_of P log c by _ _ _ (Scales name goal s named few fits) each =
     each_step P c by s (steps_to log s goal) log (λ sh other n child. each _ (Joined name goal s sh other n child))
     (λ sh at n low high. each _ (Divided name goal s sh at n low high))
+
+-- a command that asks adds no line
+idle : (log : Journal) (c by : ℕ) (what : Command) (lines : List Line) (answer : Result Reply Refusal) → Outcome log c by what lines answer
+    → is_query what ≡ true → lines ≡ []
+idle log c by _ _ _ (Refuses what r may) query = refl
+idle log c by _ _ _ (Answers what r shows) query = refl
+idle log c by _ _ _ (Adds _ _ _ (Creates name count fits)) query = absurd cc
+idle log c by _ _ _ _ query = absurd cc
+
+pub query_idle : (log : Journal) (c by : ℕ) (what : Command) → is_query what ≡ true → lines_of (decide log c by what) ≡ []
+query_idle log c by what = idle log c by what _ _ (walk log c by what)
 
 -- what holds of each line that a command may add holds of the lines that it adds
 pub each_line : (P : Line → Type 0) (log : Journal) (c by : ℕ) (what : Command) → ((line : Line) → IsAdded log c by what line → P line)

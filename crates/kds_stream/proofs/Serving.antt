@@ -1,5 +1,5 @@
 -- A call that serves a command decides it as the machine does.
-use Rattle.std.proofs.Common.{◌≡◌, ℕ, ◌+◌, ◌≤◌, true, List, [], length, refl, sym, ap, subst, ◌∙◌, arith}
+use Rattle.std.proofs.Common.{◌≡◌, ℕ, ◌+◌, ◌≤◌, true, length, sym, ap, subst, ◌∙◌, arith}
 use Rattle.std.specs.Prelude.{◌-◌, ◌||◌, nat_le, nat_lt, IfOk, Result, Ok, Err}
 use Rattle.std.specs.List.{filter}
 use Rattle.std.proofs.lemmas.Bool.Decides.{nat_tests}
@@ -9,11 +9,11 @@ use Rattle.kds_defs.specs.declared.reply.Refusal.{Refusal}
 use Rattle.kds_defs.specs.declared.reply.Reply.{Reply}
 use Rattle.kds_defs.specs.Decision.{Decision}
 use Rattle.kds_defs.specs.Histories.{answer_of, decide, lines_of}
-use Rattle.kds_defs.specs.Journal.{Journal, Line, with_lines}
+use Rattle.kds_defs.specs.Journal.{Journal, with_lines}
 use Rattle.kds_defs.specs.Kinds.{is_query}
 use Rattle.kds_defs.specs.ScaleCommands.{open_elsewhere}
 use Rattle.kds_defs.specs.Shards.{is_open, open_count}
-use Rattle.kds_defs.proofs.Walk.{Outcome, Refuses, Answers, Adds, Creates, walk}
+use Rattle.kds_defs.proofs.Walk.{query_idle}
 use Rattle.kds_stream.specs.Serving.{IsToldOf, Serves, asks_for_room}
 use Rattle.kds_stream.specs.Showing.{Decides, Shows, is_full}
 use Rattle.kds_stream.specs.Steps.{is_over}
@@ -31,13 +31,6 @@ serves (Ok gives) v w room what what' d is same led =
 
 -- ---- a command that only reads: it writes no line
 
-query_none : (log : Journal) (c by : ℕ) (what : Command) (lines : List Line) (answer : Result Reply Refusal) → Outcome log c by what lines answer
-    → is_query what ≡ true → lines ≡ []
-query_none log c by _ _ _ (Refuses what r may) query = refl
-query_none log c by _ _ _ (Answers what r shows) query = refl
-query_none log c by _ _ _ (Adds _ _ _ (Creates name count fits)) query = absurd cc
-query_none log c by _ _ _ _ query = absurd cc
-
 pub tells : {E : Type 0} (r : Result (Result Reply Refusal) E) (v : StreamValue) (room : ℕ) (what what' : Command) (d : Journal → Decision)
     → what ≡ what' → is_query what' ≡ true → ((log : Journal) (by : ℕ) → IsToldOf what' room v log → decide log v.clock by what' ≡ d log)
     → ((log : Journal) → Shows v log → IfOk r (λ a. a ≡ answer_of (d log))) → IfOk r (λ a. Serves what room v v a)
@@ -45,7 +38,7 @@ tells (Err e) v room what what' d is query same answered = tt
 tells (Ok gives) v room what what' d is query same answered =
     subst (λ x. Serves x room v v gives) (sym is)
     (λ log by told.
-    let none = query_none log v.clock by what' _ _ (walk log v.clock by what') query in
+    let none = query_idle log v.clock by what' query in
     (answered log told.shown ∙ ap answer_of (sym (same log by told)), subst (λ lines. Shows v (with_lines lines log)) (sym none) told.shown))
 
 -- ---- what the stream is told of the others is what the decisions ask
