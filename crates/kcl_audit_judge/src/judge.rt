@@ -8,7 +8,7 @@ ghost use Rattle.kcl_audit_streams.specs.Verdict.{IsFit, end_verdict, judged, ve
 ghost use Rattle.kcl_audit_streams.specs.Judging.{stream_verdict, streams_after};
 
 use crate::lease_entries;
-use kcl_audit_streams::{Rule, Streams, add, judge};
+use kcl_audit_streams::{Rule, ToldStreams, add, judge};
 use kcl_book::Book;
 use kcl_table::Table;
 use kds_base::{Memory, Moment};
@@ -20,7 +20,7 @@ use std::marker::Model;
 /// of the leases and the tenures.
 #[derive(Drop)]
 pub struct Judge {
-    streams: Streams,
+    streams: ToldStreams,
     table: Table,
     book: Book,
 }
@@ -29,7 +29,7 @@ pub struct Judge {
 /// streams are as before.
 fn stream_entry(
     alloc: Global,
-    streams: &mut Streams,
+    streams: &mut ToldStreams,
     what: Entry,
 ) -> Result<Result<(), Rule>, Memory>
     requires fit { IsFit what }
@@ -60,7 +60,7 @@ impl Judge {
         ensures { Stands result [] }
     {
         Judge {
-            streams: Streams {
+            streams: ToldStreams {
                 clock: Moment::start(),
                 list: Vec::new(alloc),
             },

@@ -10,7 +10,7 @@ ghost use Rattle.kcl_audit_streams.specs.Standing.{Shows};
 ghost use Rattle.kcl_audit_judge.specs.Standing.{HoldBeside, JudgesBeside, Keeps};
 ghost use Rattle.kcl_audit_streams.specs.Verdict.{IsFit, same_flag, same_list, same_origin};
 
-use kcl_audit_streams::{Rule, Streams, live};
+use kcl_audit_streams::{Rule, ToldStreams, live};
 use kcl_book::Book;
 use kcl_leases::{Shards, counting, cut, free, give, make, mark, open, reader, renew, start, take};
 use kcl_table::Table;
@@ -40,7 +40,7 @@ fn is_next(book: &Book, no: TenureNo) -> bool
 
 /// A taking is good, and is added, where its tenure is the next.
 fn taken(
-    shards: &Streams,
+    shards: &ToldStreams,
     table: &mut Table,
     book: &mut Book,
     by: u32,
@@ -91,7 +91,7 @@ fn same_end(a: bool, b: bool) -> bool
 /// A read is good, and is added, where it has the numbers of the batch at the tenure's reach.
 fn read(
     alloc: Global,
-    shards: &Streams,
+    shards: &ToldStreams,
     table: &Table,
     book: &mut Book,
     by: u32,
@@ -142,7 +142,13 @@ fn same_start(a: Origin, b: Origin) -> bool
 
 /// Whether this origin is the one that counts for a shard of the stream: where the row of a parent reaches the
 /// parent's end, only TRIM_HORIZON is.
-fn counts(shards: &Streams, table: &Table, stream: StreamNo, shard: &Shard, from: Origin) -> bool
+fn counts(
+    shards: &ToldStreams,
+    table: &Table,
+    stream: StreamNo,
+    shard: &Shard,
+    from: Origin,
+) -> bool
     ensures { (log : Journal) → Shows shards.now log → result ≡ same_origin (counting_from log table.now stream shard.now from) from }
 {
     // borrowed, so that it can be handed on more than once
@@ -152,7 +158,7 @@ fn counts(shards: &Streams, table: &Table, stream: StreamNo, shard: &Shard, from
 
 /// A making of a row is good, and is added, where it has the origin that counts.
 fn made(
-    shards: &Streams,
+    shards: &ToldStreams,
     table: &mut Table,
     book: &Book,
     by: u32,
@@ -181,7 +187,7 @@ fn made(
 
 /// A renewal of a row.
 fn renewed(
-    shards: &Streams,
+    shards: &ToldStreams,
     table: &mut Table,
     book: &Book,
     by: u32,
@@ -196,7 +202,7 @@ fn renewed(
 
 /// A freeing of a row.
 fn freed(
-    shards: &Streams,
+    shards: &ToldStreams,
     table: &mut Table,
     book: &Book,
     by: u32,
@@ -211,7 +217,7 @@ fn freed(
 
 /// An opening of a tenure.
 fn opened(
-    shards: &Streams,
+    shards: &ToldStreams,
     table: &Table,
     book: &mut Book,
     by: u32,
@@ -224,7 +230,7 @@ fn opened(
 
 /// A delivery of a tenure.
 fn given(
-    shards: &Streams,
+    shards: &ToldStreams,
     table: &Table,
     book: &mut Book,
     by: u32,
@@ -238,7 +244,7 @@ fn given(
 
 /// A marking of a row.
 fn marked(
-    shards: &Streams,
+    shards: &ToldStreams,
     table: &mut Table,
     book: &Book,
     by: u32,
@@ -254,7 +260,7 @@ fn marked(
 
 /// A removal of a row.
 fn removed(
-    shards: &Streams,
+    shards: &ToldStreams,
     table: &mut Table,
     book: &Book,
     by: u32,
@@ -271,7 +277,7 @@ fn removed(
 /// rows and the tenures are as before.
 pub fn entry(
     alloc: Global,
-    shards: &Streams,
+    shards: &ToldStreams,
     table: &mut Table,
     book: &mut Book,
     by: u32,

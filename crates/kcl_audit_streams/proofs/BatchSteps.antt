@@ -1,9 +1,9 @@
 -- The numbers of a batch that grow, one record after another.
-use Rattle.std.proofs.Common.{◌≡◌, ℕ, zero, suc, ◌+◌, ◌-◌, ◌<◌, ◌≤◌, Bool, true, false, List, [], ◌∷◌, ◌++◌, length, get_or, drop, refl, sym, ap, ◌∙◌, arith}
+use Rattle.std.proofs.Common.{◌≡◌, ℕ, zero, suc, ◌+◌, ◌-◌, ◌<◌, ◌≤◌, Bool, true, List, [], ◌∷◌, ◌++◌, length, get_or, drop, refl, sym, ap, ◌∙◌, arith}
 use Rattle.std.specs.Prelude.{◌==◌, ◌&&◌, cond}
 use Rattle.std.specs.List.{AllByRecursion}
 use Rattle.std.proofs.lemmas.List.{at_drop_more, drop_all, append-nil, append_assoc}
-use Rattle.kds_base.proofs.Facts.{all_filter, is_le, is_above}
+use Rattle.kds_base.proofs.Facts.{all_filter, is_le}
 use Rattle.kds_defs.specs.Records.{Logged, beginning, is_left, left_among, numbers_of}
 use Rattle.kds_defs.proofs.Batches.{beginning_one, beginning_none}
 use Rattle.kcl_audit_streams.specs.declared.records.Sized.{Sized}

@@ -1,6 +1,6 @@
 -- The batch of a shard, by the records that a judge keeps.
-use Rattle.std.proofs.Common.{◌≡◌, ℕ, zero, suc, ◌-◌, ◌≤◌, Bool, true, List, [], ◌∷◌, map, slice_get, refl, sym, ap, ◌∙◌, arith}
-use Rattle.std.specs.Prelude.{◌&&◌, if◌then◌else◌, nat_le}
+use Rattle.std.proofs.Common.{◌≡◌, ℕ, ◌-◌, ◌≤◌, Bool, true, List, [], map, slice_get, refl, sym, ap, ◌∙◌}
+use Rattle.std.specs.Prelude.{◌&&◌, if◌then◌else◌}
 use Rattle.kds_defs.specs.declared.limits.TheConstants.{BATCH_BYTES}
 use Rattle.kds_defs.specs.Journal.{Journal}
 use Rattle.kds_defs.specs.Legal.{last_clock}
@@ -9,30 +9,13 @@ use Rattle.kds_base.specs.declared.lease_key.ShardRef.{ShardRef}
 use Rattle.kds_defs.specs.declared.command.Origin.{Origin}
 use Rattle.kds_defs.specs.declared.command.Origin.TheVariants as origin
 use Rattle.kds_defs.specs.Origins.{origin_position}
-use Rattle.kds_defs.specs.Records.{Logged, batch, beginning, first_at, left_among, left_from, next_number, numbers_of, records}
+use Rattle.kds_defs.specs.Records.{batch, beginning, first_at, left_among, left_from, next_number, numbers_of, records}
 use Rattle.kds_defs.specs.Shards.{ShardState, shards}
 use Rattle.kds_defs.specs.Streams.{trim_floor}
+use Rattle.kcl_laws.specs.Recorded.{bare}
+use Rattle.kcl_laws.proofs.BareRecords.{beginning_bare, first_bare, left_bare, none_bare, numbers_bare}
 use Rattle.kcl_audit_streams.specs.Judging.{position_in}
-use Rattle.kcl_audit_streams.specs.Standing.{IsStream, StreamValue, bare, floor_in, records_in}
-
--- ---- keys and payloads are not looked at
-
-left_bare : (f p : ℕ) (rs : List Logged) → map bare (left_among f p rs) ≡ left_among f p (map bare rs)
-left_bare f p [] = refl
-left_bare f p (r ∷ rs) = grind (arith, left_bare f p rs)
-
-begin_bare : (n room : ℕ) (rs : List Logged) → map bare (beginning n room rs) ≡ beginning n room (map bare rs)
-begin_bare zero room rs = refl
-begin_bare (suc n) room [] = refl
-begin_bare (suc n) room (r ∷ rs) = grind (arith, begin_bare n (room - r.bytes) rs)
-
-numbers_bare : (rs : List Logged) → numbers_of (map bare rs) ≡ numbers_of rs
-numbers_bare [] = refl
-numbers_bare (r ∷ rs) = ap (λ ns. r.seq ∷ ns) (numbers_bare rs)
-
-none_bare : (rs : List Logged) → are_none (map bare rs) ≡ are_none rs
-none_bare [] = refl
-none_bare (r ∷ rs) = refl
+use Rattle.kcl_audit_streams.specs.Standing.{IsStream, StreamValue, floor_in, records_in}
 
 -- ---- of a live stream
 
@@ -47,7 +30,7 @@ pub batch_is : (log : Journal) (c s sh p limit : ℕ) (v : StreamValue) → IsSt
     → numbers_of (batch log c s sh p limit) ≡ numbers_of (beginning limit BATCH_BYTES (left_among (floor_in v c) p (records_in v.records sh)))
 batch_is log c s sh p limit v st live order =
     sym (numbers_bare (batch log c s sh p limit))
-    ∙ ap numbers_of (begin_bare limit BATCH_BYTES (left_from log c s sh p))
+    ∙ ap numbers_of (beginning_bare limit BATCH_BYTES (left_from log c s sh p))
     ∙ ap (λ rs. numbers_of (beginning limit BATCH_BYTES rs)) (left_is log c s sh p v st live order)
 
 pub ends_is : (log : Journal) (c s sh place : ℕ) (v : StreamValue) → IsStream log s v → v.live ≡ true → last_clock log ≤ c
@@ -57,10 +40,6 @@ ends_is log c s sh place v st live order =
     ∙ ap (λ (xs : List ShardState). is_closed_at (slice_get xs sh) && are_none (left_among (floor_in v c) place (records_in v.records sh))) st.shards_are
 
 -- ---- where reading begins
-
-first_bare : (rs : List Logged) (moment otherwise : ℕ) → first_at (map bare rs) moment otherwise ≡ first_at rs moment otherwise
-first_bare [] moment otherwise = refl
-first_bare (r ∷ rs) moment otherwise = λ i. if nat_le moment r.arrival then r.seq else first_bare rs moment otherwise i
 
 pub position_is : (log : Journal) (c : ℕ) (key : ShardRef) (from : Origin) (v : StreamValue) → IsStream log key.stream v → v.live ≡ true → last_clock log ≤ c
     → position_in v c key.shard from ≡ origin_position log c key from

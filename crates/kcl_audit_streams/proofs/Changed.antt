@@ -1,13 +1,12 @@
 -- The stream of a good entry, and the streams with it changed.
-use Rattle.std.proofs.Common.{◌≡◌, ◌≢◌, ℕ, zero, suc, ◌-◌, ◌<◌, ◌≤◌, Bool, true, false, List, [], ◌∷◌, length, slice_get, slice_set, slice_index_or, Option, Some, None, refl, sym, ap, subst, ◌∙◌, arith}
+use Rattle.std.proofs.Common.{◌≡◌, ◌≢◌, ℕ, zero, suc, ◌-◌, ◌≤◌, Bool, true, false, List, [], ◌∷◌, slice_get, slice_set, slice_index_or, Option, Some, None, refl, sym, ap, ◌∙◌, arith}
 use Rattle.std.specs.Prelude.{if◌then◌else◌, Result, Ok, Err, OnOk}
 use Rattle.std.proofs.lemmas.Bool.Decides.{nat_tests}
-use Rattle.std.proofs.lemmas.List.{set-get_or}
-use Rattle.std.proofs.lemmas.Option.{get_or_from_slice_get, slice_get_within}
+use Rattle.std.proofs.lemmas.Option.{get_or_from_slice_get}
 use Rattle.kds_defs.specs.declared.reply.Refusal.{Refusal}
 use Rattle.kds_defs.specs.StreamCommands.{last_number}
 use Rattle.kds_tree.specs.Tree.{merge_refusal, split_refusal}
-use Rattle.kcl_audit_streams.specs.Judging.{agrees, changed_at, in_live, merge_verdict, put_verdict, refused, refused_by, split_verdict}
+use Rattle.kcl_audit_streams.specs.Judging.{agrees, changed_at, in_live, merge_verdict, refused, refused_by, split_verdict}
 use Rattle.kcl_audit_streams.specs.Standing.{StreamValue, if_live, live_at}
 use Rattle.kcl_audit_streams.specs.Verdict.{Verdict}
 

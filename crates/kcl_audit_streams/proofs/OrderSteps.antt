@@ -1,15 +1,12 @@
 -- The order of the records: what a put does to it, and which of them stand below a position.
-use Rattle.std.proofs.Common.{◌≡◌, ℕ, zero, suc, ◌+◌, ◌-◌, ◌<◌, ◌≤◌, Bool, true, false, List, [], ◌∷◌, ◌++◌, length, get_or, drop, take, refl, sym, ap, ◌∙◌, arith, ltb-true}
+use Rattle.std.proofs.Common.{◌≡◌, ℕ, zero, suc, ◌+◌, ◌-◌, ◌<◌, ◌≤◌, Bool, true, false, List, [], ◌∷◌, length, get_or, drop, take, refl, sym, ap, ◌∙◌, arith, ltb-true}
 use Rattle.std.specs.Prelude.{nat_lt}
 use Rattle.std.specs.List.{AllByRecursion}
 use Rattle.std.specs.List.Sorted.{IsPartitionPoint}
 use Rattle.std.proofs.lemmas.Bool.Decides.{nat_tests}
 use Rattle.std.proofs.lemmas.List.{length-drop, take_all}
-use Rattle.std.proofs.lemmas.List.Sorted.{IsNonDecreasingBy-push}
-use Rattle.kds_defs.specs.Records.{is_left}
 use Rattle.kcl_audit_streams.specs.declared.records.Sized.{Sized}
-use Rattle.kcl_audit_streams.specs.Order.{AreNumbered}
-use Rattle.kcl_audit_streams.specs.Standing.{is_in, logged}
+use Rattle.kcl_audit_streams.specs.Standing.{is_in}
 use Rattle.kcl_audit_streams.proofs.BatchSteps.{left_in}
 
 -- ---- puts

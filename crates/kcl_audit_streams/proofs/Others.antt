@@ -5,7 +5,8 @@ use Rattle.kds_defs.specs.Journal.{Line, Journal}
 use Rattle.kds_defs.specs.Legal.{last_clock}
 use Rattle.kds_defs.specs.Streams.{made_count}
 use Rattle.kds_defs.specs.Subjects.{stream_of}
-use Rattle.kcl_audit_streams.specs.Standing.{AreStreams, IsStream, Shows, StreamValue, StreamsValue, bare}
+use Rattle.kcl_laws.specs.Recorded.{bare}
+use Rattle.kcl_audit_streams.specs.Standing.{AreStreams, IsStream, Shows, StreamValue, StreamsValue}
 
 pub stream_other : (log : Journal) (line : Line) (s : ℕ) (v : StreamValue) → last_clock log ≤ line.clock → stream_of line.what ≢ Some s → IsStream log s v
     → IsStream (line ∷ log) s v

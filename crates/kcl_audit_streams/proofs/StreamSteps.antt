@@ -7,6 +7,7 @@ use Rattle.kds_defs.proofs.Elsewhere.{floor_same}
 use Rattle.kds_defs.specs.declared.entry.Entry.{Entry}
 use Rattle.kds_defs.specs.declared.entry.Entry.TheVariants as entry
 use Rattle.kds_defs.specs.declared.limits.TheConstants.{FIRST_HOURS, HOUR}
+use Rattle.kcl_laws.specs.Recorded.{bare}
 use Rattle.kcl_laws.specs.ShownLines.{entry_line}
 use Rattle.kds_defs.specs.Journal.{Line, Journal}
 use Rattle.kds_defs.specs.Legal.{last_clock}
@@ -18,7 +19,7 @@ use Rattle.kds_defs.specs.Streams.{floor_at, hours, hours_after, is_live_after, 
 use Rattle.kds_defs.specs.Subjects.{IsFresh, stream_of}
 use Rattle.kcl_audit_streams.specs.declared.records.Sized.{Sized}
 use Rattle.kcl_audit_streams.specs.Judging.{entry_verdict, new_stream, with_entry}
-use Rattle.kcl_audit_streams.specs.Standing.{IsStream, StreamValue, bare, floor_in, is_in, logged, puts_from, puts_in, records_in}
+use Rattle.kcl_audit_streams.specs.Standing.{IsStream, StreamValue, floor_in, is_in, logged, puts_from, puts_in, records_in}
 use Rattle.kcl_audit_streams.proofs.Changed.{merge_draws, split_draws}
 use Rattle.kcl_audit_streams.proofs.RateSteps.{sized}
 use Rattle.kcl_audit_streams.proofs.Floors.{changed_later, first_later}

@@ -132,7 +132,16 @@ stream_verdict vs clock what = in_its vs (stream_of what) (entry_verdict (lacks_
 -- ---- what is kept of a good entry
 
 abbrev pub new_stream : List ℕ → ℕ → StreamValue
-new_stream name count = record { name = name; live = true; enforced = false; hours = FIRST_HOURS; floor = 0; next = 1; tree = made_shards count 1; records = [] }
+new_stream name count = record {
+  name = name;
+  live = true;
+  enforced = false;
+  hours = FIRST_HOURS;
+  floor = 0;
+  next = 1;
+  tree = made_shards count 1;
+  records = [];
+}
 
 abbrev pub with_put : Sized → StreamValue → StreamValue
 with_put r v = record v { next = v.next + 1; records = v.records ++ r ∷ [] }
@@ -141,7 +150,10 @@ abbrev pub with_split : ℕ → ℕ → ℕ → ℕ → StreamValue → StreamVa
 with_split clock sh at number v = record v { next = v.next + 1; tree = split_shards sh at (record { number = number; clock = clock }) (number + 1) v.tree }
 
 abbrev pub with_merge : ℕ → ℕ → ℕ → ℕ → StreamValue → StreamValue
-with_merge clock sh other number v = record v { next = v.next + 1; tree = merged_shards sh other (record { number = number; clock = clock }) (number + 1) v.tree }
+with_merge clock sh other number v = record v {
+  next = v.next + 1;
+  tree = merged_shards sh other (record { number = number; clock = clock }) (number + 1) v.tree;
+}
 
 -- both retentions trim
 abbrev pub with_hours : ℕ → ℕ → StreamValue → StreamValue

@@ -12,6 +12,7 @@ use Rattle.kds_defs.specs.Records.{Logged, next_number, records}
 use Rattle.kds_defs.specs.Shards.{ShardState, is_closed_below, shards}
 use Rattle.kds_defs.specs.Streams.{floor_at, hours, is_live, made_count, name_of, trim_floor, was_made}
 use Rattle.kds_defs.specs.Subjects.{IsFresh}
+use Rattle.kcl_laws.specs.Recorded.{bare}
 use Rattle.kcl_audit_streams.specs.declared.records.Sized.{Sized}
 
 -- ---- one stream
@@ -27,10 +28,6 @@ pub record StreamValue : Type 0 where
   pub next : ℕ
   pub tree : List ShardState
   pub records : List Sized
-
--- a record without its key and payload
-abbrev pub bare : Logged → Logged
-bare r = record r { key = []; payload = [] }
 
 abbrev pub logged : Sized → Logged
 logged r = record { seq = r.seq; arrival = r.arrival; bytes = r.bytes; key = []; payload = [] }

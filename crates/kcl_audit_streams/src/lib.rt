@@ -10,6 +10,6 @@ mod streams;
 
 pub use records::Sized;
 pub use rule::Rule;
-pub use stream::Stream;
+pub use stream::ToldStream;
 pub use stream_entries::{add, judge};
-pub use streams::{Streams, live};
+pub use streams::{ToldStreams, live};

@@ -22,9 +22,9 @@ use kds_tree::ShardTree;
 use std::alloc::Global;
 use std::marker::Model;
 
-/// What is known of a stream that was made: also of one that is gone.
+/// What a journal has told of a stream that was made: also of one that is gone.
 #[derive(Drop)]
-pub struct Stream {
+pub struct ToldStream {
     pub name: Name,
     pub live: bool,
     /// Whether its limits on throughput are on.
@@ -39,7 +39,7 @@ pub struct Stream {
     pub records: Vec<Sized>,
 }
 
-impl Model for Stream {
+impl Model for ToldStream {
     ghost use Rattle.std.specs.Prelude.{◌-◌, ◌<◌, ◌≤◌, ◌^◌};
     ghost use Rattle.std.specs.List.{AllByRecursion};
     ghost use Rattle.kcl_audit_streams.specs.Order.{AreNumbered};
@@ -49,7 +49,16 @@ impl Model for Stream {
 
     ghost invariant = { λ s. (s.floor ≤ 2 ^ 62) × (AllByRecursion (λ r. r.seq < 2 ^ 64 - 1) s.records.items × AreNumbered s.next s.records.items) };
 
-    ghost view = { λ s. record { name = s.name; live = s.live; enforced = s.enforced; hours = s.hours; floor = s.floor; next = s.next; tree = s.tree.shards; records = s.records.items } };
+    ghost view = { λ s. record {
+      name = s.name;
+      live = s.live;
+      enforced = s.enforced;
+      hours = s.hours;
+      floor = s.floor;
+      next = s.next;
+      tree = s.tree.shards;
+      records = s.records.items;
+    } };
 }
 
 /// One above clock less retention, and 0 where that is negative.
@@ -75,14 +84,14 @@ pub fn refused(refusal: Refusal) -> Result<(), Rule>
     Err(Rule::By(refusal))
 }
 
-impl Stream {
+impl ToldStream {
     /// A stream as it is made.
-    pub fn new(alloc: Global, name: Name, shards: u32) -> Result<Stream, Memory>
+    pub fn new(alloc: Global, name: Name, shards: u32) -> Result<ToldStream, Memory>
         requires least { 1 ≤ shards }
         requires most { shards ≤ MOST_SHARDS }
         ensures { IfOk result (λ v. v ≡ new_stream name shards) }
     {
-        Ok(Stream {
+        Ok(ToldStream {
             name,
             live: true,
             enforced: false,

@@ -8,14 +8,14 @@ ghost use Rattle.kcl_audit_streams.specs.Judging.{changed_at, entry_verdict, in_
 ghost use Rattle.kcl_audit_streams.specs.Standing.{live_at};
 
 use crate::rule::Rule;
-use crate::stream::{Stream, agrees, refused};
+use crate::stream::{ToldStream, agrees, refused};
 use crate::streams::{lacks_room, live, made_refusal};
 use kds_base::{Memory, Moment, Name, Seq, ShardNo, StreamNo};
 use kds_defs::{Entry, Refusal};
 use std::alloc::Global;
 
 /// Whether the making of a stream is good.
-fn judge_made(streams: &[Stream], no: StreamNo, name: &Name, shards: u32) -> Result<(), Rule>
+fn judge_made(streams: &[ToldStream], no: StreamNo, name: &Name, shards: u32) -> Result<(), Rule>
     requires { shards ≤ MOST_SHARDS }
     ensures { result ≡ made_verdict streams.now no name.now shards }
 {
@@ -26,7 +26,7 @@ fn judge_made(streams: &[Stream], no: StreamNo, name: &Name, shards: u32) -> Res
 }
 
 /// The live stream of a number, or the rule that an entry of it breaks.
-fn in_stream(streams: &[Stream], no: StreamNo) -> Result<&Stream, Rule>
+fn in_stream(streams: &[ToldStream], no: StreamNo) -> Result<&ToldStream, Rule>
     ensures some { IfOk result (λ x. live_at streams.now no ≡ Some x.now) }
     ensures none { IfErr result (λ r. (r ≡ rule.By refusal.NoStream) × (live_at streams.now no ≡ None)) }
 {
@@ -38,7 +38,7 @@ fn in_stream(streams: &[Stream], no: StreamNo) -> Result<&Stream, Rule>
 
 /// Whether a split of a shard of a live stream is good at a clock.
 fn judge_split(
-    streams: &[Stream],
+    streams: &[ToldStream],
     clock: Moment,
     no: StreamNo,
     shard: ShardNo,
@@ -54,7 +54,7 @@ fn judge_split(
 }
 
 /// Whether an entry of a stream is good at a clock.
-pub fn judge(streams: &[Stream], clock: Moment, what: &Entry) -> Result<(), Rule>
+pub fn judge(streams: &[ToldStream], clock: Moment, what: &Entry) -> Result<(), Rule>
     requires { IsFit what.now }
     ensures { result ≡ stream_verdict streams.now clock what.now }
 {
@@ -98,20 +98,25 @@ pub fn judge(streams: &[Stream], clock: Moment, what: &Entry) -> Result<(), Rule
 }
 
 /// Adds a stream as it is made.
-fn add_made(alloc: Global, streams: &mut Vec<Stream>, name: Name, shards: u32) -> Result<(), Memory>
+fn add_made(
+    alloc: Global,
+    streams: &mut Vec<ToldStream>,
+    name: Name,
+    shards: u32,
+) -> Result<(), Memory>
     requires least { 1 ≤ shards }
     requires most { shards ≤ MOST_SHARDS }
     ensures ok { OnOk result (streams.new.items ≡ streams.old.items ++ new_stream name shards ∷ []) }
     ensures err { OnErr result (streams.new.items ≡ streams.old.items) }
 {
-    let stream = Stream::new(alloc, name, shards)?;
+    let stream = ToldStream::new(alloc, name, shards)?;
     streams.push(stream)?;
     Ok(())
 }
 
 /// After a good entry of the stream of a number, other than its making.
 fn add_later(
-    streams: &mut Vec<Stream>,
+    streams: &mut Vec<ToldStream>,
     clock: Moment,
     no: StreamNo,
     what: &Entry,
@@ -127,7 +132,7 @@ fn add_later(
 /// Adds a good entry of a stream at a clock. After `Memory` the streams are as before.
 pub fn add(
     alloc: Global,
-    streams: &mut Vec<Stream>,
+    streams: &mut Vec<ToldStream>,
     clock: Moment,
     what: Entry,
 ) -> Result<(), Memory>

@@ -5,7 +5,7 @@ ghost use Rattle.kds_defs.specs.declared.limits.TheConstants.{MOST_SHARDS, OPEN_
 ghost use Rattle.kcl_audit_streams.specs.Standing.{is_listed_in, live_at};
 ghost use Rattle.kcl_audit_streams.specs.Judging.{is_named, lacks_room, live_count, made_refusal};
 
-use crate::stream::Stream;
+use crate::stream::ToldStream;
 use kcl_leases::Shards;
 use kds_base::{Moment, Name, ShardRef, StreamNo};
 use kds_defs::limits::{LIVE_STREAMS, OPEN_SHARDS};
@@ -14,12 +14,12 @@ use std::marker::Model;
 
 /// Every stream that was made, in the order of their numbers, which begin with 1, at a clock.
 #[derive(Drop)]
-pub struct Streams {
+pub struct ToldStreams {
     pub clock: Moment,
-    pub list: Vec<Stream>,
+    pub list: Vec<ToldStream>,
 }
 
-impl Model for Streams {
+impl Model for ToldStreams {
     ghost use Rattle.kcl_audit_streams.specs.Standing.{StreamsValue};
 
     ghost Value = { StreamsValue };
@@ -28,7 +28,7 @@ impl Model for Streams {
 }
 
 /// The stream of a number, if it is live.
-pub fn live(streams: &[Stream], no: StreamNo) -> Option<&Stream>
+pub fn live(streams: &[ToldStream], no: StreamNo) -> Option<&ToldStream>
     ensures { option_map (λ x. x.now) result ≡ live_at streams.now no }
 {
     let place = no.0.checked_sub(1)?;
@@ -40,7 +40,7 @@ pub fn live(streams: &[Stream], no: StreamNo) -> Option<&Stream>
 }
 
 /// Whether a live stream has the name.
-pub fn is_named(streams: &[Stream], name: &Name) -> bool
+pub fn is_named(streams: &[ToldStream], name: &Name) -> bool
     ensures { result ≡ is_named streams.now name.now }
 {
     for stream in streams {
@@ -52,7 +52,7 @@ pub fn is_named(streams: &[Stream], name: &Name) -> bool
 }
 
 /// How many streams are live.
-pub fn live_count(streams: &[Stream]) -> u64
+pub fn live_count(streams: &[ToldStream]) -> u64
     ensures { result ≡ live_count streams.now }
 {
     let mut count = 0;
@@ -65,7 +65,7 @@ pub fn live_count(streams: &[Stream]) -> u64
 }
 
 /// Whether fewer shards than this are left of those that may be open.
-pub fn lacks_room(streams: &[Stream], more: u64) -> bool
+pub fn lacks_room(streams: &[ToldStream], more: u64) -> bool
     requires { more ≤ OPEN_SHARDS }
     ensures { result ≡ lacks_room streams.now more }
 {
@@ -82,7 +82,7 @@ pub fn lacks_room(streams: &[Stream], more: u64) -> bool
 }
 
 /// Why a stream of so many shards can't be made, if it can't.
-pub fn made_refusal(streams: &[Stream], name: &Name, shards: u32) -> Option<Refusal>
+pub fn made_refusal(streams: &[ToldStream], name: &Name, shards: u32) -> Option<Refusal>
     requires { shards ≤ MOST_SHARDS }
     ensures { result ≡ made_refusal streams.now name.now shards }
 {
@@ -99,7 +99,7 @@ pub fn made_refusal(streams: &[Stream], name: &Name, shards: u32) -> Option<Refu
 }
 
 /// Whether the shard of a key is listed at a clock.
-fn is_listed(streams: &[Stream], clock: Moment, key: ShardRef) -> bool
+fn is_listed(streams: &[ToldStream], clock: Moment, key: ShardRef) -> bool
     ensures { result ≡ is_listed_in (live_at streams.now key.stream) clock key.shard }
 {
     match live(streams, key.stream) {
@@ -108,7 +108,7 @@ fn is_listed(streams: &[Stream], clock: Moment, key: ShardRef) -> bool
     }
 }
 
-impl Shards for Streams {
+impl Shards for ToldStreams {
     ghost use Rattle.kcl_audit_streams.specs.Standing.{Shows, lists};
 
     ghost clock = { λ s. s.clock };

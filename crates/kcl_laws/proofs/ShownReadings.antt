@@ -1,6 +1,6 @@
 -- A journal and what its text shows of it have the same readings.
-use Rattle.std.proofs.Common.{◌≡◌, ℕ, zero, suc, ◌+◌, ◌-◌, ◌*◌, max, Bool, true, false, List, [], ◌∷◌, ◌++◌, length, map, slice_get, Option, Some, None, refl, sym, ap, ◌∙◌}
-use Rattle.std.specs.Prelude.{◌==◌, ◌&&◌, ◌||◌, not, cond, nat_le, if◌then◌else◌}
+use Rattle.std.proofs.Common.{◌≡◌, ℕ, ◌+◌, ◌-◌, ◌*◌, max, Bool, true, false, List, [], ◌∷◌, ◌++◌, length, map, slice_get, Option, Some, None, refl, sym, ap, ◌∙◌}
+use Rattle.std.specs.Prelude.{◌==◌, ◌&&◌, ◌||◌, not, if◌then◌else◌}
 use Rattle.std.specs.Option.{option_map}
 use Rattle.std.specs.List.{filter, find}
 use Rattle.kds_base.specs.declared.lease_key.ShardRef.{ShardRef}
@@ -10,6 +10,7 @@ use Rattle.kds_defs.specs.declared.entry.Entry.{Entry}
 use Rattle.kds_defs.specs.declared.entry.Entry.TheVariants as entry
 use Rattle.kds_defs.specs.declared.limits.TheConstants.{BATCH_BYTES, HOUR}
 use Rattle.kds_defs.specs.declared.reply.Row.{Row}
+use Rattle.kcl_laws.specs.Recorded.{bare}
 use Rattle.kcl_laws.specs.ShownLines.{shown_journal, shown_line}
 use Rattle.kds_defs.specs.Journal.{Line, Journal}
 use Rattle.kds_defs.specs.Keys.{ref, same_key}
@@ -20,9 +21,10 @@ use Rattle.kds_defs.specs.LeaseCommands.{counting_origin, follows_parent, parent
 use Rattle.kds_defs.specs.Origins.{floor_from, start_from}
 use Rattle.kds_defs.specs.PutCommands.{enforced_after, is_enforced}
 use Rattle.kds_defs.specs.Rates.{SizedPut, puts, puts_after}
-use Rattle.kds_defs.specs.Records.{Logged, batch, beginning, draws, first_at, is_left, left_among, left_from, next_number, numbers_of, records, records_after}
+use Rattle.kds_defs.specs.Records.{Logged, batch, beginning, draws, first_at, left_among, left_from, next_number, numbers_of, records, records_after}
 use Rattle.kds_defs.specs.Shards.{ShardState, adjacent_of, home, home_among, is_closed_below, is_listed, is_listed_state, is_open, open_count, open_in, parent_of, shard_at, shards, shards_after, start_of}
 use Rattle.kds_defs.specs.Streams.{floor_at, floor_of_lines, hours, hours_after, is_live, is_live_after, live_streams, made_count, made_count_after, name_of, name_of_after, numbers_from, same_name, stream_named, trim_floor, was_made, was_made_after}
+use Rattle.kcl_laws.proofs.BareRecords.{beginning_bare, first_bare, left_bare, none_bare, numbers_bare}
 
 pub clock_is : (log : Journal) → last_clock (shown_journal log) ≡ last_clock log
 clock_is [] = refl
@@ -100,10 +102,6 @@ listed_is log c s sh = ap (λ (xs : List ShardState). is_listed_state (shown_jou
 
 -- ---- records: they differ in their keys and payloads alone
 
--- a record without its key and payload
-abbrev bare : Logged → Logged
-bare r = record r { key = []; payload = [] }
-
 last_bare : (rs : List Logged) (r : Logged) → map bare (rs ++ r ∷ []) ≡ map bare rs ++ bare r ∷ []
 last_bare [] r = refl
 last_bare (x ∷ rs) r = ap (λ xs. bare x ∷ xs) (last_bare rs r)
@@ -129,35 +127,6 @@ record_one line _ s sh rs rs' e = e
 records_are : (log : Journal) (s sh : ℕ) → map bare (records (shown_journal log) s sh) ≡ map bare (records log s sh)
 records_are [] s sh = refl
 records_are (line ∷ log) s sh = record_one line line.what s sh (records log s sh) (records (shown_journal log) s sh) (records_are log s sh)
-
-left_bare : (floor position : ℕ) (rs : List Logged) → map bare (left_among floor position rs) ≡ left_among floor position (map bare rs)
-left_bare floor position [] = refl
-left_bare floor position (r ∷ rs) = by (is_left floor position r) (left_bare floor position rs)
-  where
-    by : (b : Bool) → map bare (left_among floor position rs) ≡ left_among floor position (map bare rs) → map bare (cond b (r ∷ left_among floor position rs) (left_among floor position rs)) ≡ cond b (bare r ∷ left_among floor position (map bare rs)) (left_among floor position (map bare rs))
-    by true e = ap (λ xs. bare r ∷ xs) e
-    by false e = e
-
-beginning_bare : (limit room : ℕ) (rs : List Logged) → map bare (beginning limit room rs) ≡ beginning limit room (map bare rs)
-beginning_bare zero room rs = refl
-beginning_bare (suc limit) room [] = refl
-beginning_bare (suc limit) room (r ∷ rs) = by (nat_le r.bytes room) (beginning_bare limit (room - r.bytes) rs)
-  where
-    by : (b : Bool) → map bare (beginning limit (room - r.bytes) rs) ≡ beginning limit (room - r.bytes) (map bare rs) → map bare (if b then r ∷ beginning limit (room - r.bytes) rs else []) ≡ (if b then bare r ∷ beginning limit (room - r.bytes) (map bare rs) else [])
-    by true e = ap (λ xs. bare r ∷ xs) e
-    by false e = refl
-
-numbers_bare : (rs : List Logged) → numbers_of (map bare rs) ≡ numbers_of rs
-numbers_bare [] = refl
-numbers_bare (r ∷ rs) = ap (λ ns. r.seq ∷ ns) (numbers_bare rs)
-
-none_bare : (rs : List Logged) → are_none (map bare rs) ≡ are_none rs
-none_bare [] = refl
-none_bare (r ∷ rs) = refl
-
-first_bare : (rs : List Logged) (moment otherwise : ℕ) → first_at (map bare rs) moment otherwise ≡ first_at rs moment otherwise
-first_bare [] moment otherwise = refl
-first_bare (r ∷ rs) moment otherwise = λ i. if nat_le moment r.arrival then r.seq else first_bare rs moment otherwise i
 
 left_are : (log : Journal) (c s sh position : ℕ) → map bare (left_from (shown_journal log) c s sh position) ≡ map bare (left_from log c s sh position)
 left_are log c s sh position =

@@ -22,6 +22,10 @@ AreDrawn log s sh = RiseBetween (start_of (shard_at log s sh)) (records log s sh
 abbrev pub IsSized : Logged → Type 0
 IsSized r = (r.bytes ≡ length r.payload + length r.key) × (r.bytes ≤ BATCH_BYTES)
 
+-- a record without its key and payload, which nothing that decides looks at
+abbrev pub bare : Logged → Logged
+bare r = record r { key = []; payload = [] }
+
 -- one of these records has this number or a greater one
 abbrev pub HasFrom : ℕ → List Logged → Type 0
 HasFrom q [] = ⊥

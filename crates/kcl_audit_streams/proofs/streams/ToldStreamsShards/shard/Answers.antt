@@ -3,7 +3,7 @@ use Rattle.std.specs.Option.{option_map}
 use Rattle.kds_defs.specs.Shards.{shown}
 use Rattle.kcl_audit_streams.specs.Standing.{live_at, stream_at}
 use Rattle.kcl_audit_streams.proofs.Keys.{live_found, shard_key, shard_of, shown_live}
-use Rattle.kcl_audit_streams.proofs.streams.StreamsShards.shard.Goals as goal
+use Rattle.kcl_audit_streams.proofs.streams.ToldStreamsShards.shard.Goals as goal
 
 pub returns-in-None : goal.returns-in-None
 returns-in-None c =

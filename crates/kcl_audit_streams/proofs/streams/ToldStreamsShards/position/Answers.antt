@@ -3,7 +3,7 @@ use Rattle.kcl_audit_streams.specs.Standing.{StreamsValue, live_at, stream_at}
 use Rattle.kcl_audit_streams.specs.Judging.{position_in}
 use Rattle.kcl_audit_streams.proofs.BatchTold.{position_is}
 use Rattle.kcl_audit_streams.proofs.Keys.{live_found, stream_found}
-use Rattle.kcl_audit_streams.proofs.streams.StreamsShards.position.Goals as goal
+use Rattle.kcl_audit_streams.proofs.streams.ToldStreamsShards.position.Goals as goal
 
 pub returns : goal.returns
 returns c =

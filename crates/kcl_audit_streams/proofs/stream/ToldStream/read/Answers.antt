@@ -1,7 +1,7 @@
 use Rattle.std.proofs.Common.{◌-◌, ◌^◌}
 use Rattle.kds_defs.specs.declared.limits.TheConstants.{BATCH_BYTES}
 use Rattle.kcl_audit_streams.proofs.BatchSteps.{batch_below}
-use Rattle.kcl_audit_streams.proofs.stream.Stream.read.Goals as goal
+use Rattle.kcl_audit_streams.proofs.stream.ToldStream.read.Goals as goal
 
 pub place_after_numbers-place-requires : goal.place_after_numbers-place-requires
 place_after_numbers-place-requires c =

@@ -1,7 +1,7 @@
 use Rattle.std.proofs.Common.{◌≡◌, ◌∙◌, rules}
 use Rattle.kcl_audit_streams.specs.Standing.{lists}
 use Rattle.kcl_audit_streams.proofs.Keys.{listed_key}
-use Rattle.kcl_audit_streams.proofs.streams.StreamsShards.is_listed.Goals as goal
+use Rattle.kcl_audit_streams.proofs.streams.ToldStreamsShards.is_listed.Goals as goal
 
 pub returns-clause-shown : goal.returns-clause-shown
 returns-clause-shown c =
