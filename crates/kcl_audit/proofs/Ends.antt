@@ -2,10 +2,10 @@
 use Rattle.std.proofs.Common.{◌≡◌, ℕ, Bool, true, false, List, [], ◌∷◌, ◌++◌, refl, sym, ap, ◌∙◌}
 use Rattle.std.proofs.lemmas.List.{append-nil}
 use Rattle.kds_base.proofs.Facts.{apart}
-use Rattle.kds_lines.specs.Lines.{End, lined, too_long}
+use Rattle.kds_lines.specs.Lines.{End, lined}
 use Rattle.kcl_audit_streams.specs.declared.rule.Rule.{Rule}
 use Rattle.kcl_audit_streams.specs.declared.rule.Rule.TheVariants as rule
-use Rattle.kcl_audit.specs.Progress.{AuditEnd, Progress, audit_of, closed, finish, found, fresh, going, next, over, progress, progress_from, sound, step}
+use Rattle.kcl_audit.specs.Progress.{AuditEnd, Progress, audit_of, closed, finish, found, fresh, going, next, progress, progress_from, sound, step}
 use Rattle.kcl_audit.specs.Progress.{unsound}
 use Rattle.kcl_audit.specs.Text.{report}
 use Rattle.kcl_audit.specs.Stages.{end_by, is_bad, is_sound}

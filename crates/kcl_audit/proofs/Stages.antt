@@ -1,8 +1,6 @@
 -- Where an audit stands after one more line.
-use Rattle.std.proofs.Common.{◌≡◌, ℕ, Bool, true, false, List, [], ◌∷◌, ◌++◌, refl, sym, ap, subst, ◌∙◌, inl, inr, Some, None}
-use Rattle.std.specs.Prelude.{Result, Ok, Err, OnErr, codes}
-use Rattle.std.proofs.lemmas.List.{append-nil}
-use Rattle.kds_lines.specs.Lines.{End, unfinished, whole}
+use Rattle.std.proofs.Common.{◌≡◌, ℕ, true, false, List, [], ◌∷◌, ◌++◌, refl, sym, ap, subst, ◌∙◌, inl, inr, Some, None}
+use Rattle.std.specs.Prelude.{Result, Ok, Err, OnErr}
 use Rattle.kds_lines.specs.Taking.{Breaks, Goes}
 use Rattle.kcl_audit_judge.specs.Standing.{JudgeValue, Stands}
 use Rattle.kcl_audit.specs.declared.stage.Stage.{Stage}
@@ -11,9 +9,9 @@ use Rattle.kds_defs.specs.Journal.{Journal}
 use Rattle.kcl_journal.specs.declared.line.EntryLine.{EntryLine}
 use Rattle.kcl_journal.specs.Entries.{IsVersion}
 use Rattle.kcl_audit_streams.specs.Verdict.{Verdict}
-use Rattle.kcl_audit.specs.Progress.{Progress, after_end, after_entry, closed, fresh, going, line_of, next, progress, step}
-use Rattle.kcl_audit.specs.Stages.{Broke, Finishes, IsAt, IsNamed, IsOver, TakerValue, Took, end_by, is_bad, is_found, name_in, stage_report, texts_report}
-use Rattle.kcl_audit.specs.Text.{named_text, report, rule_name, sound_text}
+use Rattle.kcl_audit.specs.Progress.{Progress, after_entry, fresh, line_of, next, progress, step}
+use Rattle.kcl_audit.specs.Stages.{Broke, IsAt, IsNamed, IsOver, TakerValue, Took, is_found, name_in, stage_report, texts_report}
+use Rattle.kcl_audit.specs.Text.{named_text, report, rule_name}
 use Rattle.kcl_audit.proofs.Ends.{appended}
 
 pub report_at : (s : Stage) (a : JudgeValue) (p : Progress) → IsAt s a p → report p ≡ stage_report s

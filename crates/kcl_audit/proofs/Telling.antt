@@ -6,7 +6,7 @@ use Rattle.std.proofs.KnownBytes.{Appends-trans}
 use Rattle.kds_ends.specs.Causes.{AppendsFront}
 use Rattle.kds_ends.specs.declared.status.Status.{Status}
 use Rattle.kds_ends.specs.declared.status.Status.TheVariants as status
-use Rattle.kds_lines.specs.Lines.{lined, too_long}
+use Rattle.kds_lines.specs.Lines.{lined}
 use Rattle.kcl_audit.specs.Progress.{audit_of, finish, progress}
 use Rattle.kcl_audit.specs.Text.{audit_text, report}
 use Rattle.kcl_audit.specs.Stages.{end_by, is_bad}

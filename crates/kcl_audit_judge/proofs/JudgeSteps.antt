@@ -1,16 +1,14 @@
 -- What an entry, and a clock, make of all that a judge knows.
-use Rattle.std.proofs.Common.{◌≡◌, ℕ, ◌≤◌, List, ◌∷◌, sym, subst, ◌∙◌}
-use Rattle.std.specs.Prelude.{is_some, true, Result, Ok, Err, IfOk, OnOk, OnErr}
+use Rattle.std.proofs.Common.{◌≡◌, ℕ, List, ◌∷◌, sym, subst, ◌∙◌}
+use Rattle.std.specs.Prelude.{is_some, true, Result, Ok, Err, IfOk, OnOk}
 use Rattle.kds_defs.proofs.Elsewhere.{of_some}
 use Rattle.kds_defs.specs.declared.entry.Entry.{Entry}
 use Rattle.kds_defs.specs.declared.reply.Row.{Row}
-use Rattle.kds_defs.specs.Journal.{Line, Journal}
-use Rattle.kds_defs.specs.Legal.{last_clock}
+use Rattle.kds_defs.specs.Journal.{Journal}
 use Rattle.kds_defs.specs.Subjects.{stream_of}
 use Rattle.kcl_book.specs.Tenures.{TenureValue}
-use Rattle.kcl_leases.proofs.LeaseSteps.{rows_of, stands_of, tenures_of}
 use Rattle.kcl_leases.proofs.StreamLines.{stands_beside}
-use Rattle.kcl_leases.specs.Standing.{Facing, Stands, facing, leases}
+use Rattle.kcl_leases.specs.Standing.{facing}
 use Rattle.kcl_laws.specs.ShownLines.{entry_line}
 use Rattle.kds_defs.specs.Legal.{told}
 use Rattle.kcl_audit_streams.specs.Judging.{stream_verdict, streams_after}

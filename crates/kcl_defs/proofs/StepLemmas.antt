@@ -1,5 +1,5 @@
 -- A consumer keeps in step with a history.
-use Rattle.std.proofs.Common.{◌≡◌, ℕ, ◌+◌, true, false, List, [], ◌∷◌, ◌++◌, Some, refl, sym, ap, subst, ◌∙◌}
+use Rattle.std.proofs.Common.{◌≡◌, ℕ, ◌+◌, false, List, [], ◌∷◌, ◌++◌, Some, refl, sym, ap, subst, ◌∙◌}
 use Rattle.std.specs.Prelude.{◌==◌, cond, if◌then◌else◌, Result}
 use Rattle.std.proofs.lemmas.List.{append-nil}
 use Rattle.kds_base.proofs.Facts.{is_itself, plus_none}

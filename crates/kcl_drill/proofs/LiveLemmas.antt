@@ -1,5 +1,5 @@
 -- The stream of a drill is live after its generator's commands.
-use Rattle.std.proofs.Common.{◌≡◌, ℕ, ◌<◌, Bool, true, false, List, [], ◌∷◌, ◌++◌, Option, Some, None, refl, sym, ap, subst, ◌∙◌}
+use Rattle.std.proofs.Common.{◌≡◌, ℕ, ◌<◌, Bool, true, false, List, [], ◌∷◌, ◌++◌, Some, None, refl, sym, ap, subst, ◌∙◌}
 use Rattle.std.specs.Prelude.{map, cond, reverse, if◌then◌else◌}
 use Rattle.std.specs.List.{filter, find, AllByRecursion}
 use Rattle.std.proofs.lemmas.List.{reverse-append}
@@ -8,7 +8,7 @@ use Rattle.kds_defs.specs.declared.command.Command.TheVariants as command
 use Rattle.kds_defs.specs.declared.command.Turn.{Turn}
 use Rattle.kds_defs.specs.declared.entry.Entry.{Entry}
 use Rattle.kds_defs.specs.declared.entry.Entry.TheVariants as entry
-use Rattle.kds_defs.specs.Decision.{Decision, Accepted, refuse◌if◌else◌, with◌or◌then◌}
+use Rattle.kds_defs.specs.Decision.{refuse◌if◌else◌, with◌or◌then◌}
 use Rattle.kds_defs.specs.Histories.{clock, decide, lines_of, journal}
 use Rattle.kds_defs.specs.Journal.{Line, Journal, with_lines}
 use Rattle.kds_defs.specs.Streams.{made_count, made_count_after, is_live, is_live_after, name_of, name_of_after, numbers_from, same_name, stream_named}

@@ -10,5 +10,4 @@ pub mod Stepping
 pub mod Running
 pub mod HandRuns
 pub mod HandLines
-pub mod Reversed
 pub mod Serving

@@ -20,7 +20,7 @@ use Rattle.kds_defs.proofs.Walk.{Outcome, Adds, Answers, Creates, Surveys}
 use Rattle.kcl_journal.specs.declared.line.EntryLine.{EntryLine}
 use Rattle.kcl_sim_scribe.specs.Added.{added_entries, told_by}
 use Rattle.kcl_sim_scribe.specs.Known.{Known, Knows, ScribeValue, StandsFor, changed_by, new_known}
-use Rattle.kcl_sim_scribe.specs.Telling.{CanTell, MayNumber, changed_name, entries_of, line_by, lines_by, told_after, told_lines}
+use Rattle.kcl_sim_scribe.specs.Telling.{CanTell, entries_of, line_by, lines_by, told_after, told_lines}
 use Rattle.kcl_sim_scribe.proofs.Making.{knows_made}
 use Rattle.kcl_sim_scribe.proofs.Readings.{knows_all}
 use Rattle.kcl_sim_scribe.proofs.Tellings.{IsOther, Told, tells}

@@ -11,7 +11,7 @@ use Rattle.kcl_defs.specs.declared.plans.TakeStep.{TakeStep}
 use Rattle.kds_defs.specs.declared.reply.Refusal.{Refusal}
 use Rattle.kds_defs.specs.declared.reply.Reply.{Reply}
 use Rattle.kcl_defs.specs.Consumers.{Losing}
-use Rattle.kcl_defs.specs.Workers.{AtConsumers, AtRenewals, AtSync, Chore, Consuming, Finishing, Freeing, Got_answer, Known, Pending, Renewing, Round, WorkerPast, WorkerState, absorbed, after_chore, after_renewal, consumed, happens_to, held_after, held_unless_over, id_of, id_of_held, known_of, phase_in, renewed, same_id, settled, without_held, worker_after}
+use Rattle.kcl_defs.specs.Workers.{AtConsumers, AtRenewals, AtSync, Chore, Consuming, Finishing, Freeing, Got_answer, Known, Pending, Renewing, Round, WorkerPast, WorkerState, absorbed, after_chore, after_renewal, consumed, happens_to, held_after, held_unless_over, id_of, id_of_held, known_of, phase_in, same_id, settled, without_held, worker_after}
 use Rattle.kcl_consumer.specs.Standing.{Standing}
 use Rattle.kcl_worker_lists.specs.Changes.{answered_among, held_in, kept_unless_over, live_among, lost_among, one_of, phase_or_opening, retired_among}
 use Rattle.kcl_worker.specs.Standing.{settled_in}

@@ -15,12 +15,12 @@ use Rattle.kcl_defs.specs.declared.plans.LeaseId.{LeaseId}
 use Rattle.kcl_defs.specs.declared.plans.SyncStep.{SyncStep}
 use Rattle.kcl_defs.specs.declared.plans.TakeStep.{TakeStep}
 use Rattle.kcl_defs.specs.Consumers.{Phase, due_call, next_command, over_at, phase_after}
-use Rattle.kcl_defs.specs.Workers.{Known, WorkerState, WorkerPast, Gave_command, Pending, Round, AtStopping, Chore, Surveying, Consuming, Finishing, Freeing, chore_from, consumer_chore, consumer_command, counter_of, freeing_chore, from_consumers, id_of, is_giving, is_giving_phase, is_nothing_held, is_past, is_stopping, known_of, next_pending, pending_chore, pending_of, phase_of_known, same_id, stopping_chore, worker_after}
+use Rattle.kcl_defs.specs.Workers.{Known, WorkerState, WorkerPast, Gave_command, Pending, Round, AtStopping, Surveying, Consuming, Finishing, Freeing, chore_from, consumer_chore, consumer_command, counter_of, freeing_chore, from_consumers, id_of, is_giving, is_giving_phase, is_nothing_held, is_past, is_stopping, known_of, next_pending, pending_chore, pending_of, phase_of_known, same_id, stopping_chore, worker_after}
 use Rattle.kcl_consumer.specs.Standing.{Standing}
 use Rattle.kcl_worker.specs.declared.round.Asked.{Asked}
 use Rattle.kcl_worker.specs.declared.round.Asked.TheVariants as asked
 use Rattle.kcl_worker_lists.specs.Lists.{giving_in, id_in, past_in}
-use Rattle.kcl_worker.specs.Outlook.{IsAsking, IsGiven, IsReady}
+use Rattle.kcl_worker.specs.Outlook.{IsGiven, IsReady}
 use Rattle.kcl_worker.specs.Parts.{chore_of}
 use Rattle.kcl_worker_lists.specs.Lists.{due_in, due_or, is_due}
 use Rattle.kcl_worker.specs.Standing.{ConsumersStand, ShowsState, StandsFor, WorkerStanding, is_due_in, is_giving_in, is_idle_in}

@@ -1,8 +1,8 @@
 -- Want of memory before anything is read is an end of each task.
-use Rattle.std.proofs.Common.{◌≡◌, ℕ, Bool, true, false, List, [], ◌++◌, Option, Some, None, refl, inl, inr}
+use Rattle.std.proofs.Common.{◌≡◌, ℕ, Bool, true, false, List, [], Option, Some, None, refl, inl, inr}
 use Rattle.std.specs.Option.{IfSome}
 use Rattle.std.proofs.KnownBytes.{Appends-nil}
-use Rattle.kds_defs.specs.Histories.{journal, clock}
+use Rattle.kds_defs.specs.Histories.{journal}
 use Rattle.kcl_audit.specs.Audited.{TellsAudit}
 use Rattle.kds_ends.specs.declared.status.Status.TheVariants.{Done, Memory, Unsound}
 use Rattle.kds_cli_tasks.specs.declared.task.Task.{Task}
@@ -13,7 +13,7 @@ use Rattle.kds_session.specs.Text.{commands}
 use Rattle.kcl_script.specs.declared.line.Line.{Line}
 use Rattle.kcl_sim.specs.Schedule.{history, judged}
 use Rattle.kcl_sim.specs.Standing.{SimValue}
-use Rattle.kds_cli_runs.specs.Answered.{AreHandedOn, RanBy}
+use Rattle.kds_cli_runs.specs.Answered.{RanBy}
 use Rattle.kds_server.specs.Around.{around}
 use Rattle.kds_cli_runs.specs.Ends.{Answers, Audited, Performed, Replayed, ReplayTells, shown}
 use Rattle.kds_cli_runs.proofs.Answering.{Laws, run_safely}

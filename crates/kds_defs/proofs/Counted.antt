@@ -1,10 +1,10 @@
 -- How many shards and records the lists of the definitions have.
-use Rattle.std.proofs.Common.{◌≡◌, ℕ, zero, suc, ◌+◌, List, [], ◌∷◌, ◌++◌, length, map, Some, None, refl, ap, ◌∙◌, arith}
+use Rattle.std.proofs.Common.{◌≡◌, ℕ, zero, suc, ◌+◌, List, [], ◌∷◌, length, map, refl, ap, ◌∙◌}
 use Rattle.std.proofs.lemmas.List.{length-append}
-use Rattle.kds_base.specs.Span.{Span, uniform, uniform_from}
+use Rattle.kds_base.specs.Span.{Span, uniform_from}
 use Rattle.kds_defs.specs.declared.reply.Stored.{Stored}
 use Rattle.kds_defs.specs.Records.{Logged, numbers_of, stored}
-use Rattle.kds_defs.specs.Shards.{Closing, ShardState, first_shards, made_shards, merged_shards, split_shards, with_closed}
+use Rattle.kds_defs.specs.Shards.{Closing, ShardState, first_shards, merged_shards, split_shards, with_closed}
 use Rattle.kds_defs.proofs.Numbers.{length-closed}
 
 pub length_first : (n start : ℕ) (ranges : List Span) → length (first_shards n start ranges) ≡ length ranges

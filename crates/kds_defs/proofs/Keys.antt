@@ -1,6 +1,6 @@
 -- Two keys of leases are one where the test says so.
-use Rattle.std.proofs.Common.{◌≡◌, Bool, true}
-use Rattle.std.specs.Prelude.{◌==◌, ◌&&◌}
+use Rattle.std.proofs.Common.{◌≡◌, true}
+use Rattle.std.specs.Prelude.{◌==◌}
 use Rattle.std.proofs.lemmas.Bool.{and_parts, and_from}
 use Rattle.kds_base.specs.declared.lease_key.ShardRef.{ShardRef}
 use Rattle.kds_base.proofs.Facts.{equal_so, is_itself}

@@ -3,7 +3,7 @@ use Rattle.std.proofs.Common.{◌≡◌, ℕ, zero, suc, ◌+◌, ◌-◌, ◌*�
 use Rattle.std.specs.Prelude.{nat_le, slice_get, cond, if◌then◌else◌}
 use Rattle.std.specs.List.{AllByRecursion, filter}
 use Rattle.std.proofs.lemmas.Bool.Decides.{nat_tests}
-use Rattle.kds_base.specs.Span.{Span, is_inside, lower_part, upper_part, follows, are_adjacent, joined, last_key, uniform_from, uniform}
+use Rattle.kds_base.specs.Span.{Span, is_inside, lower_part, upper_part, are_adjacent, joined, last_key, uniform_from, uniform}
 use Rattle.kds_base.proofs.Facts.{same_some}
 use Rattle.kds_defs.specs.Safe.{times_covered}
 use Rattle.kds_defs.specs.Shards.{ShardState, Closing, is_open, new_shard, first_shards, with_closed}

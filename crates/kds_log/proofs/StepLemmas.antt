@@ -1,11 +1,11 @@
 -- A batch that grows, one record after another, and the first record from a place on.
-use Rattle.std.proofs.Common.{◌≡◌, ℕ, ◌+◌, ◌-◌, ◌<◌, ◌≤◌, List, [], ◌∷◌, ◌++◌, Some, None, length, get_or, drop, map, sym, ap, ◌∙◌}
+use Rattle.std.proofs.Common.{◌≡◌, ℕ, ◌+◌, ◌-◌, ◌<◌, ◌≤◌, List, [], ◌∷◌, ◌++◌, None, length, get_or, drop, map, sym, ap, ◌∙◌}
 use Rattle.std.proofs.lemmas.List.{at_drop_more, drop_all, append-nil, append_assoc}
 use Rattle.kds_base.proofs.Facts.{is_le}
 use Rattle.kds_defs.specs.Records.{Logged, beginning, logged, stored}
 use Rattle.kds_defs.specs.declared.reply.Stored.{Stored}
 use Rattle.kds_defs.proofs.Batches.{beginning_one, beginning_none}
-use Rattle.kds_log.specs.Log.{first_arrival, first_number}
+use Rattle.kds_log.specs.Log.{first_number}
 
 -- the records from a place on
 abbrev pub ahead : List Stored → ℕ → List Logged

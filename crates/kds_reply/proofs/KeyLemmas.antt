@@ -1,5 +1,5 @@
 -- The keys of the lines of every journal are text, and so are those of the records that answers hold.
-use Rattle.std.proofs.Common.{subst, ℕ, zero, suc, ◌-◌, List, [], ◌∷◌, map, Bool, true, false, nat_le, ◌==◌, ◌&&◌, if◌then◌else◌, Option, Some, None}
+use Rattle.std.proofs.Common.{subst, ℕ, zero, suc, ◌-◌, List, [], ◌∷◌, map, Bool, true, false, nat_le, ◌==◌, ◌&&◌, if◌then◌else◌}
 use Rattle.std.specs.List.{AllByRecursion}
 use Rattle.std.specs.Prelude.{Result}
 use Rattle.std.specs.Str.{IsUtf8}
@@ -12,16 +12,16 @@ use Rattle.kds_defs.specs.declared.entry.Entry.TheVariants as entry
 use Rattle.kds_defs.specs.declared.limits.TheConstants.{BATCH_BYTES}
 use Rattle.kds_defs.specs.declared.reply.Refusal.{Refusal}
 use Rattle.kds_defs.specs.declared.reply.Reply.{Reply}
-use Rattle.kds_defs.specs.Decision.{Decision, refuse◌if◌else◌, with◌or◌then◌}
-use Rattle.kds_defs.specs.Histories.{decide, lines_of, answer_of, clock, journal, answer}
-use Rattle.kds_defs.specs.Journal.{Line, Journal, plain_line, with_lines}
-use Rattle.kds_defs.specs.Lawful.{IsLawful, IsItem, AreItems, IsLawfulCommand, IsHistory}
-use Rattle.kds_defs.specs.LeaseCommands.{open_shard, past_parent, past_parents, past_target, read, with_held, with_tenure}
-use Rattle.kds_defs.specs.Leases.{TenureState, reach, row, tenure}
-use Rattle.kds_defs.specs.Records.{Logged, next_number, stored, records_after, records, is_left, left_from, beginning, batch}
-use Rattle.kds_defs.specs.Streams.{is_live, stream_named, trim_floor}
+use Rattle.kds_defs.specs.Decision.{refuse◌if◌else◌, with◌or◌then◌}
+use Rattle.kds_defs.specs.Histories.{clock, journal, answer}
+use Rattle.kds_defs.specs.Journal.{Line, Journal}
+use Rattle.kds_defs.specs.Lawful.{IsLawful, IsItem, IsLawfulCommand, IsHistory}
+use Rattle.kds_defs.specs.LeaseCommands.{read}
+use Rattle.kds_defs.specs.Leases.{reach}
+use Rattle.kds_defs.specs.Records.{Logged, stored, records_after, records, is_left, left_from, beginning, batch}
+use Rattle.kds_defs.specs.Streams.{is_live, trim_floor}
 use Rattle.kds_defs.proofs.Walk.{Outcome, IsAdded, Alone, Stored_one, Answers, Adds, Gets, Puts, Reads, each_journal, of_all, walk}
-use Rattle.kds_reply.specs.Keys.{records_in, IsPrintedWhole, ArePrintedWhole}
+use Rattle.kds_reply.specs.Keys.{IsPrintedWhole, ArePrintedWhole}
 
 -- ---- lists
 

@@ -1,9 +1,8 @@
 -- Tokens that are added one after another.
 use Rattle.std.proofs.Common.{◌≡◌, ℕ, List, [], ◌∷◌, ◌++◌, refl, ap, ◌∙◌}
-use Rattle.std.specs.Prelude.{codes, decimal, Option, Some, None}
-use Rattle.std.specs.Option.{option_to_list}
+use Rattle.std.specs.Prelude.{codes, decimal, Some, None}
 use Rattle.std.proofs.lemmas.List.{append_assoc}
-use Rattle.json.specs.Token.{Token, begin_array, begin_object, end_array, end_object, key, null, number, string}
+use Rattle.json.specs.Token.{Token, begin_object, end_object, key, null, number, string}
 use Rattle.kds_defs.specs.declared.reply.Iter.{Iter}
 use Rattle.kds_defs.specs.declared.reply.Outcome.{Outcome}
 use Rattle.kds_defs.specs.declared.reply.Place.{Place}
@@ -16,7 +15,7 @@ use Rattle.kds_reply_texts.specs.Errors.{error_data}
 use Rattle.kds_reply_texts.specs.Bodies.{id_data, list_data, place_data, failed_data, outcome_data, failed_count, outcomes_data, iterator_data}
 use Rattle.kds_reply_texts.specs.Records.{record_data, records_data}
 use Rattle.kds_reply_texts.specs.Children.{range_data, parents_of, child_data}
-use Rattle.kds_reply_texts.specs.Writing.{tokens_of, id_tokens}
+use Rattle.kds_reply_texts.specs.Writing.{tokens_of}
 
 pub more : {A : Type 0} (t u v a b : List A) → u ≡ t ++ a → v ≡ u ++ b → v ≡ t ++ (a ++ b)
 more t u v a b first second = second ∙ ap (λ ts. ts ++ b) first ∙ append_assoc t a b

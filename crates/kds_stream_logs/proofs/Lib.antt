@@ -1,5 +1,4 @@
 pub mod LogLemmas
-pub mod Numbers
 pub mod Rates
 pub mod ReadLemmas
 pub mod Routings

@@ -6,7 +6,7 @@ use Rattle.std.specs.List.{All}
 use Rattle.std.proofs.lemmas.List.{get_or_append_left}
 use Rattle.atomic_table.specs.Seated.{TableId}
 use Rattle.kds_turn.specs.Known.{has, times, account}
-use Rattle.kds_turn.specs.Passes.{Standing, accounts_of, HasAll}
+use Rattle.kds_turn.specs.Passes.{Standing, accounts_of}
 use Rattle.kds_turn.proofs.Turns.{has_one, times_append}
 
 -- it has all numbers from `least` to `last`

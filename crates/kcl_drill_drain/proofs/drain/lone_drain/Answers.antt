@@ -15,7 +15,7 @@ use Rattle.kds_defs.specs.Streams.{live_streams}
 use Rattle.kcl_drill_drain.specs.Draining.{CanDrain}
 use Rattle.kcl_drill_drain.specs.Keys.{AreDrainedTo, AreMade, listed_keys}
 use Rattle.kcl_drill_drain.specs.Laws.{HasLaws}
-use Rattle.kcl_drill_drain.specs.Leased.{HasDrained, HasLeased, Leads}
+use Rattle.kcl_drill_drain.specs.Leased.{HasDrained, Leads}
 use Rattle.kcl_drill_drain.proofs.Ends.{has_drained}
 use Rattle.kcl_drill_drain.proofs.Leading.{led, led_first, over}
 use Rattle.kcl_drill_drain.proofs.Makings.{all_wait, made_first}

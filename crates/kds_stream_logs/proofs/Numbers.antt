@@ -1,3 +1,0 @@
--- Numbers that are the same.
-
--- ---- a number and itself
