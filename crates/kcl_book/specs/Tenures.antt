@@ -40,7 +40,16 @@ with_tenure number t book = record book { tenures = slice_set book.tenures (numb
 -- as it is shown
 abbrev pub shown : TenureValue → Tenure
 shown t =
-    record { by = t.by; key = t.key; start = t.start; opened = t.opened; reach = t.reach; delivered = t.delivered; pending = length t.pending; at_end = t.at_end }
+    record {
+      by = t.by;
+      key = t.key;
+      start = t.start;
+      opened = t.opened;
+      reach = t.reach;
+      delivered = t.delivered;
+      pending = length t.pending;
+      at_end = t.at_end;
+    }
 
 -- after a read that reached this position, and ended the shard or did not
 abbrev pub with_read : ℕ → Bool → TenureValue → TenureValue
@@ -57,4 +66,5 @@ with_given t = given_of t.pending t
 -- the oldest read of the tenure of this number, of those that weren't given, was given, and reached this position
 abbrev pub HasGiven : ℕ → ℕ → BookValue → BookValue → Type 0
 HasGiven number delivered old new =
-    IfSome (tenure_at old.tenures number) (λ t. (are_none t.pending ≡ false) × (delivered ≡ (with_given t).delivered) × (new ≡ with_tenure number (with_given t) old))
+    IfSome (tenure_at old.tenures number) (λ t. (are_none t.pending ≡ false)
+    × (delivered ≡ (with_given t).delivered) × (new ≡ with_tenure number (with_given t) old))

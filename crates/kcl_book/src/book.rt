@@ -112,8 +112,10 @@ impl Book {
     /// Opens a tenure that is there, so that it may read. `OpenedBefore` exactly where it may. No memory.
     pub fn open_tenure(&mut self, no: TenureNo) -> Result<(), Refusal>
         requires { IsSome (tenure_at self.old.tenures no) }
-        ensures before { IfErr result (λ r. (r ≡ refusal.OpenedBefore) × (self.new ≡ self.old) × IfSome (tenure_at self.old.tenures no) (λ t. t.opened ≡ true)) }
-        ensures opened { OnOk result (IfSome (tenure_at self.old.tenures no) (λ t. (t.opened ≡ false) × (self.new ≡ with_tenure no (record t { opened = true }) self.old))) }
+        ensures before { IfErr result (λ r. (r ≡ refusal.OpenedBefore) × (self.new ≡ self.old)
+            × IfSome (tenure_at self.old.tenures no) (λ t. t.opened ≡ true)) }
+        ensures opened { OnOk result (IfSome (tenure_at self.old.tenures no) (λ t. (t.opened ≡ false)
+            × (self.new ≡ with_tenure no (record t { opened = true }) self.old))) }
     {
         let place = (no.0 - 1) as usize;
         if self.tenures[place].is_opened() {
@@ -139,7 +141,8 @@ impl Book {
     /// it. `NothingPending` exactly where each is given. No memory.
     pub fn give(&mut self, no: TenureNo) -> Result<u64, Refusal>
         requires { IsSome (tenure_at self.old.tenures no) }
-        ensures nothing { IfErr result (λ r. (r ≡ refusal.NothingPending) × (self.new ≡ self.old) × IfSome (tenure_at self.old.tenures no) (λ t. are_none t.pending ≡ true)) }
+        ensures nothing { IfErr result (λ r. (r ≡ refusal.NothingPending) × (self.new ≡ self.old)
+            × IfSome (tenure_at self.old.tenures no) (λ t. are_none t.pending ≡ true)) }
         ensures given { IfOk result (λ delivered. HasGiven no delivered self.old self.new) }
     {
         let place = (no.0 - 1) as usize;

@@ -33,7 +33,16 @@ impl Model for KeptTenure {
 
     ghost Value = { TenureValue };
 
-    ghost view = { λ t. record { by = t.by; key = t.key; start = t.start; opened = t.opened; reach = t.reach; delivered = t.delivered; pending = t.pending.items; at_end = t.at_end } };
+    ghost view = { λ t. record {
+      by = t.by;
+      key = t.key;
+      start = t.start;
+      opened = t.opened;
+      reach = t.reach;
+      delivered = t.delivered;
+      pending = t.pending.items;
+      at_end = t.at_end;
+    } };
 }
 
 /// The position where reading begins at a checkpoint.

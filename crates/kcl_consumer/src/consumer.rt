@@ -149,7 +149,8 @@ fn after_marking(ahead: &Ahead, answer: &Answer) -> (ConsumerStage, Progress)
 
 /// Where a consumer stands after the answer to the opening of its shard, and what is told of it.
 fn after_opening(answer: &Answer) -> (ConsumerStage, Progress)
-    ensures phase { (reach : ℕ) (waiting : List Fetched) (asked : Option Target) (lost : Bool) → phase_of result.0 reach waiting asked lost ≡ after_open answer.now }
+    ensures phase { (reach : ℕ) (waiting : List Fetched) (asked : Option Target) (lost : Bool)
+        → phase_of result.0 reach waiting asked lost ≡ after_open answer.now }
     ensures kept { (waiting : List Fetched) → waiting ≡ [] → IsKept result.0 waiting }
     ensures told { result.1 ≡ told_over (over_at (after_open answer.now)) }
 {
@@ -165,7 +166,8 @@ fn after_opening(answer: &Answer) -> (ConsumerStage, Progress)
 
 /// Where a consumer stands after the mark at its shard's end, and what is told of it.
 fn after_ending(answer: &Answer) -> (ConsumerStage, Progress)
-    ensures phase { (reach : ℕ) (waiting : List Fetched) (asked : Option Target) (lost : Bool) → phase_of result.0 reach waiting asked lost ≡ after_end answer.now }
+    ensures phase { (reach : ℕ) (waiting : List Fetched) (asked : Option Target) (lost : Bool)
+        → phase_of result.0 reach waiting asked lost ≡ after_end answer.now }
     ensures kept { (waiting : List Fetched) → IsKept result.0 waiting }
     ensures told { result.1 ≡ told_over (over_at (after_end answer.now)) }
 {
@@ -177,7 +179,8 @@ fn after_ending(answer: &Answer) -> (ConsumerStage, Progress)
 
 /// What is told of a consumer that waits for no answer at this stage: this one isn't needed.
 fn told_over(stage: ConsumerStage, answer: Answer) -> Progress
-    ensures { (reach : ℕ) (waiting : List Fetched) (asked : Option Target) (lost : Bool) → result ≡ told_over (over_at (phase_of stage reach waiting asked lost)) }
+    ensures { (reach : ℕ) (waiting : List Fetched) (asked : Option Target) (lost : Bool)
+        → result ≡ told_over (over_at (phase_of stage reach waiting asked lost)) }
 {
     let_go(answer);
     match stage {
@@ -498,6 +501,7 @@ impl<P: Processor> Consumer<P> {
 pub fn life()
     ensures own { (made : Tenancy) (past : Past) → IsLife made (reads_after made past) (gives_after made past) (calls_after made past) }
     ensures among { (deals : List Deal) (made : Tenancy) (past : Past) → IsInStep deals made past → IsLifeAmong deals made (calls_after made past) }
-    ensures step { (deal : Deal) (deals : List Deal) (counter : ℕ) (made : Tenancy) (past : Past) → next_command made (phase_after made past) counter ≡ Some deal.what
+    ensures step { (deal : Deal) (deals : List Deal) (counter : ℕ) (made : Tenancy) (past : Past)
+        → next_command made (phase_after made past) counter ≡ Some deal.what
         → IsInStep deals made past → IsInStep (deal ∷ deals) made (Answered deal.answer ∷ past) }
 {}

@@ -73,7 +73,8 @@ pub record IsReady (w : Spot) (at : ℕ) (x : Holding) : Type 0 where
   pub going : is_end x.checkpoint ≡ false
   pub settled : left_of (journal w.history) (clock_at w at) w.key x.place ≡ [] → x.checkpoint ≡ last_checkpoint (records_of (journal w.history) w.key)
   pub low : least x.checkpoint x.floor ≤ max x.place (start_of (shard_of (journal w.history) w.key))
-  pub budget : x.counter + length (left_of (journal w.history) (clock_at w at) w.key x.place) ≤ length w.history + 1 + length (records_of (journal w.history) w.key)
+  pub budget : x.counter + length (left_of (journal w.history) (clock_at w at) w.key x.place)
+      ≤ length w.history + 1 + length (records_of (journal w.history) w.key)
 
 -- its number, its place and its row's counter are known
 pub record IsHeld (x : Holding) (held : DrainTenure) : Type 0 where

@@ -55,7 +55,8 @@ Marks stands stands' by at held to result =
 -- it is marked at the last record of the batch, if there is one
 abbrev pub MarksLast : {E : Type 0} → (List Turn → Type 0) → (List Turn → Type 0) → ℕ → ℕ → DrainTenure → Option ℕ → Result ℕ E → Type 0
 MarksLast stands stands' by at held last result =
-    (w : Spot) (x : Holding) → IsSpot w at → IsReady w at x → IsHeld x held → last ≡ last_at w at x → Leads stands by at w.history (Stands w by (given_then w at x))
+    (w : Spot) (x : Holding) → IsSpot w at → IsReady w at x → IsHeld x held → last ≡ last_at w at x
+    → Leads stands by at w.history (Stands w by (given_then w at x))
     → IfOk result (λ n. (n ≡ (marked_then w at x).counter) × Leads stands' by at w.history (Stands w by (marked_then w at x)))
 
 -- the row is drained, or its tenure reads on
@@ -72,7 +73,8 @@ Settles stands stands' by at place held ended result =
 -- what was read is given and marked
 abbrev pub Delivers : {E : Type 0} → (List Turn → Type 0) → (List Turn → Type 0) → ℕ → ℕ → DrainTenure → Fetch → Result (Option DrainTenure) E → Type 0
 Delivers stands stands' by at held fetch result =
-    (w : Spot) (x : Holding) → IsSpot w at → IsReady w at x → IsHeld x held → fetch ≡ record { last = last_at w at x; reach = reach_at w at x; ended = ended_at w at x }
+    (w : Spot) (x : Holding) → IsSpot w at → IsReady w at x → IsHeld x held
+    → fetch ≡ record { last = last_at w at x; reach = reach_at w at x; ended = ended_at w at x }
     → Leads stands by at w.history (Stands w by (read_then w at x)) → IfOk result (Advances stands' w by at)
 
 abbrev pub StepsOn : {E : Type 0} → (List Turn → Type 0) → (List Turn → Type 0) → ℕ → ℕ → DrainTenure → Result (Option DrainTenure) E → Type 0
@@ -115,11 +117,13 @@ MakesRow stands stands' by at key seen result =
 -- the rows are made that a survey of the history shows none of
 abbrev pub Makes : {E : Type 0} → (List Turn → Type 0) → (List Turn → Type 0) → ℕ → ℕ → Result Reply Refusal → Result (Unit {0}) E → Type 0
 Makes stands stands' by at survey result =
-    (h : List Turn) → CanDrain h at → survey ≡ Ok (reply.Survey (listed_keys h at) (rows (journal h))) → Leads stands by at h (AreMade h (listed_keys h at) (rows (journal h)) 0)
+    (h : List Turn) → CanDrain h at → survey ≡ Ok (reply.Survey (listed_keys h at) (rows (journal h)))
+    → Leads stands by at h (AreMade h (listed_keys h at) (rows (journal h)) 0)
     → OnOk result (Leads stands' by at h (AreMade h (listed_keys h at) (rows (journal h)) (length (listed_keys h at))))
 
 -- the rows that a survey shows are drained
 abbrev pub Drains : {E : Type 0} → (List Turn → Type 0) → (List Turn → Type 0) → ℕ → ℕ → Result Reply Refusal → Result (Unit {0}) E → Type 0
 Drains stands stands' by at survey result =
-    (h : List Turn) (among : List Row) → CanDrain h at → survey ≡ Ok (reply.Survey (listed_keys h at) among) → Leads stands by at h (AreDrainedTo h (listed_keys h at) among 0)
+    (h : List Turn) (among : List Row) → CanDrain h at → survey ≡ Ok (reply.Survey (listed_keys h at) among)
+    → Leads stands by at h (AreDrainedTo h (listed_keys h at) among 0)
     → OnOk result (Leads stands' by at h (AreDrainedTo h (listed_keys h at) among (length (listed_keys h at))))

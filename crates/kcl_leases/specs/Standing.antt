@@ -1,5 +1,5 @@
 -- What leases know of shards, and which rows and tenures stand for a journal.
-use Rattle.std.specs.Prelude.{ℕ, ◌≡◌, ◌≢◌, ◌≤◌, if◌then◌else◌, List, [], ◌∷◌, drop, length, map, Option, Some, None, Result, IfSome}
+use Rattle.std.specs.Prelude.{ℕ, ◌≡◌, ◌≢◌, ◌≤◌, if◌then◌else◌, List, [], ◌∷◌, drop, length, map, Option, None, Result, IfSome}
 use Rattle.std.specs.Option.{option_map}
 use Rattle.kds_base.specs.declared.lease_key.Checkpoint.TheVariants.{At}
 use Rattle.kds_base.specs.declared.lease_key.ShardRef.{ShardRef}

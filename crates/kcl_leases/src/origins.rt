@@ -70,7 +70,8 @@ pub fn counting<L: Shards>(
 /// The number where the row of a listed shard begins, whose first number is `start`.
 pub fn floor_from<L: Shards>(shards: &L, key: &ShardRef, start: Seq, from: Origin) -> Seq
     requires { L.lists shards.now key.now ≡ true }
-    ensures { (log : Journal) → L.shows shards.now log → start ≡ start_of (shard_at log key.now.stream key.now.shard) → result ≡ floor_from log (L.clock shards.now) key.now from }
+    ensures { (log : Journal) → L.shows shards.now log → start ≡ start_of (shard_at log key.now.stream key.now.shard)
+        → result ≡ floor_from log (L.clock shards.now) key.now from }
 {
     match from {
         Origin::TrimHorizon => start,

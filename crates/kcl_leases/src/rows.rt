@@ -22,7 +22,8 @@ pub fn make<L: Shards>(
     key: &ShardRef,
     from: Origin,
 ) -> Result<Answer, Memory>
-    ensures leads { (by : ℕ) (ts : List TenureValue) → IfOk result (LeadsOver (L.clock shards.now) (L.shows shards.now) table.old ts table.new ts by (command.MakeLease key.now from)) }
+    ensures leads { (by : ℕ) (ts : List TenureValue)
+        → IfOk result (LeadsOver (L.clock shards.now) (L.shows shards.now) table.old ts table.new ts by (command.MakeLease key.now from)) }
     ensures kept { OnErr result (table.new ≡ table.old) }
 {
     shards.lease_lines();
@@ -81,7 +82,8 @@ pub fn take<L: Shards>(
 ) -> Result<Answer, Memory>
     requires bounded { AreBounded table.old }
     requires few { length book.old.tenures ≤ last_number }
-    ensures leads { IfOk result (LeadsOver (L.clock shards.now) (L.shows shards.now) table.old book.old.tenures table.new book.new.tenures by (command.Take key.now counter owner)) }
+    ensures leads { IfOk result (LeadsOver (L.clock shards.now) (L.shows shards.now) table.old book.old.tenures table.new book.new.tenures
+        by (command.Take key.now counter owner)) }
     ensures kept { OnErr result ((table.new ≡ table.old) × (book.new.tenures ≡ book.old.tenures)) }
 {
     shards.lease_lines();
@@ -113,7 +115,8 @@ fn write<L: Shards>(
     counter: u64,
     change: Change,
 ) -> Answer
-    ensures { LeadsOver (L.clock shards.now) (L.shows shards.now) table.old book.now.tenures table.new book.now.tenures by (write_command change tenure counter) result }
+    ensures { LeadsOver (L.clock shards.now) (L.shows shards.now) table.old book.now.tenures table.new book.now.tenures
+        by (write_command change tenure counter) result }
 {
     shards.lease_lines();
     let own = own(book, by, tenure)?;
@@ -130,7 +133,8 @@ pub fn renew<L: Shards>(
     tenure: TenureNo,
     counter: u64,
 ) -> Answer
-    ensures { LeadsOver (L.clock shards.now) (L.shows shards.now) table.old book.now.tenures table.new book.now.tenures by (command.Renew tenure counter) result }
+    ensures { LeadsOver (L.clock shards.now) (L.shows shards.now) table.old book.now.tenures table.new book.now.tenures
+        by (command.Renew tenure counter) result }
 {
     write(shards, table, book, by, tenure, counter, Change::Renewed)
 }
@@ -144,14 +148,16 @@ pub fn free<L: Shards>(
     tenure: TenureNo,
     counter: u64,
 ) -> Answer
-    ensures { LeadsOver (L.clock shards.now) (L.shows shards.now) table.old book.now.tenures table.new book.now.tenures by (command.Free tenure counter) result }
+    ensures { LeadsOver (L.clock shards.now) (L.shows shards.now) table.old book.now.tenures table.new book.now.tenures
+        by (command.Free tenure counter) result }
 {
     write(shards, table, book, by, tenure, counter, Change::Freed)
 }
 
 /// Removes the row of a shard that isn't listed.
 pub fn cut<L: Shards>(shards: &L, table: &mut Table, key: &ShardRef, counter: u64) -> Answer
-    ensures { (by : ℕ) (ts : List TenureValue) → LeadsOver (L.clock shards.now) (L.shows shards.now) table.old ts table.new ts by (command.CutLease key.now counter) result }
+    ensures { (by : ℕ) (ts : List TenureValue)
+        → LeadsOver (L.clock shards.now) (L.shows shards.now) table.old ts table.new ts by (command.CutLease key.now counter) result }
 {
     shards.lease_lines();
     let listed = shards.is_listed(*key);

@@ -43,7 +43,8 @@ pub fn open<L: Shards>(
 
 /// The oldest of the tenure's reads that isn't given is given.
 pub fn give<L: Shards>(shards: &L, book: &mut Book, by: u32, tenure: TenureNo) -> Answer
-    ensures { (rows : List Row) → LeadsOver (L.clock shards.now) (L.shows shards.now) rows book.old.tenures rows book.new.tenures by (command.Give tenure) result }
+    ensures { (rows : List Row)
+        → LeadsOver (L.clock shards.now) (L.shows shards.now) rows book.old.tenures rows book.new.tenures by (command.Give tenure) result }
 {
     shards.lease_lines();
     own(book, by, tenure)?;
@@ -61,7 +62,8 @@ pub fn mark<L: Shards>(
     counter: u64,
     to: Target,
 ) -> Answer
-    ensures { LeadsOver (L.clock shards.now) (L.shows shards.now) table.old book.now.tenures table.new book.now.tenures by (command.Mark tenure counter to) result }
+    ensures { LeadsOver (L.clock shards.now) (L.shows shards.now) table.old book.now.tenures table.new book.now.tenures
+        by (command.Mark tenure counter to) result }
 {
     shards.lease_lines();
     let own = own(book, by, tenure)?;

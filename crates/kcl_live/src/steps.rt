@@ -26,7 +26,8 @@ pub(crate) fn call_all<P: Processor, F: Maker<P>, G: Gate>(
     requires { worker.old.waiting ≡ None }
     ensures made { worker.new.made ≡ worker.old.made }
     ensures free { worker.new.waiting ≡ None }
-    ensures called { (past : WorkerPast) → StandsFor P.stands_for worker.old past → (asked : List Ask) × StandsFor P.stands_for worker.new (with_calls asked past) }
+    ensures called { (past : WorkerPast) → StandsFor P.stands_for worker.old past
+        → (asked : List Ask) × StandsFor P.stands_for worker.new (with_calls asked past) }
     ensures none_due { OnOk result (due_in worker.new.consumers ≡ None) }
     ensures error { IfErr result (λ e. e ≡ TurnErr.Memory) }
     ensures left { OnErr result ((past : WorkerPast) → StandsFor P.stands_for worker.old past → IsSome (due_in worker.new.consumers)) }

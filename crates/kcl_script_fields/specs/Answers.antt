@@ -41,13 +41,15 @@ end_text ended = if ended then codes " end" else codes " more"
 
 -- `ok N` and the rows, where the longer answer is asked for, else `ok SHARDS ROWS`
 abbrev pub survey_text : Bool → ℕ → List RowValue → List ℕ
-survey_text long shards rows = if long then codes "ok " ++ (decimal (length rows) ++ rows_text rows) else codes "ok " ++ (decimal shards ++ 32 ∷ decimal (length rows))
+survey_text long shards rows =
+    if long then codes "ok " ++ (decimal (length rows) ++ rows_text rows) else codes "ok " ++ (decimal shards ++ 32 ∷ decimal (length rows))
 
 abbrev pub reply_text : Bool → Reply → List ℕ
 reply_text long reply.Done = codes "ok"
 reply_text long (reply.Leased from) = codes "ok"
 reply_text long (reply.Survey shards rows) = survey_text long (length shards) rows
-reply_text long (reply.Taken tenure counter start) = codes "ok tenure " ++ (decimal tenure ++ (codes " counter " ++ (decimal counter ++ (codes " start " ++ checkpoint_text start))))
+reply_text long (reply.Taken tenure counter start) =
+    codes "ok tenure " ++ (decimal tenure ++ (codes " counter " ++ (decimal counter ++ (codes " start " ++ checkpoint_text start))))
 reply_text long (reply.Counter counter) = codes "ok counter " ++ decimal counter
 reply_text long (reply.Read batch reach ended) = codes "ok reach " ++ (decimal reach ++ (end_text ended ++ flat_map number_text batch))
 reply_text long (reply.Given delivered) = codes "ok delivered " ++ decimal delivered

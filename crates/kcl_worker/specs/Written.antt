@@ -31,7 +31,8 @@ renewal_by now h (written.Refused loss) w = record w {
 
 pub record IsWritten (answer : Result Reply Refusal) (w : Written) : Type 0 where
   pub renewal : (now : ℕ) (h : Held) (s : WorkerState) → after_renewal now h answer s ≡ renewal_by now h w s
-  pub held : (now : ℕ) (id : LeaseId) (phase : Phase) (held : List Held) → held_after now id phase answer held ≡ held_by now id (is_marking_or_opening phase) w held
+  pub held : (now : ℕ) (id : LeaseId) (phase : Phase) (held : List Held)
+      → held_after now id phase answer held ≡ held_by now id (is_marking_or_opening phase) w held
 
 -- these leases and consumers show the state t, which is s but for them
 pub record Leaves {P : Type 0} (stands : P → List Call → Type 0) (s t : WorkerState) (held : List Held) (cs : List (Standing P)) : Type 0 where
@@ -43,8 +44,10 @@ pub record Leaves {P : Type 0} (stands : P → List Call → Type 0) (s t : Work
   pub retired : t.retired ≡ s.retired
 
 -- of each state with the leases and consumers before, those after show what the change makes of it
-abbrev pub LeadsTo : {P : Type 0} → (P → List Call → Type 0) → (WorkerState → WorkerState) → List Held → List (Standing P) → List Held → List (Standing P) → Type 0
-LeadsTo stands change held cs held_after cs_after = (s : WorkerState) → held ≡ s.held → ConsumersStand stands cs s.consumers → Leaves stands s (change s) held_after cs_after
+abbrev pub LeadsTo : {P : Type 0} → (P → List Call → Type 0) → (WorkerState → WorkerState) → List Held → List (Standing P) → List Held
+    → List (Standing P) → Type 0
+LeadsTo stands change held cs held_after cs_after = (s : WorkerState) → held ≡ s.held → ConsumersStand stands cs s.consumers
+    → Leaves stands s (change s) held_after cs_after
 
 -- what a Take was answered
 abbrev pub IsTaken : Result Reply Refusal → Option Taken → Type 0

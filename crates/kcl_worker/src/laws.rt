@@ -14,12 +14,15 @@ use kcl_consumer::{Maker, Processor};
 /// The processors of every worker are called for the given reads of their tenures, in every history in which its
 /// actor's turns are the commands of its record with their answers. Turns of other actors change nothing of this.
 pub fn service()
-    ensures served { (by : ℕ) (h : List Turn) (made : WorkerMade) (past : WorkerPast) → IsOrderly made past → IsToldIn by h made past → AreServed by h made past }
+    ensures served { (by : ℕ) (h : List Turn) (made : WorkerMade) (past : WorkerPast)
+        → IsOrderly made past → IsToldIn by h made past → AreServed by h made past }
     ensures of_tenures { (by : ℕ) (h : List Turn) (t : ℕ) (T : TenureState) → tenure (journal h) t ≡ Some T → (T.by == by) ≡ true → AreOfTenure by h t T }
-    ensures others { (by : ℕ) (turn : Turn) (h : List Turn) (made : WorkerMade) (past : WorkerPast) → (turn.by == by) ≡ false → IsToldIn by h made past → IsToldIn by (turn ∷ h) made past }
+    ensures others { (by : ℕ) (turn : Turn) (h : List Turn) (made : WorkerMade) (past : WorkerPast)
+        → (turn.by == by) ≡ false → IsToldIn by h made past → IsToldIn by (turn ∷ h) made past }
 {}
 
 /// So of this worker's processors, whose lists of calls they stand for.
 pub fn served<P: Processor, F: Maker<P>>(_worker: &Worker<P, F>)
-    ensures { (by : ℕ) (h : List Turn) (past : WorkerPast) → StandsFor P.stands_for _worker.now past → IsToldIn by h _worker.now.made past → AreServedIn P.stands_for by h _worker.now }
+    ensures { (by : ℕ) (h : List Turn) (past : WorkerPast) → StandsFor P.stands_for _worker.now past
+        → IsToldIn by h _worker.now.made past → AreServedIn P.stands_for by h _worker.now }
 {}

@@ -76,7 +76,8 @@ pub fn from_takes<P: Processor>(
 ) -> (Asked, Command)
     requires ready { AllByRecursion IsReady consumers.now }
     requires name { 1 ≤ made.now.name }
-    ensures given { (syncs : List SyncStep) → IsNext P.stands_for consumers.now held.now made.now syncs takes.now (λ s. Some (from_takes made.now.settings.failover now takes.now s)) result }
+    ensures given { (syncs : List SyncStep)
+        → IsNext P.stands_for consumers.now held.now made.now syncs takes.now (λ s. Some (from_takes made.now.settings.failover now takes.now s)) result }
     ensures lawful { IsLeaseCommand result.1 }
     ensures asks { (syncs : List SyncStep) → IsSome (chore_of result.0 syncs takes.now) }
 {
@@ -121,7 +122,8 @@ pub fn from_sync<P: Processor>(
 ) -> (Asked, Command)
     requires ready { AllByRecursion IsReady consumers.now }
     requires name { 1 ≤ made.now.name }
-    ensures given { IsNext P.stands_for consumers.now held.now made.now syncs.now takes.now (λ s. Some (from_sync made.now.settings.failover now syncs.now takes.now s)) result }
+    ensures given { IsNext P.stands_for consumers.now held.now made.now syncs.now takes.now
+        (λ s. Some (from_sync made.now.settings.failover now syncs.now takes.now s)) result }
     ensures lawful { IsLeaseCommand result.1 }
     ensures asks { IsSome (chore_of result.0 syncs.now takes.now) }
 {

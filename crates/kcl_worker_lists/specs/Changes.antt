@@ -81,7 +81,8 @@ pub record IsFirstDue {P : Type 0} (i : ℕ) (cs : List (Standing P)) : Type 0 w
   pub due : (c : Standing P) → c ≡ get_or cs i c → is_due c ≡ true
 
 -- the processor of the first one whose processor must be called was called
-pub record FirstCalled {P : Type 0} (stands : P → List Call → Type 0) (asks : P → List Stored → Ask → Type 0) (asked : Ask) (old new : List (Standing P)) : Type 0 where
+pub record FirstCalled {P : Type 0} (stands : P → List Call → Type 0) (asks : P → List Stored → Ask → Type 0) (asked : Ask)
+    (old new : List (Standing P)) : Type 0 where
   pub before : List (Standing P)
   pub one : Standing P
   pub called : Standing P

@@ -34,7 +34,9 @@ pub fn read(
     limit: u32,
 ) -> Result<Answer, Memory>
     requires { (log : Journal) × ShowsAll service.now log }
-    ensures leads { (rows : List Row) → IfOk result (Leads (world service.now rows book.old.tenures) (world service.now rows book.new.tenures) by (command.Read tenure position limit)) }
+    ensures leads { (rows : List Row)
+        → IfOk result (Leads (world service.now rows book.old.tenures)
+        (world service.now rows book.new.tenures) by (command.Read tenure position limit)) }
     ensures kept { OnErr result (book.new ≡ book.old) }
 {
     kds_service::lease_lines();

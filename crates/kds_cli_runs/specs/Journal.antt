@@ -42,7 +42,8 @@ abbrev pub JournalTells : Status → List ℕ → Option (List ℕ) → Option (
 JournalTells Done bytes left held now = (ending bytes ≡ whole) × Appends held now (journal_text (history bytes))
 JournalTells (BadLine n) bytes left held now = (ending bytes ≡ bad_line n) × Appends held now (first_line ++ entries bytes)
 JournalTells TooLong bytes left held now = (ending bytes ≡ too_long) × Appends held now (first_line ++ entries bytes)
-JournalTells Read bytes left held now = (fed : List ℕ) × (rest : List ℕ) × (bytes ≡ fed ++ rest) × (left ≡ Some rest) × Appends held now (first_line ++ entries fed)
+JournalTells Read bytes left held now = (fed : List ℕ) × (rest : List ℕ) × (bytes ≡ fed ++ rest) × (left ≡ Some rest)
+    × Appends held now (first_line ++ entries fed)
 JournalTells Write bytes left held now = AppendsPart held now (journal_text (history bytes))
 JournalTells Memory bytes left held now = AppendsPart held now (journal_text (history bytes))
 JournalTells _ bytes left held now = ⊥

@@ -45,7 +45,12 @@ where
     ensures refused { task_of (texts_of words.now.items) ≡ None → (result ≡ Status.Usage) ⊎ (result ≡ Status.Memory) }
     ensures untouched { task_of (texts_of words.now.items) ≡ None → (input.new ≡ input.old) × (out.new ≡ out.old) }
     ensures performed { IfSome (task_of (texts_of words.now.items)) (λ task. Performed task result
-        (record { input = around (S.left input.old) (S.left input.new); out = around (K.held out.old) (K.held out.new); moments = C.moments clock; listens = D.listens door.new })) }
+        (record {
+          input = around (S.left input.old) (S.left input.new);
+          out = around (K.held out.old) (K.held out.new);
+          moments = C.moments clock;
+          listens = D.listens door.new;
+        })) }
     ensures door_left { asks_for_door (task_of (texts_of words.now.items)) ≡ false → door.new ≡ door.old }
     ensures input_left { asks_for_input (task_of (texts_of words.now.items)) ≡ false → input.new ≡ input.old }
     ensures complete { (Rose (S.faults input.old) (S.faults input.new) → ⊥) → (Rose (K.faults out.old) (K.faults out.new) → ⊥)

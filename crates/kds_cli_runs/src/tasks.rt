@@ -36,7 +36,12 @@ where
     D::Output: Send,
     requires { IsWithin task }
     ensures performed { Performed task result
-        (record { input = around (S.left input.old) (S.left input.new); out = around (K.held out.old) (K.held out.new); moments = C.moments clock; listens = D.listens door.new }) }
+        (record {
+          input = around (S.left input.old) (S.left input.new);
+          out = around (K.held out.old) (K.held out.new);
+          moments = C.moments clock;
+          listens = D.listens door.new;
+        }) }
     // A task leaves the ends that it hasn't.
     ensures door_left { serves_door task ≡ false → door.new ≡ door.old }
     ensures input_left { reads_input task ≡ false → input.new ≡ input.old }

@@ -52,6 +52,7 @@ step_lines log c by s (step ∷ steps) =
 abbrev pub scale_stream : Journal → ℕ → ℕ → List ℕ → ℕ → ℕ → Decision
 scale_stream log c by name s target =
     refuse refusal.Full if nat_lt OPEN_SHARDS (open_elsewhere log s + target) else
-    refuse refusal.Spent if nat_lt last_number (next_number log s + length (steps_to log s target)) || nat_lt last_number (length (shards log s) + made_by (steps_to log s target)) else
+    refuse refusal.Spent if nat_lt last_number (next_number log s + length (steps_to log s target))
+    || nat_lt last_number (length (shards log s) + made_by (steps_to log s target)) else
     Accepted (step_lines log c by s (steps_to log s target))
     (reply.Scaled name (length (open_shards log s)) target (map (λ line. line.what) (step_lines log c by s (steps_to log s target))))

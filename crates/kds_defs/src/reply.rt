@@ -96,9 +96,29 @@ impl Model for Row {
 
     ghost Value = { RowValue };
 
-    ghost view = { λ r. record { key = r.key; owner = r.owner; counter = r.counter; checkpoint = r.checkpoint; switches = r.switches; tenure = r.tenure; floor = r.floor; parent = r.parent; adjacent = r.adjacent } };
+    ghost view = { λ r. record {
+      key = r.key;
+      owner = r.owner;
+      counter = r.counter;
+      checkpoint = r.checkpoint;
+      switches = r.switches;
+      tenure = r.tenure;
+      floor = r.floor;
+      parent = r.parent;
+      adjacent = r.adjacent;
+    } };
 
-    ghost inverse = { λ r. record { key = r.key; owner = r.owner; counter = r.counter; checkpoint = r.checkpoint; switches = r.switches; tenure = r.tenure; floor = r.floor; parent = r.parent; adjacent = r.adjacent } };
+    ghost inverse = { λ r. record {
+      key = r.key;
+      owner = r.owner;
+      counter = r.counter;
+      checkpoint = r.checkpoint;
+      switches = r.switches;
+      tenure = r.tenure;
+      floor = r.floor;
+      parent = r.parent;
+      adjacent = r.adjacent;
+    } };
 }
 
 /// What is told of a stream: its name, when it was made, its retention in hours (Kinesis API Reference,

@@ -12,14 +12,17 @@ pub fn numbered_shards()
     ensures closed { (n shard : ℕ) (closing : Closing) (xs : List ShardState) → AreNumbered n xs → AreNumbered n (with_closed shard closing xs) }
     ensures added { (n : ℕ) (xs ys : List ShardState) → AreNumbered n xs → AreNumbered (n + length xs) ys → AreNumbered n (xs ++ ys) }
     ensures as_many { (shard : ℕ) (closing : Closing) (xs : List ShardState) → length (with_closed shard closing xs) ≡ length xs }
-    ensures others { (xs : List ShardState) (shard other : ℕ) (closing : Closing) → shard ≢ other → slice_get (with_closed shard closing xs) other ≡ slice_get xs other }
+    ensures others { (xs : List ShardState) (shard other : ℕ) (closing : Closing) → shard ≢ other
+        → slice_get (with_closed shard closing xs) other ≡ slice_get xs other }
 {}
 
 /// The ranges of the open shards tile the keys: those of the first shards do, and also where one is split, or where
 /// two whose ranges touch are merged.
 pub fn tiled_shards()
     ensures first { (count start : ℕ) → 1 ≤ count → count ≤ 500 → IsTiled (first_shards 0 start (uniform count)) }
-    ensures split { (xs : List ShardState) (shard at start : ℕ) (closing : Closing) → IsSplittable xs shard at → IsTiled xs → IsTiled (split_shards shard at closing start xs) }
-    ensures merged { (xs : List ShardState) (shard other start : ℕ) (closing : Closing) → AreMergeable xs shard other → IsTiled xs → IsTiled (merged_shards shard other closing start xs) }
+    ensures split { (xs : List ShardState) (shard at start : ℕ) (closing : Closing) → IsSplittable xs shard at → IsTiled xs
+        → IsTiled (split_shards shard at closing start xs) }
+    ensures merged { (xs : List ShardState) (shard other start : ℕ) (closing : Closing) → AreMergeable xs shard other → IsTiled xs
+        → IsTiled (merged_shards shard other closing start xs) }
     ensures times { (xs : List ShardState) (k : ℕ) → times_covered (map (λ x. x.range) (filter is_open xs)) k ≡ open_times xs k }
 {}

@@ -10,7 +10,8 @@ use Rattle.kds_lines.specs.declared.outcome.Outcome.TheVariants.{Stopped, TooLon
 use Rattle.kds_lines.specs.declared.reading.LineBuffer.{LineBuffer}
 
 -- these bytes were fed: their whole lines were taken, and their output was written or waits
-pub record Stands (took : List (List ℕ) → Type 0) (output : List (List ℕ) → List ℕ) (fed : List ℕ) (reading : LineBuffer) (start now : Option (List ℕ)) : Type 0 where
+pub record Stands (took : List (List ℕ) → Type 0) (output : List (List ℕ) → List ℕ) (fed : List ℕ) (reading : LineBuffer)
+    (start now : Option (List ℕ)) : Type 0 where
   pub texts : List (List ℕ)
   pub bytes : Fed fed texts reading.used reading.held
   pub count : reading.count ≡ length texts
@@ -33,7 +34,8 @@ HasTakenFed Memory took broke fed texts = took texts ⊎ ((text : List ℕ) × B
 HasTakenFed _ took broke fed texts = took texts
 
 -- These bytes were fed when it stopped so: the lines that were taken are their first ones.
-pub record Halted (outcome : Outcome) (took : List (List ℕ) → Type 0) (broke refuses : List (List ℕ) → List ℕ → Type 0) (output : List (List ℕ) → List ℕ) (fed waits : List ℕ) (start now : Option (List ℕ)) : Type 0 where
+pub record Halted (outcome : Outcome) (took : List (List ℕ) → Type 0) (broke refuses : List (List ℕ) → List ℕ → Type 0)
+    (output : List (List ℕ) → List ℕ) (fed waits : List ℕ) (start now : Option (List ℕ)) : Type 0 where
   pub texts : List (List ℕ)
   pub begins : Begins fed texts
   pub taken : HasTakenFed outcome took broke fed texts
@@ -43,7 +45,8 @@ pub record Halted (outcome : Outcome) (took : List (List ℕ) → Type 0) (broke
   pub unwritten : Unwritten outcome missing
 
 -- A front of the piece was fed, and this is the rest.
-pub record FedLines (took : List (List ℕ) → Type 0) (output : List (List ℕ) → List ℕ) (fed piece rest : List ℕ) (reading : LineBuffer) (start now : Option (List ℕ)) : Type 0 where
+pub record FedLines (took : List (List ℕ) → Type 0) (output : List (List ℕ) → List ℕ) (fed piece rest : List ℕ) (reading : LineBuffer)
+    (start now : Option (List ℕ)) : Type 0 where
   pub front : List ℕ
   pub parts : piece ≡ front ++ rest
   pub stands : Stands took output (fed ++ front) reading start now
@@ -57,7 +60,8 @@ module _ (took took_now : List (List ℕ) → Type 0) (output : List (List ℕ) 
 
   -- a front of the piece is fed too, and this is its rest
   abbrev pub FeedsFront : List ℕ → List ℕ → Type 0
-  FeedsFront piece rest = (fed : List ℕ) (start : Option (List ℕ)) → Stands took output fed before start held → FedLines took_now output fed piece rest after start now
+  FeedsFront piece rest = (fed : List ℕ) (start : Option (List ℕ)) → Stands took output fed before start held
+      → FedLines took_now output fed piece rest after start now
 
   -- the line that is held comes to its end by these bytes and a line feed
   abbrev pub EndsLine : List ℕ → Type 0
@@ -83,14 +87,16 @@ abbrev pub fed_count : LineBuffer → ℕ
 fed_count reading = reading.used + length reading.held
 
 -- Some bytes were taken from the source and fed, and no output waits.
-pub record Running (took : List (List ℕ) → Type 0) (output : List (List ℕ) → List ℕ) (all left : Option (List ℕ)) (reading : LineBuffer) (start now : Option (List ℕ)) : Type 0 where
+pub record Running (took : List (List ℕ) → Type 0) (output : List (List ℕ) → List ℕ) (all left : Option (List ℕ)) (reading : LineBuffer)
+    (start now : Option (List ℕ)) : Type 0 where
   pub fed : List ℕ
   pub consumed : Consumes all left fed
   pub stands : Stands took output fed reading start now
   pub flushed : reading.output ≡ []
 
 -- It stopped so after some bytes were taken from the source.
-pub record HaltedAfter (outcome : Outcome) (took : List (List ℕ) → Type 0) (broke refuses : List (List ℕ) → List ℕ → Type 0) (output : List (List ℕ) → List ℕ) (all left start now : Option (List ℕ)) : Type 0 where
+pub record HaltedAfter (outcome : Outcome) (took : List (List ℕ) → Type 0) (broke refuses : List (List ℕ) → List ℕ → Type 0)
+    (output : List (List ℕ) → List ℕ) (all left start now : Option (List ℕ)) : Type 0 where
   pub fed : List ℕ
   pub consumed : Consumes all left fed
   pub halted : Halted outcome took broke refuses output fed [] start now

@@ -33,7 +33,8 @@ HasTaken _ took broke texts rest = took texts
 
 -- The reading of these bytes ended so: the lines that were taken are the first ones of the bytes, and a front of their
 -- output was written.
-pub record Told (outcome : Outcome) (took : List (List ℕ) → Type 0) (broke refuses : List (List ℕ) → List ℕ → Type 0) (output : List (List ℕ) → List ℕ) (bytes : List ℕ) (left before after : Option (List ℕ)) : Type 0 where
+pub record Told (outcome : Outcome) (took : List (List ℕ) → Type 0) (broke refuses : List (List ℕ) → List ℕ → Type 0)
+    (output : List (List ℕ) → List ℕ) (bytes : List ℕ) (left before after : Option (List ℕ)) : Type 0 where
   pub texts : List (List ℕ)
   pub rest : List (List ℕ)
   pub parts : (lined bytes).texts ≡ texts ++ rest

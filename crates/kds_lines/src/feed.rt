@@ -106,7 +106,8 @@ fn next_line<T: Taker, K: Sink>(
     ensures ok { OnOk result
         (EndsLine (T.took taker.old) (T.took taker.new) T.output reading.old reading.new (K.held out.old) (K.held out.new) tail.now) }
     ensures err { IfErr result (λ o.
-        StopsInLine (T.took taker.old) (T.took taker.new) T.output reading.old reading.new (K.held out.old) (K.held out.new) (T.broke taker.new) T.refuses o tail.now) }
+        StopsInLine (T.took taker.old) (T.took taker.new) T.output reading.old reading.new (K.held out.old) (K.held out.new)
+        (T.broke taker.new) T.refuses o tail.now) }
     ensures count { OnOk result (fed_count reading.new ≡ fed_count reading.old + length tail.now + 1) }
     ensures later { K.faults out.old ≤ K.faults out.new }
     ensures write { IsErrOf result Outcome.Write → Rose (K.faults out.old) (K.faults out.new) }
@@ -132,7 +133,8 @@ fn feed_lines<'a, T: Taker, K: Sink>(
     ensures rest { IfOk result (λ rest. NoFeed rest.now) }
     ensures count { IfOk result (λ rest. fed_count reading.new + length rest.now ≡ fed_count reading.old + length piece.entry.now) }
     ensures err { IfErr result (λ o.
-        StopsIn (T.took taker.old) (T.took taker.new) T.output reading.old reading.new (K.held out.old) (K.held out.new) (T.broke taker.new) T.refuses o piece.entry.now) }
+        StopsIn (T.took taker.old) (T.took taker.new) T.output reading.old reading.new (K.held out.old) (K.held out.new)
+        (T.broke taker.new) T.refuses o piece.entry.now) }
     ensures later { K.faults out.old ≤ K.faults out.new }
     ensures write { IsErrOf result Outcome.Write → Rose (K.faults out.old) (K.faults out.new) }
     ensures kinds { IfErr result IsFeedStop }
@@ -182,7 +184,8 @@ pub fn feed<T: Taker, K: Sink>(
         (Feeds (T.took taker.old) (T.took taker.new) T.output reading.old reading.new (K.held out.old) (K.held out.new) piece.now) }
     ensures count { OnOk result (fed_count reading.new ≡ fed_count reading.old + length piece.now) }
     ensures err { IfErr result (λ o.
-        StopsIn (T.took taker.old) (T.took taker.new) T.output reading.old reading.new (K.held out.old) (K.held out.new) (T.broke taker.new) T.refuses o piece.now) }
+        StopsIn (T.took taker.old) (T.took taker.new) T.output reading.old reading.new (K.held out.old) (K.held out.new)
+        (T.broke taker.new) T.refuses o piece.now) }
     ensures later { K.faults out.old ≤ K.faults out.new }
     ensures write { IsErrOf result Outcome.Write → Rose (K.faults out.old) (K.faults out.new) }
     ensures kinds { IfErr result IsFeedStop }

@@ -8,6 +8,7 @@ ghost use Rattle.kds_log.specs.Log.{FirstFits, IsPrefix, IsWithin};
 pub fn longest()
     ensures prefix { (limit room : ℕ) (rs : List Logged) → IsPrefix (beginning limit room rs) rs }
     ensures within { (limit room : ℕ) (rs : List Logged) → IsWithin limit room (beginning limit room rs) }
-    ensures no_longer { (limit room : ℕ) (rs front : List Logged) → IsPrefix front rs → IsWithin limit room front → length front ≤ length (beginning limit room rs) }
+    ensures no_longer { (limit room : ℕ) (rs front : List Logged) → IsPrefix front rs → IsWithin limit room front
+        → length front ≤ length (beginning limit room rs) }
     ensures some { (limit room : ℕ) (rs : List Logged) → 1 ≤ limit → FirstFits room rs → beginning limit room rs ≢ [] }
 {}

@@ -36,7 +36,8 @@ impl Model for ShardLog {
 
     ghost view = { λ l. record { kept = map logged l.records.items; last = l.last; room = l.reserved } };
 
-    ghost invariant = { λ l. IsOrderly (record { kept = map logged l.records.items; last = l.last }) × (l.reserved ≤ deque_capacity l.records - deque_len l.records) };
+    ghost invariant = { λ l. IsOrderly (record { kept = map logged l.records.items; last = l.last })
+        × (l.reserved ≤ deque_capacity l.records - deque_len l.records) };
 }
 
 impl ShardLog {

@@ -75,7 +75,8 @@ fn put_records(out: &mut Vec<u8>, alloc: Global, batch: &[Stored]) -> Result<(),
 fn with_records(out: Writer, alloc: Global, batch: &[Stored]) -> Result<Octets, Memory>
     requires nothing { out.before ≡ [] }
     requires named { ends_value out.tokens ≡ false }
-    ensures { (whole : Data) → (out.tokens ++ tokens_of (list_data record_data batch.now)) ++ end_object ∷ [] ≡ tokens_of whole → IfOk result (λ o. o ≡ compact_text whole) }
+    ensures { (whole : Data) → (out.tokens ++ tokens_of (list_data record_data batch.now)) ++ end_object ∷ [] ≡ tokens_of whole
+        → IfOk result (λ o. o ≡ compact_text whole) }
 {
     let mut text = out.into_inner();
     put_records(&mut text, alloc, batch)?;

@@ -47,9 +47,11 @@ pub record Ended (makes : List ℕ → List Command → Answers → Type 0) (inp
 -- ---- whatever was before
 
 -- what was read and written so far, and then this session and these ends
-abbrev pub ReadsOn : (left : Option (List ℕ)) (session : SessionState) (held : Option (List ℕ)) (left_now : Option (List ℕ)) (session_now : SessionState) (held_now : Option (List ℕ)) → Type 0
+abbrev pub ReadsOn : (left : Option (List ℕ)) (session : SessionState) (held : Option (List ℕ))
+    (left_now : Option (List ℕ)) (session_now : SessionState) (held_now : Option (List ℕ)) → Type 0
 ReadsOn left session held left_now session_now held_now =
-    (all start : Option (List ℕ)) (given : List Command) (told : Answers) → Reads all left session start held given told → Reads all left_now session_now start held_now given told
+    (all start : Option (List ℕ)) (given : List Command) (told : Answers) → Reads all left session start held given told
+    → Reads all left_now session_now start held_now given told
 
 -- what was read and written so far, and then the connection ended so
 abbrev pub EndsThere : (left : Option (List ℕ)) (session : SessionState) (held left_now held_now : Option (List ℕ)) (status : Status) → Type 0
@@ -87,7 +89,8 @@ module _ {S : Type 0} (made : S → List ℕ → List Command → Answers → S 
       → Ended (MadeFrom first there.state) (around all there.left) (around before there.clock) (around start there.held) status
 
   -- a command that waits was taken, and got its answer
-  abbrev pub TakesOne : (what : Command) (state : S) (session : SessionState) (clock : Option (List ℕ)) (state_now : S) (session_now : SessionState) (clock_now : Option (List ℕ)) → Type 0
+  abbrev pub TakesOne : (what : Command) (state : S) (session : SessionState) (clock : Option (List ℕ))
+      (state_now : S) (session_now : SessionState) (clock_now : Option (List ℕ)) → Type 0
   TakesOne what state session clock state_now session_now clock_now =
       (first : S) (all left before start held : Option (List ℕ)) (given : List Command) (told : Answers)
       → Taken (λ moments. made first moments given told state) before clock

@@ -25,7 +25,9 @@ pub fn create(
 ) -> Result<Answer, Memory>
     requires placed { ArePlaced clock streams.old.entries }
     requires count { IsShardCount shards }
-    ensures leads { (before : ℕ) → IfOk result (Leads (service clock before made.old (values streams.old)) (service clock before made.new (values streams.new)) (command.Create name shards)) }
+    ensures leads { (before : ℕ)
+        → IfOk result (Leads (service clock before made.old (values streams.old))
+        (service clock before made.new (values streams.new)) (command.Create name shards)) }
     ensures placed { ArePlaced clock streams.new.entries }
     ensures kept { OnErr result ((values streams.new ≡ values streams.old) × (made.new ≡ made.old)) }
 {

@@ -157,7 +157,8 @@ impl Service {
         limit: u32,
     ) -> Result<(Items<Stored>, bool), Memory>
         requires { is_listed_in self.now.streams key ≡ true }
-        ensures batch { (log : Journal) → ShowsAll self.now log → IfOk result (λ r. r.0 ≡ map stored (batch log self.now.clock key.stream key.shard position limit)) }
+        ensures batch { (log : Journal) → ShowsAll self.now log
+            → IfOk result (λ r. r.0 ≡ map stored (batch log self.now.clock key.stream key.shard position limit)) }
         ensures numbers { IfOk result (λ r. AllByRecursion (λ x. x.seq < 2 ^ 64 - 1) r.0) }
         ensures end { (log : Journal) → ShowsAll self.now log → IfOk result (λ r. r.1 ≡ read_ends log self.now.clock key.stream key.shard position limit) }
     {

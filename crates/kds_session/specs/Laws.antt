@@ -9,7 +9,8 @@ use Rattle.kds_session.specs.Standing.{Traffic, fed_more, StandsFor, IsQuiet, en
 
 -- Bytes fall into messages in one way at most.
 abbrev pub OneReading : Type 0
-OneReading = (before : ℕ) (bytes : List ℕ) (ms ns : List Message) (ending other : Ending) → Falls before bytes ms ending → Falls before bytes ns other → (ms ≡ ns) × (ending ≡ other)
+OneReading = (before : ℕ) (bytes : List ℕ) (ms ns : List Message) (ending other : Ending)
+    → Falls before bytes ms ending → Falls before bytes ns other → (ms ≡ ns) × (ending ≡ other)
 
 -- Where `next` gave no command, the commands that were given and what was written are those of all bytes that were fed,
 -- with the answers that were told, and these bytes end as the session shows.
@@ -30,4 +31,5 @@ pub record IsFirstPart (ms : List Message) (ending : Ending) (given : List Comma
 -- and what was written is a front of the text.
 abbrev pub FirstPart : Type 0
 FirstPart = (s : SessionState) (past : Traffic) → StandsFor s past
-    → (more : List ℕ) (ms : List Message) (ending : Ending) → Falls 0 (past.fed ++ more) ms ending → IsFirstPart ms ending past.given past.told (past.sent ++ s.output)
+    → (more : List ℕ) (ms : List Message) (ending : Ending) → Falls 0 (past.fed ++ more) ms ending
+    → IsFirstPart ms ending past.given past.told (past.sent ++ s.output)

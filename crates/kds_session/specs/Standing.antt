@@ -47,8 +47,10 @@ Awaits LastAnswer done told = IsAwaited true done told
 pub record GoesOn (fed : List ℕ) (done : List Message) (left : ℕ) (unread : List ℕ) : Type 0 where
   pub count : length done + left ≡ REQUESTS
   pub some_left : 0 < left
-  pub onward : (more : List ℕ) (ms : List Message) (ending : Ending) → Falls (length done) (unread ++ more) ms ending → Falls 0 (fed ++ more) (done ++ ms) ending
-  pub back : (more : List ℕ) (all : List Message) (ending : Ending) → Falls 0 (fed ++ more) all ending → (ms : List Message) × (all ≡ done ++ ms) × Falls (length done) (unread ++ more) ms ending
+  pub onward : (more : List ℕ) (ms : List Message) (ending : Ending)
+      → Falls (length done) (unread ++ more) ms ending → Falls 0 (fed ++ more) (done ++ ms) ending
+  pub back : (more : List ℕ) (all : List Message) (ending : Ending) → Falls 0 (fed ++ more) all ending
+      → (ms : List Message) × (all ≡ done ++ ms) × Falls (length done) (unread ++ more) ms ending
 
 -- how the bytes fall into messages
 abbrev pub Leads : Stage → List ℕ → List Message → ℕ → List ℕ → Type 0

@@ -110,7 +110,10 @@ impl Reading {
     /// The connection is refused.
     fn refuse(&mut self, alloc: Global, status: u16) -> Result<(), Memory>
         requires { is_refusal status ≡ true }
-        ensures { OnOk result (self.new ≡ record self.old { answers = self.old.answers ++ response_text status [] false true; standing = Standing.Refused status }) }
+        ensures { OnOk result (self.new ≡ record self.old {
+          answers = self.old.answers ++ response_text status [] false true;
+          standing = Standing.Refused status;
+        }) }
     {
         response(
             alloc,

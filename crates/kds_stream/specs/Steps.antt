@@ -31,6 +31,7 @@ pub record IsPlan (v : StreamValue) (target : ℕ) (steps : List ScaleStep) : Ty
 abbrev pub scale_where : Bool → Journal → ℕ → ℕ → List ℕ → ℕ → ℕ → Decision
 scale_where full log c by name s target =
     refuse refusal.Full if full else
-    refuse refusal.Spent if nat_lt last_number (next_number log s + length (steps_to log s target)) || nat_lt last_number (length (shards log s) + made_by (steps_to log s target)) else
+    refuse refusal.Spent if nat_lt last_number (next_number log s + length (steps_to log s target))
+    || nat_lt last_number (length (shards log s) + made_by (steps_to log s target)) else
     Accepted (step_lines log c by s (steps_to log s target))
     (reply.Scaled name (length (open_shards log s)) target (map (λ line. line.what) (step_lines log c by s (steps_to log s target))))

@@ -123,21 +123,25 @@ pub record CanTakeAll (ls : List LogWithRoom) (rs : List Routed) : Type 0 where
 -- ---- what is made of items
 
 -- of one item, where the windows stand for these puts before it
-pub record IsRouted (xs : List ShardState) (clock : ℕ) (on : Bool) (f : ℕ → List SizedPut) (item : NewItem) (before after : Routes) (ws : List WindowValue) : Type 0 where
+pub record IsRouted (xs : List ShardState) (clock : ℕ) (on : Bool) (f : ℕ → List SizedPut) (item : NewItem) (before after : Routes)
+    (ws : List WindowValue) : Type 0 where
   pub stand : StandFor (after_item xs clock f item (is_held xs clock on f item)) 0 ws
-  pub routed : after.routed.items ≡ (if is_held xs clock on f item then before.routed.items else before.routed.items ++ routed_item xs clock before.next item ∷ [])
+  pub routed : after.routed.items ≡ (if is_held xs clock on f item then before.routed.items
+      else before.routed.items ++ routed_item xs clock before.next item ∷ [])
   pub outcomes_are : after.outcomes ≡ before.outcomes ++ outcome_of xs before.next item (is_held xs clock on f item) ∷ []
   pub next_is : after.next ≡ after_number before.next (is_held xs clock on f item)
 
 -- of items, with numbers from n on
-pub record AreRouted (xs : List ShardState) (clock : ℕ) (on : Bool) (f : ℕ → List SizedPut) (n : ℕ) (items : List NewItem) (r : Routes) (ws : List WindowValue) : Type 0 where
+pub record AreRouted (xs : List ShardState) (clock : ℕ) (on : Bool) (f : ℕ → List SizedPut) (n : ℕ) (items : List NewItem) (r : Routes)
+    (ws : List WindowValue) : Type 0 where
   pub stand : StandFor (after_items xs clock on f items) 0 ws
   pub routed : r.routed.items ≡ routed_items xs clock n (taken xs clock on f items)
   pub outcomes_are : r.outcomes ≡ outcomes xs clock on f n items
   pub next_is : r.next ≡ n + length (taken xs clock on f items)
 
 -- the routes that are so far, and what the items that are left make, are what all items make
-pub record GoesOn (xs : List ShardState) (clock : ℕ) (on : Bool) (f : ℕ → List SizedPut) (n : ℕ) (all items : List NewItem) (r : Routes) (ws : List WindowValue) : Type 0 where
+pub record GoesOn (xs : List ShardState) (clock : ℕ) (on : Bool) (f : ℕ → List SizedPut) (n : ℕ) (all items : List NewItem) (r : Routes)
+    (ws : List WindowValue) : Type 0 where
   pub present : ℕ → List SizedPut
   pub stand : StandFor present 0 ws
   pub after : (sh : ℕ) → after_items xs clock on present items sh ≡ after_items xs clock on f all sh

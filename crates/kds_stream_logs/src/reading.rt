@@ -70,7 +70,8 @@ pub fn position(
     cut: Option<Moment>,
 ) -> Option<u64>
     requires { IsUnder next shard.now.end }
-    ensures { (x : ShardState) → shard.now ≡ shown x → result ≡ (if is_good_start from next x then Some (position_from next (left_among (floor_of cut) 0 log.now.kept) from) else None) }
+    ensures { (x : ShardState) → shard.now ≡ shown x
+        → result ≡ (if is_good_start from next x then Some (position_from next (left_among (floor_of cut) 0 log.now.kept) from) else None) }
 {
     let latest = next.0;
     match from {

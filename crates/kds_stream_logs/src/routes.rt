@@ -105,7 +105,8 @@ fn holds_back(
     requires counted { AllByRecursion (IsCounted clock) windows.old }
     ensures held { (f : ℕ → List SizedPut) → StandFor f 0 windows.old → result ≡ (enforced && is_throttled (f shard) clock bytes) }
     ensures same { result ≡ true → windows.new ≡ windows.old }
-    ensures stand { result ≡ false → (f : ℕ → List SizedPut) → StandFor f 0 windows.old → StandFor (with_put shard (record { clock = clock; bytes = bytes }) f) 0 windows.new }
+    ensures stand { result ≡ false → (f : ℕ → List SizedPut) → StandFor f 0 windows.old
+        → StandFor (with_put shard (record { clock = clock; bytes = bytes }) f) 0 windows.new }
     ensures counted { AllByRecursion (IsCounted clock) windows.new }
 {
     if enforced && !admits_at(windows, shard.0 as usize, clock, bytes) {
@@ -127,9 +128,12 @@ fn route_one(
 ) -> Result<bool, Memory>
     requires many { length windows.old ≡ length tree.now.shards }
     requires counted { AllByRecursion (IsCounted clock) windows.old }
-    ensures routed { IfOk result (λ more. more ≡ true → ForPutsOf windows.old (λ f. IsRouted tree.now.shards clock enforced f item routes.old routes.new windows.new)) }
-    ensures spent { IfOk result (λ more. more ≡ false → ForPutsOf windows.old (λ f. (is_held tree.now.shards clock enforced f item ≡ false) × (routes.old.next + 1 ≡ 2 ^ 64))) }
-    ensures placed { IfOk result (λ more. more ≡ true → (first : ℕ) → ArePlaced tree.now.shards clock first routes.old → ArePlaced tree.now.shards clock first routes.new) }
+    ensures routed { IfOk result (λ more. more ≡ true
+        → ForPutsOf windows.old (λ f. IsRouted tree.now.shards clock enforced f item routes.old routes.new windows.new)) }
+    ensures spent { IfOk result (λ more. more ≡ false
+        → ForPutsOf windows.old (λ f. (is_held tree.now.shards clock enforced f item ≡ false) × (routes.old.next + 1 ≡ 2 ^ 64))) }
+    ensures placed { IfOk result (λ more. more ≡ true → (first : ℕ)
+        → ArePlaced tree.now.shards clock first routes.old → ArePlaced tree.now.shards clock first routes.new) }
     ensures counted { AllByRecursion (IsCounted clock) windows.new }
 {
     let shard = tree.home(item.hash);
@@ -158,7 +162,8 @@ pub fn route_all(
 ) -> Result<Option<Routes>, Memory>
     requires many { length windows.old ≡ length tree.now.shards }
     requires counted { AllByRecursion (IsCounted clock) windows.old }
-    ensures routed { IfOk result (λ o. IfSome o (λ r. ForPutsOf windows.old (λ f. AreRouted tree.now.shards clock enforced f first items.items r windows.new))) }
+    ensures routed { IfOk result (λ o. IfSome o (λ r.
+        ForPutsOf windows.old (λ f. AreRouted tree.now.shards clock enforced f first items.items r windows.new))) }
     ensures placed { IfOk result (λ o. IfSome o (λ r. ArePlaced tree.now.shards clock first r)) }
     ensures spent { IfOk result (λ o. IfNone o (ForPutsOf windows.old (λ f. 2 ^ 64 ≤ first + length (taken tree.now.shards clock enforced f items.items)))) }
     ensures counted { AllByRecursion (IsCounted clock) windows.new }

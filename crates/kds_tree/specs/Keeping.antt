@@ -19,7 +19,14 @@ AreBoth None None = Unit {0}
 
 -- all that is known of the shard
 abbrev pub state_of : Inside → ShardState
-state_of k = record { no = k.shard.no; range = k.shard.range; parent = k.shard.parent; adjacent = k.shard.adjacent; start = k.shard.start; closing = closing_from k.shard.end k.closed }
+state_of k = record {
+  no = k.shard.no;
+  range = k.shard.range;
+  parent = k.shard.parent;
+  adjacent = k.shard.adjacent;
+  start = k.shard.start;
+  closing = closing_from k.shard.end k.closed;
+}
 
 -- ---- which gives the fields back
 
@@ -44,5 +51,9 @@ moment_back (Some n) (Some c) h = refl
 
 pub fields_back : (k : Inside) → AreBoth k.shard.end k.closed → fields_of (state_of k) ≡ k
 fields_back k h =
-    ap (λ (n : Option ℕ). let f : Inside = record { shard = record k.shard { end = n }; closed = moment_of (closing_from k.shard.end k.closed) } in f) (ending_back k.shard.end k.closed h)
+    ap (λ (n : Option ℕ). let f : Inside = record {
+      shard = record k.shard { end = n };
+      closed = moment_of (closing_from k.shard.end k.closed);
+    } in f)
+    (ending_back k.shard.end k.closed h)
     ∙ ap (λ (c : Option ℕ). let f : Inside = record { shard = k.shard; closed = c } in f) (moment_back k.shard.end k.closed h)

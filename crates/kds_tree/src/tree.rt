@@ -112,8 +112,10 @@ impl ShardTree {
         after: Option<ShardNo>,
         limit: u32,
     ) -> Result<(Items<Shard>, bool), Memory>
-        ensures shards { let xs = map shown (filter (is_after_shard after) (listed_among (floor_of cut) self.now.shards)) in IfOk result (λ r. r.0 ≡ take limit xs) }
-        ensures more { let xs = map shown (filter (is_after_shard after) (listed_among (floor_of cut) self.now.shards)) in IfOk result (λ r. r.1 ≡ are_more limit xs) }
+        ensures shards { let xs = map shown (filter (is_after_shard after) (listed_among (floor_of cut) self.now.shards))
+            in IfOk result (λ r. r.0 ≡ take limit xs) }
+        ensures more { let xs = map shown (filter (is_after_shard after) (listed_among (floor_of cut) self.now.shards))
+            in IfOk result (λ r. r.1 ≡ are_more limit xs) }
     {
         let mut listed = Items::new(*self.shards.allocator());
         for kept in &self.shards {
@@ -225,7 +227,8 @@ impl ShardTree {
 
     /// The range of a merge, or why it is refused.
     fn merged_range(&self, shard: ShardNo, other: ShardNo) -> Result<Range, Refusal>
-        ensures { result ≡ answer_by (merge_refusal self.now.shards shard other) (joined (range_of (slice_get self.now.shards shard)) (range_of (slice_get self.now.shards other))) }
+        ensures { result ≡ answer_by (merge_refusal self.now.shards shard other)
+            (joined (range_of (slice_get self.now.shards shard)) (range_of (slice_get self.now.shards other))) }
     {
         match (
             self.shards.get(shard.0 as usize),

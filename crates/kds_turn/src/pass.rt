@@ -4,7 +4,8 @@ ghost use Rattle.std.specs.Prelude.{◌≡◌, length};
 use crate::steps::Seat;
 use std::marker::Model;
 
-/// The right to take turns under one number. Contracts see its number, the turns that it has seen, its own turns, and those of the passes that were joined into it.
+/// The right to take turns under one number. Contracts see its number, the turns that it has seen, its own turns, and
+/// those of the passes that were joined into it.
 #[derive(Drop)]
 pub struct Pass<M> {
     pub(crate) by: u32,
@@ -19,9 +20,17 @@ impl<M> Model for Pass<M> {
 
     ghost Value = { Standing };
 
-    ghost view = { λ p. record { hall = p.seat.table_id; by = p.by; seen = p.seat.me.0.seen; own = first_turns p.seat.me.0.accounts; joined = after_first p.seat.me.0.accounts } };
+    ghost view = { λ p. record {
+      hall = p.seat.table_id;
+      by = p.by;
+      seen = p.seat.me.0.seen;
+      own = first_turns p.seat.me.0.accounts;
+      joined = after_first p.seat.me.0.accounts;
+    } };
 
-    ghost invariant = { λ p. IsIdle p.seat.me × (p.seat.me.0.accounts ≡ account p.by (first_turns p.seat.me.0.accounts) ∷ after_first p.seat.me.0.accounts) × (0 < p.by) };
+    ghost invariant = { λ p. IsIdle p.seat.me
+        × (p.seat.me.0.accounts ≡ account p.by (first_turns p.seat.me.0.accounts) ∷ after_first p.seat.me.0.accounts)
+        × (0 < p.by) };
 }
 
 impl<M> Pass<M> {

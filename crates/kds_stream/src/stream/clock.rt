@@ -44,7 +44,12 @@ impl Stream {
     /// Raises the clock and with it the cut, and drops nothing yet.
     pub fn advance(&mut self, clock: Moment)
         requires { self.old.clock ≤ clock }
-        ensures value { self.new ≡ record self.old { clock = clock; cut = later_cut self.old.cut (cut_at clock self.old.hours); clock_before = self.old.clock; cut_before = self.old.cut } }
+        ensures value { self.new ≡ record self.old {
+          clock = clock;
+          cut = later_cut self.old.cut (cut_at clock self.old.hours);
+          clock_before = self.old.clock;
+          cut_before = self.old.cut;
+        } }
         ensures shows { (log : Journal) → Shows self.old log → Shows self.new log }
     {
         self.clock_before = self.clock;

@@ -19,7 +19,8 @@ impl Stream {
     /// number, or number a shard, above the greatest of a `u64` (Kinesis API Reference, UpdateShardCount).
     pub fn scale(&mut self, target: u32, room: u64) -> Result<Answer, Memory>
         requires { IsShardCount target }
-        ensures answered { IfOk result (λ a. Decides self.old self.new a (λ log by. scale_where (is_over target room) log self.old.clock by self.old.name self.old.no target)) }
+        ensures answered { IfOk result (λ a. Decides self.old self.new a (λ log by.
+            scale_where (is_over target room) log self.old.clock by self.old.name self.old.no target)) }
         ensures fields { (self.new.no ≡ self.old.no) × (self.new.name ≡ self.old.name) × (self.new.clock ≡ self.old.clock) }
         ensures refused { IfOk result (λ a. OnErr a (self.new ≡ self.old)) }
         ensures changed { IfOk result (λ a. OnOk a (IsChangedAt self.old self.new)) }
@@ -51,7 +52,8 @@ impl Stream {
         requires target { IsShardCount target }
         requires plan { IsPlan self.old target steps.now }
         requires made { made ≡ made_by steps.now }
-        ensures answered { IfOk result (λ reply. Decides self.old self.new (Ok reply) (λ log by. scale_where false log self.old.clock by self.old.name self.old.no target)) }
+        ensures answered { IfOk result (λ reply. Decides self.old self.new (Ok reply) (λ log by.
+            scale_where false log self.old.clock by self.old.name self.old.no target)) }
         ensures fields { (self.new.no ≡ self.old.no) × (self.new.name ≡ self.old.name) × (self.new.clock ≡ self.old.clock) }
         ensures changed { OnOk result (IsChangedAt self.old self.new) }
         ensures kept { OnErr result (self.new ≡ self.old) }

@@ -26,7 +26,8 @@ impl Stream {
 
     /// Why a split of the shard at the key is refused, if it is.
     fn split_refusal(&self, shard: ShardNo, at: u128, room: u64) -> Option<Refusal>
-        ensures decided { RefusesAs self.now result (λ log c by s. split_line log c by s shard at) (λ log c by s. split_where (is_full self.now room) log c by s shard at) }
+        ensures decided { RefusesAs self.now result (λ log c by s. split_line log c by s shard at)
+            (λ log c by s. split_where (is_full self.now room) log c by s shard at) }
         ensures splits { IfNone result (split_refusal self.now.tree shard at ≡ None) }
         ensures free { IfNone result (self.now.next ≢ last_number) }
         ensures few { IfNone result (length (filter is_open self.now.tree) < OPEN_SHARDS) }
@@ -52,7 +53,8 @@ impl Stream {
     /// where it is closed, `BadSplit` where a part would be empty, `Full` without room, `Spent` where the next number
     /// is the greatest of a `u64` (Kinesis API Reference, SplitShard).
     pub fn split(&mut self, shard: ShardNo, at: u128, room: u64) -> Result<Answer, Memory>
-        ensures answered { IfOk result (λ a. Decides self.old self.new a (λ log by. split_where (is_full self.old room) log self.old.clock by self.old.no shard at)) }
+        ensures answered { IfOk result (λ a. Decides self.old self.new a (λ log by.
+            split_where (is_full self.old room) log self.old.clock by self.old.no shard at)) }
         ensures fields { (self.new.no ≡ self.old.no) × (self.new.name ≡ self.old.name) × (self.new.clock ≡ self.old.clock) }
         ensures refused { IfOk result (λ a. OnErr a (self.new ≡ self.old)) }
         ensures changed { IfOk result (λ a. OnOk a (IsChangedAt self.old self.new)) }
