@@ -2,3 +2,4 @@ pub mod Digests
 pub mod Facts
 pub mod NumberLemmas
 pub mod Uniform
+pub mod WideLemmas

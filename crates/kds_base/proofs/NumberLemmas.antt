@@ -1,12 +1,12 @@
--- A plain text of digits is ASCII, and `parse` reads it.
-use Rattle.std.proofs.Common.{decimal, sym, ap, ◌∙◌, subst, get_or, take, Some, None, zero, suc, inl, inr, ◌⊎◌, ◌≡◌, ℕ, ◌+◌, ◌-◌, ◌*◌, ◌/◌, ◌%◌, ◌^◌, ◌<◌, ◌≤◌, List, [], ◌∷◌, ◌++◌, length, Bool, true, false, refl, Result, Ok, Err, arith, rules}
+-- Texts of digits: each number has one, and it is read digit by digit.
+use Rattle.std.proofs.Common.{decimal, sym, ap, ◌∙◌, subst, get_or, take, Some, None, zero, suc, inl, inr, ◌⊎◌, ◌≡◌, ℕ, ◌+◌, ◌-◌, ◌*◌, ◌/◌, ◌%◌, ◌^◌, ◌<◌, ◌≤◌, List, [], ◌∷◌, ◌++◌, length, Bool, true, false, refl, arith, rules}
 use Rattle.std.proofs.lemmas.Grind.{common_steps}
 use Rattle.std.proofs.lemmas.Bool.Decides.{nat_tests}
 use Rattle.std.proofs.lemmas.Int.Digits.{digits_value_more}
 use Rattle.std.proofs.lemmas.List.Folds.{list_all_more}
 use Rattle.std.specs.Prelude.{◌&&◌, ◌==◌, nat_lt, slice_index, if◌then◌else◌}
-use Rattle.std.proofs.lemmas.Str.Parse.{IsNumeralModel, numerals_by_value, parse_digits, digits_value-take-le}
-use Rattle.std.proofs.lemmas.Fmt.{IsAscii-from_digits, decimal_digit, decimal_step_wide, decimal_by_steps_wide, decimal_is_IsNumeral_wide}
+use Rattle.std.proofs.lemmas.Str.Parse.{IsNumeralModel, numerals_by_value, digits_value-take-le}
+use Rattle.std.proofs.lemmas.Fmt.{decimal_digit, decimal_step_wide, decimal_by_steps_wide, decimal_is_IsNumeral_wide}
 use Rattle.std.proofs.lemmas.List.{append_assoc, append-nil, length-append}
 use Rattle.std.proofs.lemmas.Str.{digit_value_digit}
 use Rattle.std.proofs.lemmas.Str.Parse.{digit_from_value}
@@ -14,9 +14,7 @@ use Rattle.std.proofs.Math.ListN.{get_or-append}
 use Rattle.std.proofs.Math.Pow.{pow_mono}
 use Rattle.std.specs.Char.{digit_value, is_ascii_digit}
 use Rattle.std.specs.List.{list_all}
-use Rattle.std.specs.Result.{result_ok, OkIff}
-use Rattle.std.specs.Str.{IsAscii}
-use Rattle.std.specs.Str.Parse.{AllDigits, digits_value, digits_value_after, ParsesUnsigned}
+use Rattle.std.specs.Str.Parse.{AllDigits, digits_value, digits_value_after}
 use Rattle.kds_base.specs.NumberText.{are_digits, digits_of, is_plain, number_of}
 
 -- a text of digits, as a fact
@@ -28,16 +26,6 @@ own = numerals_by_value IsDigits (search rules)
 
 pub plain_digits : (text : List ℕ) → is_plain text ≡ true → IsDigits text × (0 < length text)
 plain_digits text p = (grind (arith, common_steps), grind (arith, common_steps))
-
-parsed : {E : Type 0} (bits : ℕ) (bs : List ℕ) (r : Result ℕ E) → is_plain bs ≡ true → OkIff r ((0 < length bs) × (digits_value 10 bs < 2 ^ bits)) (digits_value 10 bs) → result_ok r ≡ number_of bits bs
-parsed bits bs (Ok x) p h = grind (arith, common_steps, h.0.1, h.1)
-parsed bits bs (Err e) p h = let n = plain_digits bs p in grind (arith, common_steps, n.1)
-
-pub number_from_parse : {E : Type 0} (bits : ℕ) (bs : List ℕ) (r : Result ℕ E) → is_plain bs ≡ true → ParsesUnsigned bits 10 bs r → result_ok r ≡ number_of bits bs
-number_from_parse bits bs r p h = parsed bits bs r p (parse_digits own bits bs r h (plain_digits bs p).0)
-
-pub plain_ascii : (text : List ℕ) → is_plain text ≡ true → IsAscii text
-plain_ascii text p = IsAscii-from_digits text (own.to text (plain_digits text p).0)
 
 -- ---- one text for each number
 

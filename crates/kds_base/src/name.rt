@@ -65,6 +65,19 @@ impl Name {
         }
     }
 
+    /// The name that the bytes of a vector are, if they are one: moved, unless they are few.
+    pub fn from_vec(text: Vec<u8>) -> Option<Name>
+        ensures { result ≡ name_of text.items }
+    {
+        if names(text.as_slice()) {
+            Some(Name {
+                text: Octets::from_vec(text),
+            })
+        } else {
+            None
+        }
+    }
+
     /// Its bytes.
     pub fn bytes(&self) -> &[u8]
         ensures value { result.now ≡ self.now }

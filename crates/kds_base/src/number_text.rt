@@ -1,25 +1,12 @@
 //! The texts of numbers, in decimal: each number has one, and it is written without memory of its own.
 ghost use Rattle.std.specs.Prelude.{◌≡◌, ◌++◌, ◌+◌, ◌-◌, ◌*◌, ◌<◌, ◌≤◌, ◌^◌, ◌==◌, ◌&&◌, ℕ, length, nat_lt, slice_index, true, decimal, OnOk, OnErr, IfSome, IfNone};
 ghost use Rattle.std.specs.Char.{is_ascii_digit};
-ghost use Rattle.std.specs.List.{list_all};
-ghost use Rattle.kds_base.specs.NumberText.{digits_of, number_of, is_plain};
+ghost use Rattle.kds_base.specs.NumberText.{digits_of, number_of};
 
 use crate::memory::Memory;
 use crate::octets::Octets;
 use itoa::Buffer;
 use std::alloc::Global;
-
-fn all_digits(text: &[u8]) -> bool
-    ensures { result ≡ list_all is_ascii_digit text.now }
-{
-    text.iter().all(|b| b.is_ascii_digit())
-}
-
-fn plain(text: &[u8]) -> bool
-    ensures { result ≡ is_plain text.now }
-{
-    !text.is_empty() && (text.len() == 1 || text[0] != b'0') && all_digits(text)
-}
 
 /// Whether a 0 stands before another byte.
 fn has_needless_zero(text: &[u8]) -> bool
@@ -83,16 +70,54 @@ pub fn write_u64(_alloc: Global, n: u64, to: &mut Octets) -> Result<(), Memory>
     to.extend(digits.format(n).as_bytes())
 }
 
+/// How many digits a block has: as many as are below 2 ^ 64, whichever they are.
+const BLOCK_DIGITS: usize = 19;
+
+/// The first number that a block can't have.
+const BLOCK_END: u128 = 10_000_000_000_000_000_000;
+
+/// The most digits of a number below 2 ^ 128.
+const MOST_DIGITS: usize = 39;
+
+/// The number with one more block of digits behind it, below 2 ^ 128.
+fn with_block(number: u128, block: u64) -> Option<u128>
+    ensures some { IfSome result (λ more. more ≡ number * 10 ^ 19 + block) }
+    ensures small { IfSome result (λ more. more < 2 ^ 128) }
+    ensures none { IfNone result (2 ^ 128 ≤ number * 10 ^ 19 + block) }
+{
+    number
+        .checked_mul(BLOCK_END)?
+        .checked_add(u128::from(block))
+}
+
+/// The number that decimal digits write, whatever zeros stand in front, below 2 ^ 128. They are read by blocks, since a
+/// step on 128 bits costs many times one on 64.
+fn read_wide(text: &[u8]) -> Option<u128>
+    ensures { result ≡ digits_of 128 text.now }
+{
+    if text.len() <= BLOCK_DIGITS {
+        return match read_digits(text) {
+            Some(number) => Some(u128::from(number)),
+            None => None,
+        };
+    }
+    let (front, block) = text.split_at(text.len() - BLOCK_DIGITS);
+    let number = read_wide(front)?;
+    let block = read_digits(block)?;
+    with_block(number, block)
+}
+
 /// The number of a text of decimal digits with no needless zero in front, below 2 ^ 128.
 pub fn read_u128(text: &[u8]) -> Option<u128>
     ensures { result ≡ number_of 128 text.now }
 {
-    if !plain(text) {
+    if text.len() > MOST_DIGITS {
         return None;
     }
-    match str::from_utf8(text) {
-        Ok(digits) => digits.parse::<u128>().ok(),
-        Err(_) => None,
+    if has_needless_zero(text) {
+        None
+    } else {
+        read_wide(text)
     }
 }
 

@@ -1,13 +1,13 @@
 use Rattle.std.proofs.Common.{sym, ◌∙◌}
-use Rattle.std.proofs.lemmas.Str.{IsUtf8-from_ascii}
-use Rattle.kds_base.proofs.NumberLemmas.{number_from_parse, plain_ascii}
+use Rattle.kds_base.proofs.NumberLemmas.{none_of_needless, plain_as_digits}
+use Rattle.kds_base.proofs.WideLemmas.{none_of_long}
 use Rattle.kds_base.proofs.number_text.read_u128.Goals as goal
 
-pub returns-in-Ok : goal.returns-in-Ok
-returns-in-Ok c =
-    let same = c.in-Ok.ensures.cases.0 in
-    let parsed = rw same at c.parse.ensures.value.0 in
-    c.ok.ensures.value ∙ number_from_parse 128 c.args.text.now _ (sym c.plain.ensures ∙ c.if-not-plain.false) parsed
+pub returns-then-text-gt-MOST_DIGITS : goal.returns-then-text-gt-MOST_DIGITS
+returns-then-text-gt-MOST_DIGITS c = none_of_long c.args.text.now c.if-text-gt-MOST_DIGITS.true
 
-pub returns-in-Err : goal.returns-in-Err
-returns-in-Err c = absurd (c.in-Err.ensures.cases.0 (IsUtf8-from_ascii _ (plain_ascii _ (sym c.plain.ensures ∙ c.if-not-plain.false))))
+pub returns-then-has_needless_zero : goal.returns-then-has_needless_zero
+returns-then-has_needless_zero c = none_of_needless 128 c.args.text.now (sym c.has_needless_zero.ensures ∙ c.if-has_needless_zero.true)
+
+pub returns-else-has_needless_zero : goal.returns-else-has_needless_zero
+returns-else-has_needless_zero c = c.read_wide.ensures ∙ plain_as_digits 128 c.args.text.now (sym c.has_needless_zero.ensures ∙ c.if-has_needless_zero.false)
