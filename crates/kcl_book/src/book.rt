@@ -55,7 +55,7 @@ impl Book {
         }
     }
 
-    /// Takes the memory for one more tenure.
+    /// Takes the memory for one more tenure. The error is want of memory, and then the book is as before.
     pub fn reserve(&mut self) -> Result<(), Memory>
         ensures tenures { self.new.tenures ≡ self.old.tenures }
         ensures spare { OnOk result (1 ≤ self.new.spare) }
@@ -71,7 +71,8 @@ impl Book {
         self.tenures.len() as u64 == u64::MAX
     }
 
-    /// Begins a tenure of a key at a checkpoint: the actor took the lease. No memory.
+    /// Begins a tenure of a key at a checkpoint: the actor took the lease. Condition: memory was reserved, the tenures' numbers aren't
+    /// spent, and the checkpoint leaves something to read. No memory.
     pub fn begin(&mut self, by: u32, key: ShardRef, start: Checkpoint) -> TenureNo
         requires spare { 1 ≤ self.old.spare }
         requires unspent { length self.old.tenures < last_number }
@@ -125,8 +126,8 @@ impl Book {
         Ok(())
     }
 
-    /// Notes a read of a tenure that is there, which reached this position and ended the shard or did not.
-    /// No memory.
+    /// Notes a read of a tenure that is there, which reached this position and ended the shard or did not. Condition: the tenure
+    /// was opened, has fewer than `PENDING_READS` reads that aren't given, and doesn't reach beyond the position. No memory.
     pub fn read(&mut self, no: TenureNo, reach: u64, end: bool)
         requires there { IsSome (tenure_at self.old.tenures no) }
         requires opened { IfSome (tenure_at self.old.tenures no) (λ t. t.opened ≡ true) }

@@ -22,7 +22,7 @@ pub struct LeaseId {
 }
 
 impl Held {
-    /// The lease was written at this counter.
+    /// The lease was written, and has this counter since this moment.
     pub fn renewed(&mut self, counter: u64, now: Moment)
         ensures { self.new ≡ renewed_held counter now self.old }
     {

@@ -86,6 +86,7 @@ impl OpenShards {
         Ok(OpenShards { all, next })
     }
 
+    /// The open shards, in the order in which they were made.
     pub fn as_slice(&self) -> &[OpenShard]
         ensures { result.now ≡ self.now.all }
     {

@@ -33,6 +33,7 @@ pub struct State {
 }
 
 impl State {
+    /// The state of a drill's generator that has given no command: of this number, with so many records to come.
     pub fn new(alloc: Global, number: u64, records: u64) -> State
         ensures is { coming result ≡ generated number records }
         ensures sound { IsSound result }

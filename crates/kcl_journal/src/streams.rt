@@ -9,6 +9,7 @@ use kds_defs::Entry;
 use kds_defs::limits::{LEAST_HOURS, LEAST_SHARDS, MOST_HOURS, MOST_SHARDS};
 use std::alloc::Global;
 
+/// `made STREAM NAME SHARDS`. The error is want of memory for the name.
 #[tactic(auto, unfolding(kcl_script_fields::specs::Fields::two))]
 pub fn made(alloc: Global, text: &[u8]) -> Result<Option<Entry>, Memory>
     ensures { IfOk result (λ o. o ≡ made_of text.now) }
@@ -35,6 +36,7 @@ pub fn made(alloc: Global, text: &[u8]) -> Result<Option<Entry>, Memory>
     }))
 }
 
+/// `gone STREAM`.
 pub fn gone(text: &[u8]) -> Option<Entry>
     ensures { result ≡ gone_of text.now }
 {
@@ -44,6 +46,7 @@ pub fn gone(text: &[u8]) -> Option<Entry>
     })
 }
 
+/// `put STREAM SHARD SEQ HASH BYTES KEYBYTES`, and in the first version of journals without KEYBYTES.
 #[tactic(auto, unfolding(kcl_script_fields::specs::Fields::two))]
 pub fn put(version: u8, text: &[u8]) -> Option<Entry>
     ensures { result ≡ put_of version text.now }
@@ -67,6 +70,7 @@ pub fn put(version: u8, text: &[u8]) -> Option<Entry>
     })
 }
 
+/// `split STREAM SHARD AT SEQ LOW HIGH`.
 #[tactic(auto, unfolding(kcl_script_fields::specs::Fields::two))]
 pub fn split(text: &[u8]) -> Option<Entry>
     ensures { result ≡ split_of text.now }
@@ -92,6 +96,7 @@ pub fn split(text: &[u8]) -> Option<Entry>
     })
 }
 
+/// `merged STREAM SHARD OTHER SEQ CHILD`.
 #[tactic(auto, unfolding(kcl_script_fields::specs::Fields::two))]
 pub fn merged(text: &[u8]) -> Option<Entry>
     ensures { result ≡ merged_of text.now }
@@ -114,6 +119,7 @@ pub fn merged(text: &[u8]) -> Option<Entry>
     })
 }
 
+/// `kept STREAM HOURS`.
 #[tactic(auto, unfolding(kcl_script_fields::specs::Fields::two))]
 pub fn kept(text: &[u8]) -> Option<Entry>
     ensures { result ≡ kept_of text.now }
@@ -127,6 +133,7 @@ pub fn kept(text: &[u8]) -> Option<Entry>
     })
 }
 
+/// `enforced STREAM on` or `enforced STREAM off`.
 #[tactic(auto, unfolding(kcl_script_fields::specs::Fields::two))]
 pub fn enforced(text: &[u8]) -> Option<Entry>
     ensures { result ≡ enforced_of text.now }

@@ -51,7 +51,7 @@ impl Table {
         row_of(&self.rows, &key)
     }
 
-    /// All rows in the order of their keys.
+    /// All rows in the order of their keys. The error is want of memory.
     pub fn rows(&self) -> Result<Items<Row>, Memory>
         ensures { IfOk result (λ rows. rows ≡ self.now) }
     {
@@ -74,7 +74,7 @@ impl Table {
 
     /// Makes the row of a key, owned by nobody: `floor` is the number where the row's records begin, `start` the
     /// checkpoint where its first tenure begins. `LeaseThere` exactly where the key has one
-    /// (Kinesis Client Library, lease, initial position in stream).
+    /// (Kinesis Client Library, lease, initial position in stream). The error is want of memory, and then no row is made.
     pub fn create(
         &mut self,
         key: ShardRef,

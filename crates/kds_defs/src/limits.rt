@@ -12,16 +12,16 @@ pub const LEAST_SHARDS: u32 = 1;
 /// The greatest.
 pub const MOST_SHARDS: u32 = 500;
 
-/// The characters that a partition key may have (Kinesis API Reference, PutRecord, PartitionKey).
+/// The most characters of a partition key (Kinesis API Reference, PutRecord, PartitionKey).
 pub const KEY_CHARACTERS: u64 = 256;
 
-/// The payload and key bytes that one record may have (Kinesis API Reference, PutRecord, Data).
+/// The most bytes of a record's payload and key together (Kinesis API Reference, PutRecord, Data).
 pub const RECORD_BYTES: u64 = 10_485_760;
 
-/// The records that one PutRecords may have (Kinesis API Reference, PutRecords, Records).
+/// The most records of one PutRecords (Kinesis API Reference, PutRecords, Records).
 pub const MANY_ITEMS: u64 = 500;
 
-/// The payload and key bytes that all records of one PutRecords may have (Kinesis API Reference, PutRecords).
+/// The most payload and key bytes of all records of one PutRecords together (Kinesis API Reference, PutRecords).
 pub const MANY_BYTES: u64 = 10_485_760;
 
 /// How long an iterator and a listing's token are good, in milliseconds (Kinesis API Reference,
@@ -40,7 +40,7 @@ pub const MOST_HOURS: u32 = 8_760;
 /// The milliseconds of an hour.
 pub const HOUR: u64 = 3_600_000;
 
-/// The payload and key bytes that one batch may have together (Kinesis API Reference, GetRecords: 10 MiB).
+/// The most payload and key bytes of a batch's records together (Kinesis API Reference, GetRecords: 10 MiB).
 pub const BATCH_BYTES: u64 = 10_485_760;
 
 /// The greatest limit that a listing or a read may ask for.
@@ -55,7 +55,7 @@ pub const SECOND_RECORDS: u64 = 1_000;
 /// The payload and key bytes that a shard takes within a second, if it isn't one record alone (the same section).
 pub const SECOND_BYTES: u64 = 1_048_576;
 
-/// The reads that a tenure may have that aren't given.
+/// The most reads of a tenure that aren't given yet.
 pub const PENDING_READS: u64 = 8;
 
 /// The most records that GetRecords gives where it has no Limit (Kinesis API Reference, GetRecords, Limit).
@@ -72,7 +72,8 @@ pub const DESCRIBED_LIMIT: u32 = 100;
 /// The most names that ListStreams gives where it has no Limit (Kinesis API Reference, ListStreams, Limit).
 pub const NAMES_LIMIT: u32 = 100;
 
-/// The greatest moment that a request may name, in seconds (Kinesis API Reference, GetShardIterator, Timestamp).
+/// The greatest moment that a request may name (Kinesis API Reference, GetShardIterator, Timestamp), in seconds: this
+/// profile's own bound, 2^62 milliseconds, which every moment stays below.
 pub const MOST_SECONDS: u64 = 4_611_686_018_427_387;
 
 /// The actor of a request to the service.
@@ -84,8 +85,8 @@ pub const MOST_ACTOR: u32 = 999;
 /// The most characters of an operation's name in a schedule.
 pub const OPERATION_BYTES: usize = 64;
 
-/// The bytes that a line of a schedule may have before its line feed.
+/// The most bytes of a schedule's line before its line feed.
 pub const LINE_BYTES: u64 = 16_777_216;
 
-/// The bytes that an input of lines may have.
+/// The most bytes of an input of lines.
 pub const INPUT_BYTES: u64 = 1_073_741_824;

@@ -89,7 +89,8 @@ fn find_many(alloc: Global, front: &[u8]) -> Result<Found, Memory>
 /// What stands at the front of the bytes of a connection: a head that the service takes, the status
 /// with which it refuses, or too few bytes to say (RFC 9112, sections 2 to 6).
 ///
-/// `Memory` comes only where the operation's name finds no memory, or the headers where they are more than `HEADERS`.
+/// `Memory` is want of memory: for the operation's name, or for the headers where they are more than `FEW_HEADERS`. No clause says
+/// that it comes only then.
 pub fn head(alloc: Global, bytes: &[u8]) -> Result<Found, Memory>
     ensures found { IfOk result (IsFound bytes.now) }
     ensures limits { IfOk result (IsWithinLimits bytes.now) }

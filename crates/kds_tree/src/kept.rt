@@ -65,6 +65,7 @@ impl KeptShard {
         &self.shard
     }
 
+    /// Its range of hash keys.
     pub fn range(&self) -> Range
         ensures { result ≡ self.now.range }
     {
@@ -81,6 +82,7 @@ impl KeptShard {
         }
     }
 
+    /// Whether it takes records: it wasn't split or merged.
     pub fn is_open(&self) -> bool
         ensures { result ≡ is_open self.now }
     {
