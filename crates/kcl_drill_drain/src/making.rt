@@ -6,7 +6,7 @@ ghost use Rattle.kcl_drill_drain.specs.Steps.{MakesKeys, MakesRow};
 
 use crate::asking::ask;
 use crate::laws;
-use crate::rows::row_among;
+use kcl_drill_summary::row_among;
 use kds_base::{Memory, Moment, ShardRef};
 use kds_defs::{Command, Machine, Origin, Row};
 

@@ -10,7 +10,7 @@ ghost use Rattle.kcl_drill_drain.specs.Steps.{Delivers, MarksLast, ReadsToEnd, S
 use crate::held::DrainTenure;
 use crate::laws;
 use crate::turns::{give, mark, read};
-use kcl_consumer::{Ask, Processor};
+use kcl_consumer::{Ask, Processor, last_in};
 use kcl_proc::Tally;
 use kds_base::{Memory, Moment, Seq};
 use kds_defs::{Answer, Machine, Reply, Stored, Target};
@@ -21,16 +21,6 @@ pub struct Fetch {
     pub last: Option<Seq>,
     pub reach: u64,
     pub ended: bool,
-}
-
-/// The number of the last record.
-fn last_in(batch: &[Stored]) -> Option<Seq>
-    ensures { result ≡ last_number_in batch.now }
-{
-    match batch.last() {
-        Some(r) => Some(r.seq),
-        None => None,
-    }
 }
 
 /// Hands a batch that isn't empty to the processor, which asks for a mark at its last record.

@@ -1,30 +1,15 @@
 //! Rows, brought to the end of their shards one after another.
-ghost use Rattle.std.specs.Prelude.{◌≡◌, List};
+ghost use Rattle.std.specs.Prelude.{List};
 ghost use Rattle.kds_defs.specs.declared.command.Turn.{Turn as Asked};
-ghost use Rattle.kds_defs.specs.Keys.{same_key};
-ghost use Rattle.kcl_drill_summary.specs.Counting.{row_in};
 ghost use Rattle.kcl_drill_drain.specs.Leased.{HasLeased};
 ghost use Rattle.kcl_drill_drain.specs.Steps.{DrainsKeys, DrainsRow, DrainsTaken};
 
 use crate::laws;
 use crate::reading::read_on;
 use crate::turns::{open, take};
+use kcl_drill_summary::row_among;
 use kds_base::{Memory, Moment, ShardRef};
 use kds_defs::{Machine, Row};
-
-/// The row is that of the key.
-fn is_of(row: &Row, key: &ShardRef) -> bool
-    ensures { result ≡ same_key row.now.key key.now }
-{
-    row.key.stream == key.stream && row.key.shard == key.shard
-}
-
-/// The first row of the key.
-pub fn row_among(rows: &[Row], key: &ShardRef) -> Option<Row>
-    ensures { result ≡ row_in rows.now key.now }
-{
-    rows.iter().copied().find(|row| is_of(row, key))
-}
 
 /// Takes a row at its counter, and reads its shard to the end.
 fn drain_taken<M: Machine>(

@@ -10,19 +10,9 @@ ghost use Rattle.kcl_drill_drain.specs.Steps.{Gives, Marks, Opens, Reads, Takes}
 use crate::asking::ask;
 use crate::held::{DrainTenure, READ};
 use crate::laws;
-use kds_base::{Checkpoint, Memory, Moment, ShardRef, WorkerNo};
+use kcl_consumer::first_place;
+use kds_base::{Memory, Moment, ShardRef, WorkerNo};
 use kds_defs::{Answer, Command, Machine, Reply, Target};
-
-/// The place where a checkpoint lets reading begin.
-fn first_place(start: Checkpoint) -> u64
-    ensures { result ≡ first_place start }
-{
-    match start {
-        Checkpoint::TrimHorizon => 0,
-        Checkpoint::At(q) => q.0.saturating_add(1),
-        Checkpoint::ShardEnd => 0,
-    }
-}
 
 /// The tenure of an answer to a taking.
 fn taken_of(answer: &Answer) -> Option<DrainTenure>

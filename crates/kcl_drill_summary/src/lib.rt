@@ -9,3 +9,4 @@ mod summing;
 mod text;
 
 pub use report::summary;
+pub use rows::row_among;

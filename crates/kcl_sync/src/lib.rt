@@ -2,7 +2,6 @@
 #![tactic(auto)]
 
 ghost use Rattle.std.specs.Prelude.{◌≡◌, ◌++◌, ◌∷◌, [], IfOk, OnOk, OnErr};
-ghost use Rattle.kds_defs.specs.Keys.{same_key};
 ghost use Rattle.kcl_defs.specs.Plans.{has_row, has_key, makes, cuts, sync_plan};
 
 pub use kcl_defs::SyncStep;
@@ -10,24 +9,18 @@ use kds_base::{Items, Memory, ShardRef};
 use kds_defs::{Origin, Row};
 use std::alloc::Global;
 
-fn is_same(a: ShardRef, b: ShardRef) -> bool
-    ensures { result ≡ same_key a b }
-{
-    a.stream == b.stream && a.shard == b.shard
-}
-
 /// The key has a row.
 fn is_kept(rows: &[Row], key: ShardRef) -> bool
     ensures { result ≡ has_row rows.now key }
 {
-    rows.iter().any(|r| is_same(r.key, key))
+    rows.iter().any(|r| r.key.is(&key))
 }
 
 /// The key is a listed shard's.
 fn is_listed(shards: &[ShardRef], key: ShardRef) -> bool
     ensures { result ≡ has_key shards.now key }
 {
-    shards.iter().any(|k| is_same(*k, key))
+    shards.iter().any(|k| k.is(&key))
 }
 
 /// The steps so far, and where the rows that are made let reading begin.

@@ -1,7 +1,7 @@
 //! Where the row of a key stands.
 ghost use Rattle.std.specs.Prelude.{◌≡◌, ◌≤◌, length, slice_get};
 ghost use Rattle.std.specs.Option.{option_map};
-ghost use Rattle.kds_defs.specs.Keys.{is_before, same_key};
+ghost use Rattle.kds_defs.specs.Keys.{is_before};
 ghost use Rattle.kcl_table.specs.Rows.{AreInOrder, if_key, place_of, row_of};
 
 use kds_base::ShardRef;
@@ -18,13 +18,6 @@ fn is_before(a: &ShardRef, b: &ShardRef) -> bool
     }
 }
 
-/// Whether both name the same shard.
-fn is_same(a: &ShardRef, b: &ShardRef) -> bool
-    ensures { result ≡ same_key a.now b.now }
-{
-    a.stream == b.stream && a.shard == b.shard
-}
-
 /// How many rows come before the key.
 pub fn place_of(rows: &[Row], key: &ShardRef) -> usize
     requires { AreInOrder rows.now }
@@ -39,11 +32,7 @@ fn row_at<'a>(rows: &'a [Row], place: usize, key: &ShardRef) -> Option<&'a Row>
     ensures { option_map (λ r. r.now) result ≡ if_key key.now (slice_get rows.now place) }
 {
     let row = rows.get(place)?;
-    if is_same(&row.key, key) {
-        Some(row)
-    } else {
-        None
-    }
+    if row.key.is(key) { Some(row) } else { None }
 }
 
 /// The row of the key.

@@ -1,6 +1,5 @@
 ghost use Rattle.std.specs.Prelude.{◌≡◌, ◌++◌, ◌∷◌, [], IfOk, OnOk, OnErr};
 ghost use Rattle.kds_base.specs.declared.lease_key.ShardRef.{ShardRef};
-ghost use Rattle.kds_defs.specs.Keys.{same_key};
 ghost use Rattle.kcl_defs.specs.Plans.{after_rows, is_expired_since, seen_at};
 ghost use Rattle.kcl_take.specs.Notes.{first_note, noted, noted_all};
 
@@ -26,12 +25,6 @@ impl Model for Observed {
     ghost view = { λ o. o.seen.items };
 }
 
-pub(crate) fn is_same(a: &ShardRef, b: &ShardRef) -> bool
-    ensures { result ≡ same_key a.now b.now }
-{
-    a.stream == b.stream && a.shard == b.shard
-}
-
 /// What is kept of a row that is first seen at this moment.
 fn first_note(r: &Row, now: Moment) -> Seen
     ensures { result ≡ first_note r.now now }
@@ -49,7 +42,7 @@ fn note(seen: &mut Vec<Seen>, first: Seen) -> Result<(), Memory>
 {
     for i in 0..seen.len() {
         let s = seen[i];
-        if is_same(&s.key, &first.key) {
+        if s.key.is(&first.key) {
             if s.counter != first.counter {
                 seen[i] = first;
             }
@@ -65,7 +58,7 @@ fn find_seen(seen: &[Seen], key: &ShardRef) -> Option<Seen>
     ensures { result ≡ seen_at seen.now key.now }
 {
     for s in seen {
-        if is_same(&s.key, key) {
+        if s.key.is(key) {
             return Some(*s);
         }
     }

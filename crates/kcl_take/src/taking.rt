@@ -4,7 +4,7 @@ ghost use Rattle.std.specs.List.{cons_option, count_by, filter, list_any};
 ghost use Rattle.kds_defs.specs.Leases.{is_end};
 ghost use Rattle.kcl_defs.specs.Plans.{busier, busiest, candidate, candidates, chosen, expiry, first_step, is_available, is_key_held, is_mine, is_owned_by, is_held_at, load_of, loads, others, seen_at, stolen, take_among, take_plan, take_step, target_of, with_owner, with_worker};
 
-use crate::observed::{Observed, is_same};
+use crate::observed::Observed;
 use kcl_defs::{Held, TakeStep};
 use kds_base::{Checkpoint, Items, Memory, Moment, WorkerNo};
 use kds_defs::Row;
@@ -65,14 +65,14 @@ fn is_mine(held: &[Held], r: &Row) -> bool
     ensures { result ≡ is_mine held.now r.now }
 {
     held.iter()
-        .any(|h| is_same(&h.key, &r.key) && h.tenure == r.tenure)
+        .any(|h| h.key.is(&r.key) && h.tenure == r.tenure)
 }
 
 /// The worker has a lease of the row's key.
 fn is_key_held(held: &[Held], r: &Row) -> bool
     ensures { result ≡ list_any (is_key_held r.now) held.now }
 {
-    held.iter().any(|h| is_same(&h.key, &r.key))
+    held.iter().any(|h| h.key.is(&r.key))
 }
 
 /// The row is there to be taken without a theft.

@@ -12,7 +12,7 @@ use kds_base::Moment;
 pub fn same_id(a: &LeaseId, b: &LeaseId) -> bool
     ensures { result ≡ same_id a.now b.now }
 {
-    a.key.stream == b.key.stream && a.key.shard == b.key.shard && a.tenure == b.tenure
+    a.key.is(&b.key) && a.tenure == b.tenure
 }
 
 /// Whether a comes before b.

@@ -2,7 +2,6 @@
 ghost use Rattle.std.specs.Prelude.{◌≡◌, IfOk};
 ghost use Rattle.std.specs.List.{filter};
 ghost use Rattle.std.specs.Option.{option_map};
-ghost use Rattle.kds_defs.specs.Keys.{same_key};
 ghost use Rattle.kcl_defs.specs.Plans.{row_of};
 ghost use Rattle.kcl_defs.specs.Workers.{still_stands};
 ghost use Rattle.kcl_worker_lists.specs.Planning.{IsPlanned, IsPlannedAfter, gone, is_among};
@@ -25,19 +24,12 @@ pub struct Planned {
     pub takes: Items<TakeStep>,
 }
 
-/// Both are one key.
-fn is_same(a: &ShardRef, b: &ShardRef) -> bool
-    ensures { result ≡ same_key a.now b.now }
-{
-    a.stream == b.stream && a.shard == b.shard
-}
-
 /// The row of a key.
 fn row_of<'a>(rows: &'a [Row], key: &ShardRef) -> Option<&'a Row>
     ensures { option_map (λ r. r.now) result ≡ row_of rows.now key.now }
 {
     for r in rows {
-        if is_same(&r.key, key) {
+        if r.key.is(key) {
             return Some(r);
         }
     }
@@ -92,7 +84,7 @@ pub fn is_among(held: &[Held], id: &LeaseId) -> bool
     false
 }
 
-/// What a worker knows and plans after a survey.
+/// What a worker knows and plans after a survey. The error is want of memory.
 pub fn plan_survey(
     alloc: Global,
     made: &WorkerMade,
@@ -127,7 +119,7 @@ pub fn plan_survey(
     })
 }
 
-/// What a worker knows and plans after the answer to its survey.
+/// What a worker knows and plans after the answer to its survey. The error is want of memory.
 pub fn plan_after(
     alloc: Global,
     made: &WorkerMade,

@@ -1,7 +1,6 @@
 //! Leases that are released with their consumers.
 ghost use Rattle.std.specs.Prelude.{◌≡◌, ◌≤◌, IfNone};
 ghost use Rattle.std.specs.Vec.{vec_len};
-ghost use Rattle.kds_defs.specs.Keys.{same_key};
 ghost use Rattle.kcl_worker_lists.specs.Changes.{has_one, leaving_in, one_of, without_consumer};
 
 use crate::consumers::id_of;
@@ -23,13 +22,6 @@ fn has_one<P: Processor>(consumers: &[Consumer<P>], h: &Held) -> bool
     false
 }
 
-/// Whether a lease is of this key.
-fn is_of(h: &Held, key: &ShardRef) -> bool
-    ensures { result ≡ same_key h.now.key key.now }
-{
-    h.key.stream == key.stream && h.key.shard == key.shard
-}
-
 /// The first lease of a key that has a consumer.
 pub fn leaving<P: Processor>(
     held: &[Held],
@@ -39,7 +31,7 @@ pub fn leaving<P: Processor>(
     ensures { result ≡ leaving_in key.now consumers.now held.now }
 {
     for h in held {
-        if is_of(h, key) && has_one(consumers, h) {
+        if h.key.is(key) && has_one(consumers, h) {
             return Some(*h);
         }
     }
