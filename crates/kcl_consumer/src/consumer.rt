@@ -14,33 +14,13 @@ ghost use Rattle.kcl_consumer.specs.Standing.{HasCalled, IsAsBefore, StandsFor};
 ghost use Rattle.kcl_consumer.specs.Fetchings.{IsFetching};
 
 use crate::ahead::Ahead;
+use crate::places::{first_place, last_in};
 use crate::processor::Processor;
 use crate::stage::ConsumerStage;
 use kcl_defs::{Ask, Due, Fetched, Progress, Tenancy, Why};
 use kds_base::{Checkpoint, Memory, Seq, ShardRef, TenureNo};
 use kds_defs::{Answer, Command, Refusal, Reply, Stored, Target, let_go};
 use std::marker::Model;
-
-/// The place where a checkpoint lets reading begin.
-fn first_place(start: Checkpoint) -> u64
-    ensures { result ≡ first_place start }
-{
-    match start {
-        Checkpoint::TrimHorizon => 0,
-        Checkpoint::At(seq) => seq.0.saturating_add(1),
-        Checkpoint::ShardEnd => 0,
-    }
-}
-
-/// The number of the last record.
-fn last_in(batch: &[Stored]) -> Option<Seq>
-    ensures { result ≡ last_number_in batch.now }
-{
-    match batch.last() {
-        Some(r) => Some(r.seq),
-        None => None,
-    }
-}
 
 /// The mark that a processor asks for after a batch.
 fn target_after(asked: Ask, batch: &[Stored]) -> Option<Target>
@@ -350,7 +330,7 @@ impl<P: Processor> Consumer<P> {
         }
     }
 
-    /// The command that comes next, at the counter of the lease. No memory.
+    /// The command that comes next, at the counter of the lease. Condition: no processor call is due, and it isn't over. No memory.
     pub fn next(&self, counter: u64) -> Command
         requires none_due { due_call self.now.phase ≡ None }
         requires not_over { over_at self.now.phase ≡ None }

@@ -4,10 +4,14 @@
 
 mod ahead;
 pub mod consumer;
+mod laws;
+mod places;
 pub mod processor;
 mod stage;
 
 pub use ahead::Ahead;
 pub use consumer::{Consumer, life};
 pub use kcl_defs::{Ask, Call, Due, Progress, Why};
+pub use laws::never_full;
+pub use places::{first_place, last_in};
 pub use processor::{Maker, Processor};
