@@ -1,5 +1,5 @@
 -- Which journals and which histories a machine stands for.
-use Rattle.std.specs.Prelude.{ℕ, ◌≡◌, List, Result}
+use Rattle.std.specs.Prelude.{ℕ, ◌≡◌, List, [], ◌∷◌, length, Result}
 use Rattle.kds_defs.specs.declared.command.Command.{Command}
 use Rattle.kds_defs.specs.declared.command.Turn.{Turn}
 use Rattle.kds_defs.specs.declared.reply.Refusal.{Refusal}
@@ -7,9 +7,11 @@ use Rattle.kds_defs.specs.declared.reply.Reply.{Reply}
 use Rattle.kds_defs.specs.declared.reply.Row.{Row}
 use Rattle.kds_defs.specs.Histories.{clock as clock_of, journal}
 use Rattle.kds_defs.specs.Journal.{Journal}
+use Rattle.kds_defs.specs.Streams.{live_streams}
 use Rattle.kcl_book.specs.Tenures.{TenureValue}
 use Rattle.kcl_leases.specs.Standing as lease
 use Rattle.kcl_leases.specs.Standing.{LeasesValue, over}
+use Rattle.kds_service.specs.Clocks.{turn_after}
 use Rattle.kds_service.specs.Shown.{ServiceValue, ShowsAll}
 
 -- what contracts see of a machine: its service, the rows of its leases, and its tenures in the order of their numbers
@@ -33,7 +35,13 @@ Stands w log = lease.Stands (leased w) log
 abbrev pub Leads : WorldValue → WorldValue → ℕ → Command → Result Reply Refusal → Type 0
 Leads old new by what gives = lease.Leads (leased old) (leased new) by what gives
 
+-- The place of the stream that is settled next: each turn settled one of those that were live after it, and they took turns.
+abbrev pub turn_of : List Turn → ℕ
+turn_of [] = 0
+turn_of (turn ∷ h) = turn_after (length (live_streams (journal (turn ∷ h)))) (turn_of h)
+
 -- the machine has answered these turns, the newest first, and no others
 pub record StandsFor (w : WorldValue) (h : List Turn) : Type 0 where
   pub clock_is : w.service.clock ≡ clock_of h
   pub stands : Stands w (journal h)
+  pub turn_is : w.service.turn ≡ turn_of h

@@ -71,6 +71,7 @@ pub fn answer(
     requires stands { (log : Journal) × Stands (world service.old table.old book.old.tenures) log }
     ensures leads { IfOk result (Leads (world service.old table.old book.old.tenures) (world service.new table.new book.new.tenures) by what) }
     ensures clock { service.new.clock ≡ service.old.clock }
+    ensures turn { service.new.turn ≡ service.old.turn }
     ensures kept { OnErr result ((service.new ≡ service.old) × (table.new ≡ table.old) × (book.new.tenures ≡ book.old.tenures)) }
     ensures sure { NeedsNoMemory what → IsOk result }
 {

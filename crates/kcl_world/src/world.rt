@@ -1,5 +1,8 @@
 //! The machine.
-ghost use Rattle.std.specs.Prelude.{[]};
+ghost use Rattle.std.specs.Prelude.{[], ◌≡◌, ◌≤◌, true, false};
+ghost use Rattle.kds_defs.specs.Journal.{Journal};
+ghost use Rattle.kds_service.specs.Clocks.{CanGoBack, gone_back};
+ghost use Rattle.kds_service.specs.Shown.{ShowsAll};
 ghost use Rattle.kcl_world.specs.Standing.{StandsFor};
 
 use crate::answer::answer;
@@ -33,6 +36,37 @@ impl Model for World {
     ghost invariant = { λ w. (w.service.clock ≡ w.clock) × ((h : List Turn) × StandsFor (world w.service w.table w.book.tenures) h) };
 }
 
+/// Raises the clock of the service from this moment to a later one. The answer is whether it is later: then each stream
+/// is told, and else nothing is done.
+fn raise(service: &mut Service, before: Moment, clock: Moment) -> bool
+    requires at { service.old.clock ≡ before }
+    requires later { before ≤ clock }
+    ensures clock { service.new.clock ≡ clock }
+    ensures turn { service.new.turn ≡ service.old.turn }
+    ensures shows { (log : Journal) → ShowsAll service.old log → ShowsAll service.new log }
+    ensures same { result ≡ false → service.new ≡ service.old }
+    ensures back { result ≡ true → CanGoBack service.new }
+    ensures shows_back { result ≡ true → (log : Journal) → ShowsAll service.old log → ShowsAll (gone_back service.new) log }
+    ensures clock_back { result ≡ true → (gone_back service.new).clock ≡ before }
+{
+    if before == clock {
+        return false;
+    }
+    service.advance(clock);
+    true
+}
+
+/// Takes back what `raise` did, after which nothing was changed and nothing was settled.
+fn lower(service: &mut Service, raised: bool)
+    requires { raised ≡ true → CanGoBack service.old }
+    ensures raised { raised ≡ true → service.new ≡ gone_back service.old }
+    ensures same { raised ≡ false → service.new ≡ service.old }
+{
+    if raised {
+        service.retreat();
+    }
+}
+
 impl World {
     /// A machine without streams and leases, which has answered nothing. It takes its memory from `alloc`.
     pub fn new(alloc: Global) -> World
@@ -56,7 +90,7 @@ impl Machine for World {
         kds_defs::service_answers();
         kds_defs::lease_answers();
         let clock = self.clock.later(turn.at);
-        self.service.advance(clock);
+        let raised = raise(&mut self.service, self.clock, clock);
         match answer(
             &mut self.service,
             &mut self.table,
@@ -70,7 +104,7 @@ impl Machine for World {
                 Ok(answer)
             }
             Err(memory) => {
-                self.service.retreat();
+                lower(&mut self.service, raised);
                 Err(memory)
             }
         }

@@ -3,7 +3,7 @@ use Rattle.std.proofs.Common.{◌≡◌, ℕ, zero, suc, ◌<◌, ◌≤◌, Lis
 use Rattle.kds_defs.specs.Journal.{Journal}
 use Rattle.kds_stream.specs.Value.{StreamValue, settled}
 use Rattle.kds_service.specs.Clocks.{advanced, retreated, settled_in}
-use Rattle.kds_service.specs.Shown.{AreAt, AreShown, IsRising, ServiceValue, ShowsAll, is_among, numbers_of}
+use Rattle.kds_service.specs.Shown.{AreAt, AreShown, IsRising, ServiceValue, ShowsAll, is_among, numbers_of, service}
 
 -- ---- where the streams stand
 
@@ -21,6 +21,12 @@ pub kept_in : {Y : Type 0} (g : StreamValue → Y) → ((v : StreamValue) → g 
 kept_in g same i [] = refl
 kept_in g same zero (v ∷ vs) = ap (λ y. y ∷ map g vs) (same v)
 kept_in g same (suc i) (v ∷ vs) = ap (λ ys. g v ∷ ys) (kept_in g same i vs)
+
+-- ---- the service
+
+-- with the same streams, and the same turn
+pub same_service : (c b n t u : ℕ) (vs us : List StreamValue) → vs ≡ us → t ≡ u → record (service c b n vs) { turn = t } ≡ record (service c b n us) { turn = u }
+same_service c b n t u vs us are is = ap (λ xs. record (service c b n xs) { turn = t }) are ∙ ap (λ k. record (service c b n us) { turn = k }) is
 
 -- ---- the stream at a place
 

@@ -1,7 +1,7 @@
 -- The streams of a service at a later clock, back at the earlier one, and without what is trimmed.
-use Rattle.std.specs.Prelude.{◌≡◌, ◌<◌, ◌⊎◌, ℕ, zero, suc, List, [], ◌∷◌, length, map}
-use Rattle.kds_stream.specs.Value.{StreamValue, cut_at, later_cut, settled}
-use Rattle.kds_service.specs.Shown.{AreAt, ServiceValue, service}
+use Rattle.std.specs.Prelude.{ℕ, zero, suc, nat_lt, if◌then◌else◌, List, [], ◌∷◌, length, map}
+use Rattle.kds_stream.specs.Value.{StreamValue, cut_at, later_cut, next_of, settled}
+use Rattle.kds_service.specs.Shown.{AreAt, ServiceValue}
 
 -- the stream at a later clock, which remembers the earlier one
 abbrev pub advanced : ℕ → StreamValue → StreamValue
@@ -19,12 +19,22 @@ settled_in (suc n) (v ∷ vs) = v ∷ settled_in n vs
 
 -- the service at the clock that it remembers
 abbrev pub gone_back : ServiceValue → ServiceValue
-gone_back w = service w.clock_before w.clock_before w.made (map retreated w.streams)
+gone_back w = record w { clock = w.clock_before; streams = map retreated w.streams }
 
 -- every stream remembers the service's earlier clock: so it is after an advance, until something is changed
 abbrev pub CanGoBack : ServiceValue → Type 0
 CanGoBack w = AreAt w.clock_before (map retreated w.streams)
 
--- one of the streams is settled, where there is one
-abbrev pub IsSettled : ServiceValue → ServiceValue → Type 0
-IsSettled old new = (i : ℕ) × ((i < length old.streams) ⊎ (old.streams ≡ [])) × (new ≡ service old.clock old.clock old.made (settled_in i old.streams))
+-- the place whose turn it is among so many: this one, where there is one, and else the first
+abbrev pub in_turn : ℕ → ℕ → ℕ
+in_turn count n = if nat_lt n count then n else 0
+
+-- and then the one after it, in a circle
+abbrev pub turn_after : ℕ → ℕ → ℕ
+turn_after count n = next_of count (in_turn count n)
+
+-- the service where the stream whose turn it is is settled; it remembers no earlier clock
+abbrev pub settled_in_turn : ServiceValue → ServiceValue
+settled_in_turn w =
+    let count = length w.streams in
+    record w { clock_before = w.clock; streams = settled_in (in_turn count w.turn) w.streams; turn = turn_after count w.turn }

@@ -14,15 +14,17 @@ use Rattle.kds_stream.specs.Value.{StreamValue}
 use Rattle.kds_service.specs.Lines.{AreOf}
 
 -- what contracts see of a service: its clock, what that was before the last advance, how many streams were made,
--- and the live streams in the order of their numbers
+-- the live streams in the order of their numbers, and the place of the one that is settled next
 pub record ServiceValue : Type 0 where
   pub clock : ℕ
   pub clock_before : ℕ
   pub made : ℕ
   pub streams : List StreamValue
+  pub turn : ℕ
 
+-- the first stream is settled next
 abbrev pub service : ℕ → ℕ → ℕ → List StreamValue → ServiceValue
-service c b n vs = record { clock = c; clock_before = b; made = n; streams = vs }
+service c b n vs = record { clock = c; clock_before = b; made = n; streams = vs; turn = 0 }
 
 abbrev pub names_of : List StreamValue → List (List ℕ)
 names_of vs = map (λ v. v.name) vs
@@ -49,13 +51,17 @@ abbrev pub AreShown : Journal → List StreamValue → Type 0
 AreShown log vs = AllByRecursion (λ v. Shows v log) vs
 
 -- the live streams of the journal are those of the service, and as many were made
-pub record ShowsAll (w : ServiceValue) (log : Journal) : Type 0 where
+pub record ShowsStreams (w : ServiceValue) (log : Journal) : Type 0 where
   pub made : made_count log ≡ w.made
   pub at : AreAt w.clock w.streams
   pub rising : IsRising 0 (numbers_of w.streams)
   pub shown : AreShown log w.streams
   pub others : (s : ℕ) → is_among (numbers_of w.streams) s ≡ false → is_live log s ≡ false
   pub unmade : (s : ℕ) → w.made < s → IsFresh log s
+
+-- ... so that whosever turn it is, the service shows the same
+abbrev pub ShowsAll : ServiceValue → Journal → Type 0
+ShowsAll w = ShowsStreams (record w { turn = 0 })
 
 -- it holds at whatever clock, of every journal that the streams show at it
 abbrev pub InJournalsOf : List StreamValue → (Journal → ℕ → Type 0) → Type 0

@@ -1,8 +1,9 @@
 //! The streams at a later clock, and back at the earlier one.
-ghost use Rattle.std.specs.Prelude.{◌≡◌, ◌≤◌, ◌<◌, ◌⊎◌, ℕ, [], length, map};
+ghost use Rattle.std.specs.Prelude.{◌≡◌, ◌≤◌, map};
 ghost use Rattle.indexmap.specs.IndexMap.{keys, values};
 ghost use Rattle.kds_defs.specs.Journal.{Journal};
-ghost use Rattle.kds_service.specs.Clocks.{advanced, retreated, settled_in};
+ghost use Rattle.kds_stream.specs.Value.{next_of};
+ghost use Rattle.kds_service.specs.Clocks.{advanced, in_turn, retreated, settled_in};
 ghost use Rattle.kds_service.specs.Shown.{AreAt, AreShown};
 
 use crate::places::Streams;
@@ -31,11 +32,21 @@ pub fn retreat_all(streams: &mut Streams)
     }
 }
 
-/// The place whose turn it is: this one, where a stream stands there, and else the first.
-pub fn place_in_turn(turn: usize, streams: &Streams) -> usize
-    ensures { (result < length (values streams.now)) ⊎ (values streams.now ≡ []) }
+/// The place whose turn it is among so many: this one, where there is one, and else the first.
+pub fn in_turn(count: usize, turn: usize) -> usize
+    ensures { result ≡ in_turn count turn }
 {
-    if turn < streams.len() { turn } else { 0 }
+    if turn < count { turn } else { 0 }
+}
+
+/// The place after this one of so many, in a circle.
+pub fn next_of(count: usize, place: usize) -> usize
+    ensures { result ≡ next_of count place }
+{
+    match place.checked_add(1) {
+        Some(next) if next < count => next,
+        _ => 0,
+    }
 }
 
 /// Drops trimmed records of the stream at a place, if there is one; no answer depends on it.

@@ -12,11 +12,11 @@ ghost use Rattle.kds_defs.specs.Records.{batch, stored};
 ghost use Rattle.kds_defs.specs.Shards.{shown};
 ghost use Rattle.kds_defs.specs.Streams.{live_streams};
 ghost use Rattle.kds_stream.specs.Reading.{read_ends};
-ghost use Rattle.kds_service.specs.Clocks.{CanGoBack, IsSettled, advanced, gone_back};
+ghost use Rattle.kds_service.specs.Clocks.{CanGoBack, advanced, gone_back, settled_in_turn};
 ghost use Rattle.kds_service.specs.Keyed.{is_listed_in, live_shard};
 ghost use Rattle.kds_service.specs.Shown.{Leads, ShowsAll, service};
 
-use crate::clocks::{advance_all, place_in_turn, retreat_all, settle_at};
+use crate::clocks::{advance_all, in_turn, next_of, retreat_all, settle_at};
 use crate::places::Streams;
 use crate::serve::serve;
 use crate::{laws, lease_keys};
@@ -45,7 +45,7 @@ impl Model for Service {
 
     ghost Value = { ServiceValue };
 
-    ghost view = { λ s. record { clock = s.clock; clock_before = s.clock_before; made = s.made; streams = values s.streams } };
+    ghost view = { λ s. record { clock = s.clock; clock_before = s.clock_before; made = s.made; streams = values s.streams; turn = s.turn } };
 
     ghost invariant = { λ s. ArePlaced s.clock s.streams.entries };
 }
@@ -69,7 +69,7 @@ impl Service {
     /// Raises the clock of the service and of every stream, in milliseconds, and drops nothing yet.
     pub fn advance(&mut self, clock: Moment)
         requires { self.old.clock ≤ clock }
-        ensures value { self.new ≡ service clock self.old.clock self.old.made (map (advanced clock) self.old.streams) }
+        ensures value { self.new ≡ record self.old { clock = clock; clock_before = self.old.clock; streams = map (advanced clock) self.old.streams } }
         ensures shows { (log : Journal) → ShowsAll self.old log → ShowsAll self.new log }
         ensures back { CanGoBack self.new }
         ensures shows_back { (log : Journal) → ShowsAll self.old log → ShowsAll (gone_back self.new) log }
@@ -89,17 +89,17 @@ impl Service {
         self.clock = self.clock_before;
     }
 
-    /// Drops trimmed records of one shard of one stream; no answer depends on it. The streams take turns, and so do
-    /// the shards of each, so that a turn costs the same however many there are.
+    /// Drops the trimmed records of one shard of the stream whose turn it is; no answer depends on it. The streams take
+    /// turns, and so do the shards of each, so that a call costs the same however many there are.
     pub fn settle(&mut self)
         ensures clock { self.new.clock ≡ self.old.clock }
-        ensures dropped { IsSettled self.old self.new }
+        ensures dropped { self.new ≡ settled_in_turn self.old }
         ensures shows { (log : Journal) → ShowsAll self.old log → ShowsAll self.new log }
     {
-        let turn = place_in_turn(self.turn, &self.streams);
-        settle_at(&mut self.streams, turn);
-        let next = turn.saturating_add(1);
-        self.turn = if next < self.streams.len() { next } else { 0 };
+        let count = self.streams.len();
+        let place = in_turn(count, self.turn);
+        settle_at(&mut self.streams, place);
+        self.turn = next_of(count, place);
         self.clock_before = self.clock;
     }
 
@@ -110,6 +110,7 @@ impl Service {
         requires own { is_service what ≡ true }
         ensures leads { IfOk result (Leads self.old self.new what) }
         ensures clock { self.new.clock ≡ self.old.clock }
+        ensures turn { self.new.turn ≡ self.old.turn }
         ensures kept { OnErr result (self.new ≡ self.old) }
     {
         let alloc = *self.streams.allocator();

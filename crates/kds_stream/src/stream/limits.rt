@@ -17,7 +17,7 @@ impl Stream {
     /// Limits.
     pub fn enforce(&mut self, on: bool) -> Answer
         ensures answered { Decides self.old self.new result (λ log by. enforce log self.old.clock by self.old.no on) }
-        ensures fields { (self.new.no ≡ self.old.no) × (self.new.name ≡ self.old.name) × (self.new.clock ≡ self.old.clock) }
+        ensures fields { (self.new.no ≡ self.old.no) × (self.new.name ≡ self.old.name) × (self.new.clock ≡ self.old.clock) × (self.new.turn ≡ self.old.turn) }
         ensures done { result ≡ Ok Reply.Done }
         ensures changed { IsChangedAt self.old self.new }
         ensures enforced { self.new.enforced ≡ on }

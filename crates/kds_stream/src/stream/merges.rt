@@ -37,7 +37,7 @@ impl Stream {
     /// (Kinesis API Reference, MergeShards).
     pub fn merge(&mut self, shard: ShardNo, other: ShardNo) -> Result<Answer, Memory>
         ensures answered { IfOk result (λ a. Decides self.old self.new a (λ log by. merge log self.old.clock by self.old.no shard other)) }
-        ensures fields { (self.new.no ≡ self.old.no) × (self.new.name ≡ self.old.name) × (self.new.clock ≡ self.old.clock) }
+        ensures fields { (self.new.no ≡ self.old.no) × (self.new.name ≡ self.old.name) × (self.new.clock ≡ self.old.clock) × (self.new.turn ≡ self.old.turn) }
         ensures refused { IfOk result (λ a. OnErr a (self.new ≡ self.old)) }
         ensures changed { IfOk result (λ a. OnOk a (IsChangedAt self.old self.new)) }
         ensures kept { OnErr result (self.new ≡ self.old) }

@@ -19,7 +19,7 @@ impl Stream {
     pub fn put(&mut self, item: NewItem) -> Result<Answer, Memory>
         requires { IsItem item }
         ensures answered { IfOk result (λ a. Decides self.old self.new a (λ log by. put log self.old.clock by self.old.no item)) }
-        ensures fields { (self.new.no ≡ self.old.no) × (self.new.name ≡ self.old.name) × (self.new.clock ≡ self.old.clock) }
+        ensures fields { (self.new.no ≡ self.old.no) × (self.new.name ≡ self.old.name) × (self.new.clock ≡ self.old.clock) × (self.new.turn ≡ self.old.turn) }
         ensures refused { IfOk result (λ a. OnErr a (self.new ≡ self.old)) }
         ensures changed { IfOk result (λ a. OnOk a (IsChangedAt self.old self.new)) }
         ensures kept { OnErr result (self.new ≡ self.old) }
@@ -54,7 +54,7 @@ impl Stream {
     pub fn put_many(&mut self, items: Items<NewItem>) -> Result<Answer, Memory>
         requires { AreItems items }
         ensures answered { IfOk result (λ a. Decides self.old self.new a (λ log by. put_many log self.old.clock by self.old.no items)) }
-        ensures fields { (self.new.no ≡ self.old.no) × (self.new.name ≡ self.old.name) × (self.new.clock ≡ self.old.clock) }
+        ensures fields { (self.new.no ≡ self.old.no) × (self.new.name ≡ self.old.name) × (self.new.clock ≡ self.old.clock) × (self.new.turn ≡ self.old.turn) }
         ensures refused { IfOk result (λ a. OnErr a (self.new ≡ self.old)) }
         ensures changed { IfOk result (λ a. OnOk a (IsChangedAt self.old self.new)) }
         ensures kept { OnErr result (self.new ≡ self.old) }
