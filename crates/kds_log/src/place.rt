@@ -36,7 +36,7 @@ pub fn first_since(records: &VecDeque<Stored>, floor: u64) -> Option<Seq>
     }
 }
 
-/// Gives memory back where at most a quarter of it is used. A list without records keeps none.
+/// Gives memory back. A list without records keeps none; that others keep at most four times what they use is meant, and no clause.
 fn give_back(records: &mut VecDeque<Stored>)
     ensures same { records.new.items ≡ records.old.items }
     ensures freed { records.old.items ≡ [] → deque_capacity records.new ≡ 0 }

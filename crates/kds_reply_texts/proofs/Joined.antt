@@ -27,24 +27,9 @@ begun t u a nothing first = first ∙ ap (λ ts. ts ++ a) nothing
 pub added : {A : Type 0} (u v a b : List A) → u ≡ a → v ≡ u ++ b → v ≡ a ++ b
 added u v a b first second = second ∙ ap (λ ts. ts ++ b) first
 
-pub place_tokens : (p : Place) (id : List ℕ) → id ≡ shard_id p.shard
-    → begin_object ∷ key (codes "SequenceNumber") ∷ string (decimal p.seq) ∷ key (codes "ShardId") ∷ string id ∷ end_object ∷ [] ≡ tokens_of (place_data p)
-unfolding place_data
-place_tokens p id is_id = rw is_id refl
-
-pub failed_tokens : (name message : List ℕ)
-    → begin_object ∷ key (codes "ErrorCode") ∷ string name ∷ key (codes "ErrorMessage") ∷ string message ∷ end_object ∷ [] ≡ tokens_of (failed_data name message)
-unfolding failed_data
-failed_tokens name message = refl
-
 pub error_tokens : (name message : List ℕ)
     → begin_object ∷ key (codes "__type") ∷ string name ∷ key (codes "message") ∷ string message ∷ end_object ∷ [] ≡ tokens_of (error_data name message)
 error_tokens name message = refl
-
-pub outcomes_tokens : (os : List Outcome) (n : ℕ) → n ≡ failed_count os
-    → (begin_object ∷ key (codes "FailedRecordCount") ∷ number (decimal n) ∷ key (codes "Records") ∷ tokens_of (list_data outcome_data os)) ++ end_object ∷ [] ≡ tokens_of (outcomes_data os)
-unfolding outcomes_data
-outcomes_tokens os n is = rw is refl
 
 pub iterator_tokens : (i : Iter) (token : List ℕ) → token ≡ iter_token i
     → begin_object ∷ key (codes "ShardIterator") ∷ string token ∷ end_object ∷ [] ≡ tokens_of (iterator_data i)

@@ -2,3 +2,4 @@ pub mod Joined
 pub mod TokenTexts
 pub mod PlainTexts
 pub mod RecordTexts
+pub mod PlaceTexts

@@ -80,16 +80,17 @@ record_pieces r n payload name is_n is_payload is_name =
     (codes "\",\"PartitionKey\":\"") (escape (utf8_lossy r.key)) (codes "\",\"SequenceNumber\":\"") (escape (decimal r.seq)) (codes "\"}")
     ∙ record_text r)
 
--- ---- records one after another
+-- ---- items one after another, as records and outcomes are
 
-pub next_record : (batch : List Stored) (i : ℕ) (x : Stored) (later : Bool) (out parted more all : List ℕ) → i < length batch → x ≡ get_or batch i x
-    → parted ≡ out ++ comma_if later → more ≡ parted ++ compact_text (record_data x)
-    → out ++ items_text later (items_of (map record_data (drop i batch))) ≡ all
-    → more ++ items_text true (items_of (map record_data (drop (i + 1) batch))) ≡ all
-next_record batch i x later out parted more all inside is comma text whole =
-    let rest = items_text true (items_of (map record_data (drop (i + 1) batch))) in
-    let here : drop i batch ≡ x ∷ drop (i + 1) batch = drop_more batch i x inside ∙ ap (λ (y : Stored). y ∷ drop (i + 1) batch) (sym is) in
-    let joined : more ++ rest ≡ out ++ (comma_if later ++ (compact_text (record_data x) ++ rest)) =
-    ap (λ (s : List ℕ). s ++ rest) (text ∙ ap (λ (s : List ℕ). s ++ compact_text (record_data x)) comma)
-    ∙ append_assoc (out ++ comma_if later) (compact_text (record_data x)) rest ∙ append_assoc out (comma_if later) (compact_text (record_data x) ++ rest) in
-    joined ∙ ap (λ (rs : List Stored). out ++ items_text later (items_of (map record_data rs))) (sym here) ∙ whole
+pub next_item : {A : Type 0} (f : A → Data) (xs : List A) (i : ℕ) (x : A) (later : Bool) (out parted more all : List ℕ)
+    → i < length xs → x ≡ get_or xs i x
+    → parted ≡ out ++ comma_if later → more ≡ parted ++ compact_text (f x)
+    → out ++ items_text later (items_of (map f (drop i xs))) ≡ all
+    → more ++ items_text true (items_of (map f (drop (i + 1) xs))) ≡ all
+next_item f xs i x later out parted more all inside is comma text whole =
+    let rest = items_text true (items_of (map f (drop (i + 1) xs))) in
+    let here : drop i xs ≡ x ∷ drop (i + 1) xs = drop_more xs i x inside ∙ ap (λ y. y ∷ drop (i + 1) xs) (sym is) in
+    let joined : more ++ rest ≡ out ++ (comma_if later ++ (compact_text (f x) ++ rest)) =
+    ap (λ (s : List ℕ). s ++ rest) (text ∙ ap (λ (s : List ℕ). s ++ compact_text (f x)) comma)
+    ∙ append_assoc (out ++ comma_if later) (compact_text (f x)) rest ∙ append_assoc out (comma_if later) (compact_text (f x) ++ rest) in
+    joined ∙ ap (λ ys. out ++ items_text later (items_of (map f ys))) (sym here) ∙ whole

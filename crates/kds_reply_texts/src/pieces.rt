@@ -131,6 +131,14 @@ pub fn put_escaped(out: &mut Vec<u8>, alloc: Global, bytes: &[u8]) -> Result<(),
     Ok(())
 }
 
+/// Adds text as it stands between the quotes of a string.
+pub fn put_str(out: &mut Vec<u8>, alloc: Global, text: &str) -> Result<(), Memory>
+    ensures { OnOk result (out.new.items ≡ out.old.items ++ escape text.now) }
+{
+    put_escaped(out, alloc, text.as_bytes())?;
+    Ok(())
+}
+
 /// The string of a text, with its quotes. It is only asked for where a byte is escaped or replaced.
 #[inline(never)]
 fn string_of(alloc: Global, bytes: &[u8]) -> Result<Vec<u8>, Memory>

@@ -7,7 +7,7 @@ ghost use Rattle.kds_reply_texts.specs.Writing.{tokens_of};
 
 use itoa::Buffer;
 use json::Writer;
-use kds_base::{Memory, Octets, Seq};
+use kds_base::{Memory, Octets};
 use std::alloc::Global;
 
 /// A writer that has written nothing, with room for so many bytes.
@@ -60,16 +60,6 @@ pub fn put_number(out: &mut Writer, name: &str, n: u64) -> Result<(), Memory>
 {
     out.key(name)?;
     out.u64(n)?;
-    Ok(())
-}
-
-/// Adds a member that is a sequence number, which is a decimal string.
-pub fn put_sequence(out: &mut Writer, name: &str, seq: Seq) -> Result<(), Memory>
-    ensures ok { OnOk result (out.new.tokens ≡ out.old.tokens ++ key name.now ∷ string (decimal seq) ∷ []) }
-    ensures before { out.new.before ≡ out.old.before }
-{
-    out.key(name)?;
-    out.quoted_u64(seq.0)?;
     Ok(())
 }
 
