@@ -1,3 +1,4 @@
+pub mod Kept
 pub mod ManyRecords
 pub mod Objects
 pub mod Puts

@@ -1,7 +1,8 @@
 //! From an operation and a body to a command.
 ghost use Rattle.std.specs.Prelude.{◌≡◌, ℕ, List, Ok, IsUtf8, IfOk, IfErr, option_map};
 ghost use Rattle.kds_defs.specs.declared.command.Command.{Command};
-ghost use Rattle.kds_json_value.specs.View.{view};
+ghost use Rattle.serde_json.specs.View.{view};
+ghost use Rattle.kds_json_members.specs.Member.{object_view};
 ghost use Rattle.kds_json_members.specs.Reading.{Gives};
 ghost use Rattle.kds_json.specs.Asked.{object_of, read_body, members_of, asked, IsRequest};
 
@@ -15,45 +16,41 @@ use crate::streams::{
 };
 use kds_base::Memory;
 use kds_defs::Command;
-use kds_json_members::{Fault, FaultKind, Stop, stop_at};
-use kds_json_value::{Datum, Refused, Scratch, read_datum};
+use kds_json_members::{Fault, FaultKind, Stop, object_members, stop_at};
+use serde_json::{Map, Value};
 use std::alloc::Global;
 
 /// What a body reads as, if it is JSON in UTF-8.
-fn parsed<'a>(
-    alloc: Global,
-    scratch: &'a mut Scratch,
-    body: &'a [u8],
-) -> Result<Option<Datum<'a>>, Memory>
+fn parsed(alloc: Global, body: &[u8]) -> Result<Option<Value>, Memory>
     ensures { IfOk result (λ o. option_map view o ≡ read_body body.now) }
 {
-    match read_datum(alloc, body, scratch) {
+    match Value::from_slice(alloc, body) {
         Ok(value) => Ok(Some(value)),
-        Err(Refused::Invalid) => Ok(None),
-        Err(Refused::Memory) => Err(Memory),
+        Err(e) => { if e.is_memory() { Err(Memory) } else { Ok(None) } }
     }
 }
 
 /// The object that a body is.
 #[tactic(auto, using(crate::proofs::Objects::objects))]
-fn object<'a>(alloc: Global, scratch: &'a mut Scratch, body: &'a [u8]) -> Result<Datum<'a>, Stop>
-    ensures { Gives view result (object_of body.now) }
+fn object(alloc: Global, body: &[u8]) -> Result<Map<String, Value>, Stop>
+    ensures { Gives object_view result (object_of body.now) }
 {
-    match parsed(alloc, scratch, body)? {
-        Some(value) => {
-            if value.is_object() {
-                Ok(value)
-            } else {
-                Err(stop_at(alloc, FaultKind::Serialization, ""))
-            }
-        }
+    let Some(value) = parsed(alloc, body)? else {
+        return Err(stop_at(alloc, FaultKind::Serialization, ""));
+    };
+    match object_members(value) {
+        Some(object) => Ok(object),
         None => Err(stop_at(alloc, FaultKind::Serialization, "")),
     }
 }
 
 /// The command that the members of an operation ask for.
-fn members(alloc: Global, operation: Operation, object: &Datum<'_>) -> Result<Command, Stop>
-    ensures { Gives (λ c. c) result (members_of operation (view object.now)) }
+fn members(
+    alloc: Global,
+    operation: Operation,
+    object: &mut Map<String, Value>,
+) -> Result<Command, Stop>
+    ensures { Gives (λ c. c) result (members_of operation (object_view object.old)) }
 {
     match operation {
         Operation::CreateStream => create_stream(alloc, object),
@@ -77,18 +74,13 @@ fn members(alloc: Global, operation: Operation, object: &Datum<'_>) -> Result<Co
 
 /// An operation that isn't known is refused before its body is read.
 #[tactic(auto, unfolding(crate::specs::Asked::asked))]
-fn command(
-    alloc: Global,
-    scratch: &mut Scratch,
-    operation: &[u8],
-    body: &[u8],
-) -> Result<Command, Stop>
+fn command(alloc: Global, operation: &[u8], body: &[u8]) -> Result<Command, Stop>
     ensures { Gives (λ c. c) result (asked operation.now body.now) }
 {
     match operation_named(operation) {
         Some(operation) => {
-            let object = object(alloc, scratch, body)?;
-            members(alloc, operation, &object)
+            let mut object = object(alloc, body)?;
+            members(alloc, operation, &mut object)
         }
         None => Err(stop_at(alloc, FaultKind::Unknown, "")),
     }
@@ -96,20 +88,15 @@ fn command(
 
 /// The command that an operation and its body ask for, or the first fault of the request
 /// (Kinesis API Reference, Actions and Common Errors). A body that nests deeper than 127 levels isn't read,
-/// so it is `Serialization`. `scratch` is room that is used again. `Memory` is want of memory.
-pub fn ask(
-    alloc: Global,
-    scratch: &mut Scratch,
-    operation: &[u8],
-    body: &[u8],
-) -> Result<Result<Command, Fault>, Memory>
+/// so it is `Serialization`. `Memory` is want of memory.
+pub fn ask(alloc: Global, operation: &[u8], body: &[u8]) -> Result<Result<Command, Fault>, Memory>
     ensures value { IfOk result (λ r. r ≡ asked operation.now body.now) }
 
     // A command may be asked of a machine, whose stream service answers it. The member of a fault can be printed.
     ensures lawful { IfOk result (λ r. IfOk r IsRequest) }
     ensures text { IfOk result (λ r. IfErr r (λ fault. IsUtf8 fault.member)) }
 {
-    match command(alloc, scratch, operation, body) {
+    match command(alloc, operation, body) {
         Ok(what) => Ok(Ok(what)),
         Err(Stop::Fault(fault)) => Ok(Err(fault)),
         Err(Stop::Memory) => Err(Memory),

@@ -1,2 +1,4 @@
 pub mod Digests
 pub mod Members
+pub mod Taken
+pub mod Nulls

@@ -1,11 +1,20 @@
 -- The members of a request: which must be there, which may be, and what is wrong with them. A member that is
 -- null counts as absent.
-use Rattle.std.specs.Prelude.{ℕ, List, Option, Some, None, option_and_then, Result, Ok, Err, ⊤}
+use Rattle.std.specs.Prelude.{◌≡◌, ℕ, List, false, Option, Some, None, option_and_then, Result, Ok, Err, ⊤, String}
+use Rattle.std.specs.BTreeMap.{BTreeMap}
+use Rattle.std.specs.Str.{bytes_eq}
+use Rattle.std.specs.declared.alloc.Global.{Global}
 use Rattle.serde_json.specs.Data.{Data, null, boolean, number, string, array, object}
 use Rattle.serde_json.specs.Find.{get, as_str}
+use Rattle.serde_json.specs.View.{members_view}
+use Rattle.serde_json.specs.declared.value.Value.{Value}
 use Rattle.kds_json_members.specs.declared.problem.Fault.{Fault}
 use Rattle.kds_json_members.specs.declared.problem.FaultKind.TheVariants.{Missing, Invalid, Token}
 use Rattle.kds_json_members.specs.Reading.{◌>>=◌, fault_of, some_or}
+
+-- the object that a map of members stands for
+abbrev pub object_view : BTreeMap (String Global) Value → Data
+object_view m = object (members_view m.entries)
 
 abbrev pub unless_null : Data → Option Data
 unless_null null = None
@@ -18,6 +27,10 @@ unless_null (object ms) = Some (object ms)
 -- the member of this name, if it is there
 abbrev pub member_of : List ℕ → Data → Option Data
 member_of name d = option_and_then unless_null (get name d)
+
+-- every member but that of this name reads as before
+abbrev pub KeepsOthers : List ℕ → Data → Data → Type 0
+KeepsOthers name before after = (other : List ℕ) → bytes_eq other name ≡ false → member_of other after ≡ member_of other before
 
 -- a member that must be there
 abbrev pub required : List ℕ → Data → Result Data Fault

@@ -8,7 +8,7 @@ mod problem;
 mod texts;
 mod tokens;
 
-pub use member::{absent_member, has_member, required_member, stop_at, value_at};
+pub use member::{absent_member, has_member, object_members, stop_at, take_required, value_at};
 pub use numbers::{
     hash_member, id_member, moment_member, number_member, optional_id, optional_limit, record_hash,
     sequence_member,

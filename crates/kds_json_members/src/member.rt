@@ -1,13 +1,15 @@
-//! A member of a request that must be there, that may be, or that must not. A member that is null counts as
-//! absent.
-ghost use Rattle.std.specs.Prelude.{◌≡◌, option_map, is_some};
-ghost use Rattle.kds_json_value.specs.View.{view};
+//! A member of a request that must be there, that may be, or that must not, looked at or taken out. A member that is null
+//! counts as absent.
+ghost use Rattle.std.specs.Prelude.{◌≡◌, is_some, option_map};
+ghost use Rattle.serde_json.specs.Data.{object};
+ghost use Rattle.serde_json.specs.Find.{as_object};
+ghost use Rattle.serde_json.specs.View.{view};
 ghost use Rattle.kds_json_members.specs.Reading.{IsStop, Gives, fault_of, some_or};
-ghost use Rattle.kds_json_members.specs.Member.{member_of, required, absent_at};
+ghost use Rattle.kds_json_members.specs.Member.{object_view, member_of, KeepsOthers, required, absent_at};
 
 use crate::problem::{Fault, FaultKind, Stop};
 use kds_base::Octets;
-use kds_json_value::Datum;
+use serde_json::{Map, Value};
 use std::alloc::Global;
 
 /// A fault at a member.
@@ -35,9 +37,19 @@ pub fn value_at<T: Drop>(
     }
 }
 
+/// The members of a value, if it is an object.
+pub fn object_members(value: Value) -> Option<Map<String, Value>>
+    ensures { option_map object_view result ≡ option_map object (as_object (view value)) }
+{
+    match value {
+        Value::Object(members) => Some(members),
+        _ => None,
+    }
+}
+
 /// A member that is there and isn't null.
-pub fn member<'v, 'a>(object: &'v Datum<'a>, name: &str) -> Option<&'v Datum<'a>>
-    ensures { option_map (λ v. view v.now) result ≡ member_of name.now (view object.now) }
+pub fn member<'a>(object: &'a Map<String, Value>, name: &str) -> Option<&'a Value>
+    ensures { option_map (λ v. view v.now) result ≡ member_of name.now (object_view object.now) }
 {
     match object.get(name) {
         Some(value) => { if value.is_null() { None } else { Some(value) } }
@@ -46,19 +58,30 @@ pub fn member<'v, 'a>(object: &'v Datum<'a>, name: &str) -> Option<&'v Datum<'a>
 }
 
 /// Whether a member is there and isn't null.
-pub fn has_member(object: &Datum<'_>, name: &str) -> bool
-    ensures { result ≡ is_some (member_of name.now (view object.now)) }
+pub fn has_member(object: &Map<String, Value>, name: &str) -> bool
+    ensures { result ≡ is_some (member_of name.now (object_view object.now)) }
 {
     member(object, name).is_some()
 }
 
+/// Takes a member out that is there and isn't null. The others stay.
+pub fn take_member(object: &mut Map<String, Value>, name: &str) -> Option<Value>
+    ensures value { option_map view result ≡ member_of name.now (object_view object.old) }
+    ensures others { KeepsOthers name.now (object_view object.old) (object_view object.new) }
+{
+    match object.remove(name) {
+        Some(taken) => { if taken.is_null() { None } else { Some(taken) } }
+        None => None,
+    }
+}
+
 /// A member that must be there.
-pub fn required_member<'v, 'a>(
+pub fn required_member<'a>(
     alloc: Global,
-    object: &'v Datum<'a>,
+    object: &'a Map<String, Value>,
     name: &str,
-) -> Result<&'v Datum<'a>, Stop>
-    ensures { Gives (λ v. view v.now) result (required name.now (view object.now)) }
+) -> Result<&'a Value, Stop>
+    ensures { Gives (λ v. view v.now) result (required name.now (object_view object.now)) }
 {
     match member(object, name) {
         Some(value) => Ok(value),
@@ -66,9 +89,24 @@ pub fn required_member<'v, 'a>(
     }
 }
 
+/// Takes out a member that must be there.
+pub fn take_required(
+    alloc: Global,
+    object: &mut Map<String, Value>,
+    name: &str,
+) -> Result<Value, Stop>
+    ensures value { Gives view result (required name.now (object_view object.old)) }
+    ensures others { KeepsOthers name.now (object_view object.old) (object_view object.new) }
+{
+    match take_member(object, name) {
+        Some(value) => Ok(value),
+        None => Err(stop_at(alloc, FaultKind::Missing, name)),
+    }
+}
+
 /// A member that must not be there.
-pub fn absent_member(alloc: Global, object: &Datum<'_>, name: &str) -> Result<(), Stop>
-    ensures { Gives (λ u. u) result (absent_at name.now (view object.now)) }
+pub fn absent_member(alloc: Global, object: &Map<String, Value>, name: &str) -> Result<(), Stop>
+    ensures { Gives (λ u. u) result (absent_at name.now (object_view object.now)) }
 {
     match member(object, name) {
         Some(_) => Err(stop_at(alloc, FaultKind::Invalid, name)),

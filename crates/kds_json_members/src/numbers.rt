@@ -1,19 +1,19 @@
 //! Members that are numbers, moments, hash keys, sequence numbers and the ids of shards.
 ghost use Rattle.std.specs.Prelude.{◌≡◌, None};
-ghost use Rattle.kds_json_value.specs.View.{view};
+ghost use Rattle.serde_json.specs.View.{view};
 ghost use Rattle.kds_json_members.specs.Reading.{Gives};
-ghost use Rattle.kds_json_members.specs.Member.{required_at, optional_at};
+ghost use Rattle.kds_json_members.specs.Member.{object_view, required_at, optional_at};
 ghost use Rattle.kds_json_members.specs.Kinds.{number_in, moment_in, hash_in, hash_at, sequence_in, id_in, some_id_in};
 
 use crate::member::{member, required_member, stop_at, value_at};
 use crate::problem::{FaultKind, Stop};
 use kds_base::{Moment, Octets, Seq, ShardNo, hash_of, read_u64, read_u128};
 use kds_defs::limits::MOST_SECONDS;
-use kds_json_value::Datum;
 use kds_token::read_shard_id;
+use serde_json::{Map, Value};
 use std::alloc::Global;
 
-fn number_value(value: &Datum<'_>, low: u32, high: u32) -> Option<u32>
+fn number_value(value: &Value, low: u32, high: u32) -> Option<u32>
     ensures { result ≡ number_in low high (view value.now) }
 {
     match value.as_u64() {
@@ -26,12 +26,12 @@ fn number_value(value: &Datum<'_>, low: u32, high: u32) -> Option<u32>
 #[tactic(auto, unfolding(crate::specs::Member::required_at))]
 pub fn number_member(
     alloc: Global,
-    object: &Datum<'_>,
+    object: &Map<String, Value>,
     name: &str,
     low: u32,
     high: u32,
 ) -> Result<u32, Stop>
-    ensures { Gives (λ x. x) result (required_at (number_in low high) name.now (view object.now)) }
+    ensures { Gives (λ x. x) result (required_at (number_in low high) name.now (object_view object.now)) }
 {
     let value = required_member(alloc, object, name)?;
     let number = number_value(value, low, high);
@@ -42,12 +42,12 @@ pub fn number_member(
 #[tactic(auto, unfolding(crate::specs::Member::optional_at))]
 pub fn optional_limit(
     alloc: Global,
-    object: &Datum<'_>,
+    object: &Map<String, Value>,
     name: &str,
     high: u32,
     default: u32,
 ) -> Result<u32, Stop>
-    ensures { Gives (λ x. x) result (optional_at default (number_in 1 high) name.now (view object.now)) }
+    ensures { Gives (λ x. x) result (optional_at default (number_in 1 high) name.now (object_view object.now)) }
 {
     match member(object, name) {
         Some(value) => value_at(
@@ -60,7 +60,7 @@ pub fn optional_limit(
     }
 }
 
-fn moment_value(value: &Datum<'_>) -> Option<Moment>
+fn moment_value(value: &Value) -> Option<Moment>
     ensures { result ≡ moment_in (view value.now) }
 {
     match value.as_u64() {
@@ -71,14 +71,14 @@ fn moment_value(value: &Datum<'_>) -> Option<Moment>
 
 /// A moment in whole seconds (Kinesis API Reference, GetShardIterator, Timestamp).
 #[tactic(auto, unfolding(crate::specs::Member::required_at))]
-pub fn moment_member(alloc: Global, object: &Datum<'_>, name: &str) -> Result<Moment, Stop>
-    ensures { Gives (λ x. x) result (required_at moment_in name.now (view object.now)) }
+pub fn moment_member(alloc: Global, object: &Map<String, Value>, name: &str) -> Result<Moment, Stop>
+    ensures { Gives (λ x. x) result (required_at moment_in name.now (object_view object.now)) }
 {
     let value = required_member(alloc, object, name)?;
     value_at(alloc, FaultKind::Invalid, name, moment_value(value))
 }
 
-fn hash_value(value: &Datum<'_>) -> Option<u128>
+fn hash_value(value: &Value) -> Option<u128>
     ensures { result ≡ hash_in (view value.now) }
 {
     match value.as_str() {
@@ -89,8 +89,8 @@ fn hash_value(value: &Datum<'_>) -> Option<u128>
 
 /// A hash key.
 #[tactic(auto, unfolding(crate::specs::Member::required_at))]
-pub fn hash_member(alloc: Global, object: &Datum<'_>, name: &str) -> Result<u128, Stop>
-    ensures { Gives (λ x. x) result (required_at hash_in name.now (view object.now)) }
+pub fn hash_member(alloc: Global, object: &Map<String, Value>, name: &str) -> Result<u128, Stop>
+    ensures { Gives (λ x. x) result (required_at hash_in name.now (object_view object.now)) }
 {
     let value = required_member(alloc, object, name)?;
     value_at(alloc, FaultKind::Invalid, name, hash_value(value))
@@ -101,11 +101,11 @@ pub fn hash_member(alloc: Global, object: &Datum<'_>, name: &str) -> Result<u128
 #[tactic(auto, unfolding(crate::specs::Kinds::hash_at, crate::specs::Member::optional_at))]
 pub fn record_hash(
     alloc: Global,
-    object: &Datum<'_>,
+    object: &Map<String, Value>,
     name: &str,
     key: &Octets,
 ) -> Result<u128, Stop>
-    ensures { Gives (λ x. x) result (hash_at key.now name.now (view object.now)) }
+    ensures { Gives (λ x. x) result (hash_at key.now name.now (object_view object.now)) }
 {
     match member(object, name) {
         Some(value) => value_at(alloc, FaultKind::Invalid, name, hash_value(value)),
@@ -113,7 +113,7 @@ pub fn record_hash(
     }
 }
 
-fn sequence_value(value: &Datum<'_>) -> Option<Seq>
+fn sequence_value(value: &Value) -> Option<Seq>
     ensures { result ≡ sequence_in (view value.now) }
 {
     match value.as_str() {
@@ -127,14 +127,14 @@ fn sequence_value(value: &Datum<'_>) -> Option<Seq>
 
 /// A sequence number.
 #[tactic(auto, unfolding(crate::specs::Member::required_at))]
-pub fn sequence_member(alloc: Global, object: &Datum<'_>, name: &str) -> Result<Seq, Stop>
-    ensures { Gives (λ x. x) result (required_at sequence_in name.now (view object.now)) }
+pub fn sequence_member(alloc: Global, object: &Map<String, Value>, name: &str) -> Result<Seq, Stop>
+    ensures { Gives (λ x. x) result (required_at sequence_in name.now (object_view object.now)) }
 {
     let value = required_member(alloc, object, name)?;
     value_at(alloc, FaultKind::Invalid, name, sequence_value(value))
 }
 
-fn id_value(value: &Datum<'_>) -> Option<ShardNo>
+fn id_value(value: &Value) -> Option<ShardNo>
     ensures { result ≡ id_in (view value.now) }
 {
     match value.as_str() {
@@ -145,8 +145,8 @@ fn id_value(value: &Datum<'_>) -> Option<ShardNo>
 
 /// A shard's id.
 #[tactic(auto, unfolding(crate::specs::Member::required_at))]
-pub fn id_member(alloc: Global, object: &Datum<'_>, name: &str) -> Result<ShardNo, Stop>
-    ensures { Gives (λ x. x) result (required_at id_in name.now (view object.now)) }
+pub fn id_member(alloc: Global, object: &Map<String, Value>, name: &str) -> Result<ShardNo, Stop>
+    ensures { Gives (λ x. x) result (required_at id_in name.now (object_view object.now)) }
 {
     let value = required_member(alloc, object, name)?;
     value_at(alloc, FaultKind::Invalid, name, id_value(value))
@@ -154,8 +154,12 @@ pub fn id_member(alloc: Global, object: &Datum<'_>, name: &str) -> Result<ShardN
 
 /// A shard's id, if there is one.
 #[tactic(auto, unfolding(crate::specs::Member::optional_at))]
-pub fn optional_id(alloc: Global, object: &Datum<'_>, name: &str) -> Result<Option<ShardNo>, Stop>
-    ensures { Gives (λ x. x) result (optional_at None some_id_in name.now (view object.now)) }
+pub fn optional_id(
+    alloc: Global,
+    object: &Map<String, Value>,
+    name: &str,
+) -> Result<Option<ShardNo>, Stop>
+    ensures { Gives (λ x. x) result (optional_at None some_id_in name.now (object_view object.now)) }
 {
     let Some(value) = member(object, name) else {
         return Ok(None);

@@ -1,24 +1,28 @@
 //! Members that are names, modes, truth values, partition keys and payloads.
 ghost use Rattle.std.specs.Prelude.{◌≡◌, ◌+◌, length, chars, nat_le, None, IfOk};
 ghost use Rattle.serde_json.specs.Find.{as_str, as_bool};
-ghost use Rattle.kds_json_value.specs.View.{view};
+ghost use Rattle.serde_json.specs.View.{view};
 ghost use Rattle.kds_defs.specs.declared.limits.TheConstants.{RECORD_BYTES as most_bytes};
 ghost use Rattle.kds_json_members.specs.Reading.{Gives};
-ghost use Rattle.kds_json_members.specs.Member.{required_at, optional_at};
+ghost use Rattle.kds_json_members.specs.Member.{object_view, required_at, optional_at, KeepsOthers};
 ghost use Rattle.kds_json_members.specs.Kinds.{name_in, some_name_in, mode_in, scaling_in, is_partition_key as is_key, key_in, blob_in};
 
-use crate::member::{member, required_member, stop_at, value_at};
+use crate::member::{member, required_member, stop_at, take_member, take_required, value_at};
 use crate::problem::{FaultKind, Stop};
 use kds_base::{Memory, Name, Octets};
 use kds_defs::limits::{KEY_CHARACTERS, RECORD_BYTES};
-use kds_json_value::Datum;
 use kds_token::decoded;
+use serde_json::{Map, Value};
 use std::alloc::Global;
 
 /// A text.
 #[tactic(auto, unfolding(crate::specs::Member::required_at))]
-pub fn text_member<'a>(alloc: Global, object: &Datum<'a>, name: &str) -> Result<&'a str, Stop>
-    ensures { Gives (λ s. s.now) result (required_at as_str name.now (view object.now)) }
+pub fn text_member<'a>(
+    alloc: Global,
+    object: &'a Map<String, Value>,
+    name: &str,
+) -> Result<&'a str, Stop>
+    ensures { Gives (λ s. s.now) result (required_at as_str name.now (object_view object.now)) }
 {
     let value = required_member(alloc, object, name)?;
     match value.as_str() {
@@ -27,43 +31,49 @@ pub fn text_member<'a>(alloc: Global, object: &Datum<'a>, name: &str) -> Result<
     }
 }
 
-fn name_value(alloc: Global, value: &Datum<'_>) -> Result<Option<Name>, Memory>
-    ensures { IfOk result (λ o. o ≡ name_in (view value.now)) }
+fn name_value(value: Value) -> Option<Name>
+    ensures { result ≡ name_in (view value) }
 {
-    match value.as_str() {
-        Some(text) => Ok(Name::read(alloc, text.as_bytes())?),
-        None => Ok(None),
+    match value {
+        Value::String(text) => Name::from_vec(text.into_bytes()),
+        _ => None,
     }
 }
 
-/// The name of a stream.
+/// The name of a stream, which is taken out.
 #[tactic(auto, unfolding(crate::specs::Member::required_at))]
-pub fn name_member(alloc: Global, object: &Datum<'_>, name: &str) -> Result<Name, Stop>
-    ensures { Gives (λ x. x) result (required_at name_in name.now (view object.now)) }
+pub fn name_member(alloc: Global, object: &mut Map<String, Value>, name: &str) -> Result<Name, Stop>
+    ensures value { Gives (λ x. x) result (required_at name_in name.now (object_view object.old)) }
+    ensures others { KeepsOthers name.now (object_view object.old) (object_view object.new) }
 {
-    let value = required_member(alloc, object, name)?;
-    value_at(alloc, FaultKind::Invalid, name, name_value(alloc, value)?)
+    let value = take_required(alloc, object, name)?;
+    value_at(alloc, FaultKind::Invalid, name, name_value(value))
 }
 
-/// The name of a stream, if there is one.
+/// The name of a stream, which is taken out, if there is one.
 #[tactic(auto, unfolding(crate::specs::Member::optional_at))]
-pub fn optional_name(alloc: Global, object: &Datum<'_>, name: &str) -> Result<Option<Name>, Stop>
-    ensures { Gives (λ x. x) result (optional_at None some_name_in name.now (view object.now)) }
+pub fn optional_name(
+    alloc: Global,
+    object: &mut Map<String, Value>,
+    name: &str,
+) -> Result<Option<Name>, Stop>
+    ensures value { Gives (λ x. x) result (optional_at None some_name_in name.now (object_view object.old)) }
+    ensures others { KeepsOthers name.now (object_view object.old) (object_view object.new) }
 {
-    let Some(value) = member(object, name) else {
+    let Some(value) = take_member(object, name) else {
         return Ok(None);
     };
-    match name_value(alloc, value)? {
+    match name_value(value) {
         Some(stream) => Ok(Some(stream)),
         None => Err(stop_at(alloc, FaultKind::Invalid, name)),
     }
 }
 
-fn mode_value(value: &Datum<'_>) -> Option<()>
+#[tactic(auto, using(crate::proofs::Nulls::text_unless_null))]
+fn mode_value(value: &Value) -> Option<()>
     ensures { result ≡ mode_in (view value.now) }
 {
-    let mode = member(value, "StreamMode")?;
-    match mode.as_str() {
+    match value.get("StreamMode")?.as_str() {
         Some("PROVISIONED") => Some(()),
         _ => None,
     }
@@ -72,8 +82,8 @@ fn mode_value(value: &Datum<'_>) -> Option<()>
 /// The mode of a stream, if there is one. Only provisioned streams are made
 /// (Kinesis API Reference, StreamModeDetails).
 #[tactic(auto, unfolding(crate::specs::Member::optional_at))]
-pub fn mode_member(alloc: Global, object: &Datum<'_>, name: &str) -> Result<(), Stop>
-    ensures { Gives (λ u. u) result (optional_at tt mode_in name.now (view object.now)) }
+pub fn mode_member(alloc: Global, object: &Map<String, Value>, name: &str) -> Result<(), Stop>
+    ensures { Gives (λ u. u) result (optional_at tt mode_in name.now (object_view object.now)) }
 {
     match member(object, name) {
         Some(value) => value_at(alloc, FaultKind::Invalid, name, mode_value(value)),
@@ -81,7 +91,7 @@ pub fn mode_member(alloc: Global, object: &Datum<'_>, name: &str) -> Result<(), 
     }
 }
 
-fn scaling_value(value: &Datum<'_>) -> Option<()>
+fn scaling_value(value: &Value) -> Option<()>
     ensures { result ≡ scaling_in (view value.now) }
 {
     match value.as_str() {
@@ -92,8 +102,8 @@ fn scaling_value(value: &Datum<'_>) -> Option<()>
 
 /// The kind of a scaling, which is always to uniform ranges (Kinesis API Reference, UpdateShardCount, ScalingType).
 #[tactic(auto, unfolding(crate::specs::Member::required_at))]
-pub fn scaling_member(alloc: Global, object: &Datum<'_>, name: &str) -> Result<(), Stop>
-    ensures { Gives (λ u. u) result (required_at scaling_in name.now (view object.now)) }
+pub fn scaling_member(alloc: Global, object: &Map<String, Value>, name: &str) -> Result<(), Stop>
+    ensures { Gives (λ u. u) result (required_at scaling_in name.now (object_view object.now)) }
 {
     let value = required_member(alloc, object, name)?;
     value_at(alloc, FaultKind::Invalid, name, scaling_value(value))
@@ -101,8 +111,8 @@ pub fn scaling_member(alloc: Global, object: &Datum<'_>, name: &str) -> Result<(
 
 /// A truth value.
 #[tactic(auto, unfolding(crate::specs::Member::required_at))]
-pub fn truth_member(alloc: Global, object: &Datum<'_>, name: &str) -> Result<bool, Stop>
-    ensures { Gives (λ b. b) result (required_at as_bool name.now (view object.now)) }
+pub fn truth_member(alloc: Global, object: &Map<String, Value>, name: &str) -> Result<bool, Stop>
+    ensures { Gives (λ b. b) result (required_at as_bool name.now (object_view object.now)) }
 {
     let value = required_member(alloc, object, name)?;
     value_at(alloc, FaultKind::Invalid, name, value.as_bool())
@@ -122,28 +132,33 @@ fn is_partition_key(text: &str) -> bool
     1 <= count && count <= KEY_CHARACTERS
 }
 
-fn key_value(alloc: Global, value: &Datum<'_>) -> Result<Option<Octets>, Memory>
-    ensures { IfOk result (λ o. o ≡ key_in (view value.now)) }
+fn key_value(value: Value) -> Option<Octets>
+    ensures { result ≡ key_in (view value) }
 {
-    match value.as_str() {
-        Some(text) => {
-            if is_partition_key(text) {
-                Ok(Some(Octets::of(alloc, text.as_bytes())?))
+    match value {
+        Value::String(text) => {
+            if is_partition_key(text.as_str()) {
+                Some(Octets::from_vec(text.into_bytes()))
             } else {
-                Ok(None)
+                None
             }
         }
-        None => Ok(None),
+        _ => None,
     }
 }
 
-/// A partition key.
+/// A partition key, which is taken out.
 #[tactic(auto, unfolding(crate::specs::Member::required_at))]
-pub fn key_member(alloc: Global, object: &Datum<'_>, name: &str) -> Result<Octets, Stop>
-    ensures { Gives (λ x. x) result (required_at key_in name.now (view object.now)) }
+pub fn key_member(
+    alloc: Global,
+    object: &mut Map<String, Value>,
+    name: &str,
+) -> Result<Octets, Stop>
+    ensures value { Gives (λ x. x) result (required_at key_in name.now (object_view object.old)) }
+    ensures others { KeepsOthers name.now (object_view object.old) (object_view object.new) }
 {
-    let value = required_member(alloc, object, name)?;
-    value_at(alloc, FaultKind::Invalid, name, key_value(alloc, value)?)
+    let value = take_required(alloc, object, name)?;
+    value_at(alloc, FaultKind::Invalid, name, key_value(value))
 }
 
 /// Whether a payload and its key are within the limit (Kinesis API Reference, PutRecord, Data).
@@ -154,7 +169,7 @@ fn fits(payload_bytes: usize, key_bytes: usize) -> bool
     key_bytes <= RECORD_BYTES && payload_bytes as u64 <= RECORD_BYTES - key_bytes
 }
 
-fn blob_value(alloc: Global, value: &Datum<'_>, key_bytes: usize) -> Result<Option<Octets>, Memory>
+fn blob_value(alloc: Global, value: &Value, key_bytes: usize) -> Result<Option<Octets>, Memory>
     ensures { IfOk result (λ o. o ≡ blob_in key_bytes (view value.now)) }
 {
     let Some(text) = value.as_str() else {
@@ -176,11 +191,11 @@ fn blob_value(alloc: Global, value: &Datum<'_>, key_bytes: usize) -> Result<Opti
 #[tactic(auto, unfolding(crate::specs::Member::required_at))]
 pub fn blob_member(
     alloc: Global,
-    object: &Datum<'_>,
+    object: &Map<String, Value>,
     name: &str,
     key_bytes: usize,
 ) -> Result<Octets, Stop>
-    ensures { Gives (λ x. x) result (required_at (blob_in key_bytes) name.now (view object.now)) }
+    ensures { Gives (λ x. x) result (required_at (blob_in key_bytes) name.now (object_view object.now)) }
 {
     let value = required_member(alloc, object, name)?;
     let payload = blob_value(alloc, value, key_bytes)?;

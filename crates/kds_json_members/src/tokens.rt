@@ -1,22 +1,21 @@
 //! Members that are tokens which the service gave out.
 ghost use Rattle.std.specs.Prelude.{◌≡◌};
-ghost use Rattle.kds_json_value.specs.View.{view};
 ghost use Rattle.kds_token.specs.Tokens.{iter_of, page_of};
 ghost use Rattle.kds_json_members.specs.Reading.{Gives};
-ghost use Rattle.kds_json_members.specs.Member.{token_at};
+ghost use Rattle.kds_json_members.specs.Member.{object_view, token_at};
 
 use crate::member::value_at;
 use crate::problem::{FaultKind, Stop};
 use crate::texts::text_member;
 use kds_defs::{Iter, Page};
-use kds_json_value::Datum;
 use kds_token::{read_iter, read_page};
+use serde_json::{Map, Value};
 use std::alloc::Global;
 
 /// A shard iterator.
 #[tactic(auto, unfolding(crate::specs::Member::token_at))]
-pub fn iterator_member(alloc: Global, object: &Datum<'_>, name: &str) -> Result<Iter, Stop>
-    ensures { Gives (λ x. x) result (token_at iter_of name.now (view object.now)) }
+pub fn iterator_member(alloc: Global, object: &Map<String, Value>, name: &str) -> Result<Iter, Stop>
+    ensures { Gives (λ x. x) result (token_at iter_of name.now (object_view object.now)) }
 {
     let text = text_member(alloc, object, name)?;
     let iter = read_iter(alloc, text.as_bytes())?;
@@ -25,8 +24,8 @@ pub fn iterator_member(alloc: Global, object: &Datum<'_>, name: &str) -> Result<
 
 /// A place in a listing.
 #[tactic(auto, unfolding(crate::specs::Member::token_at))]
-pub fn page_member(alloc: Global, object: &Datum<'_>, name: &str) -> Result<Page, Stop>
-    ensures { Gives (λ x. x) result (token_at page_of name.now (view object.now)) }
+pub fn page_member(alloc: Global, object: &Map<String, Value>, name: &str) -> Result<Page, Stop>
+    ensures { Gives (λ x. x) result (token_at page_of name.now (object_view object.now)) }
 {
     let text = text_member(alloc, object, name)?;
     let page = read_page(alloc, text.as_bytes())?;

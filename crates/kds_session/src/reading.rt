@@ -16,7 +16,6 @@ use kds_defs::Command;
 use kds_head::{
     Head, decided_stays, found_within_limits, no_bytes_need_more, one_finding, response,
 };
-use kds_json::Scratch;
 use kds_json_members::Fault;
 use kds_reply::fault;
 use std::alloc::Global;
@@ -128,13 +127,7 @@ impl Reading {
     }
 
     /// Takes the message of this head, at the front of what is unread.
-    fn message(
-        &mut self,
-        alloc: Global,
-        scratch: &mut Scratch,
-        bytes: &[u8],
-        head: &Head,
-    ) -> Result<Step, Memory>
+    fn message(&mut self, alloc: Global, bytes: &[u8], head: &Head) -> Result<Step, Memory>
         requires room { self.old.read ≤ length bytes.now }
         requires whole { IsWhole (drop self.old.read bytes.now) head.now }
         requires free { IsFree (read_state bytes.now self.old) }
@@ -147,7 +140,7 @@ impl Reading {
         found_within_limits();
         no_bytes_need_more();
         let close = self.closes(head);
-        match request(alloc, scratch, head, body_of(after(bytes, self.read), head))? {
+        match request(alloc, head, body_of(after(bytes, self.read), head))? {
             Ok(what) => {
                 self.pass(head.length + head.body as usize);
                 self.waiting = waiting_for(close);
@@ -168,13 +161,7 @@ impl Reading {
 
     /// Takes what stands at the front of what is unread, of which the head may have been kept. A head whose body isn't
     /// whole yet is kept.
-    fn step(
-        &mut self,
-        alloc: Global,
-        scratch: &mut Scratch,
-        bytes: &[u8],
-        kept: &mut Option<Head>,
-    ) -> Result<Step, Memory>
+    fn step(&mut self, alloc: Global, bytes: &[u8], kept: &mut Option<Head>) -> Result<Step, Memory>
         requires room { self.old.read ≤ length bytes.now }
         requires free { IsFree (read_state bytes.now self.old) }
         requires kept { IsKept (drop self.old.read bytes.now) kept.old }
@@ -194,7 +181,7 @@ impl Reading {
                 self.refuse(alloc, status)?;
                 Ok(Step::Stop)
             }
-            Front::Whole(head) => self.message(alloc, scratch, bytes, &head),
+            Front::Whole(head) => self.message(alloc, bytes, &head),
         }
     }
 
@@ -203,7 +190,6 @@ impl Reading {
     pub fn to_command(
         &mut self,
         alloc: Global,
-        scratch: &mut Scratch,
         bytes: &[u8],
         kept: &mut Option<Head>,
     ) -> Result<Option<Command>, Memory>
@@ -219,7 +205,7 @@ impl Reading {
         ensures kept { OnOk result (IsKept (drop self.new.read bytes.now) kept.new) }
     {
         loop {
-            match self.step(alloc, scratch, bytes, kept)? {
+            match self.step(alloc, bytes, kept)? {
                 Step::Stop => return Ok(None),
                 Step::Answered => {}
                 Step::Command(what) => return Ok(Some(what)),

@@ -1,9 +1,11 @@
-//! Tests of one crate each, of what no schedule reaches: numbers, logs, trees, tokens, values of JSON, ends and heads; then what
+//! Tests of one crate each, of what no schedule reaches: numbers, logs, trees, tokens, bodies in JSON, ends and heads; then what
 //! workers and drills are built of. They stand apart, so that no crate is proved a second time beside its tests.
 #![tactic(auto)]
 
 #[cfg(test)]
 mod aggregates;
+#[cfg(test)]
+mod bodies;
 #[cfg(test)]
 mod drills;
 #[cfg(test)]
@@ -32,5 +34,3 @@ mod takings;
 mod tokens;
 #[cfg(test)]
 mod trees;
-#[cfg(test)]
-mod values;

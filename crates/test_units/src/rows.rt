@@ -2,6 +2,7 @@
 use kds_base::{Checkpoint, Seq, ShardNo, ShardRef, StreamNo, TenureNo, WorkerNo};
 use kds_defs::Row;
 
+/// The key of this shard.
 pub fn key(shard: u64) -> ShardRef {
     ShardRef {
         stream: StreamNo(1),

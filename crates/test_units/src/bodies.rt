@@ -1,0 +1,184 @@
+//! Which bodies are JSON (RFC 8259), and which of two members of a name counts.
+use kds_base::{Memory, Octets};
+use kds_defs::Command;
+use kds_json::ask;
+use kds_json_members::FaultKind;
+use std::alloc::Global;
+use std::test::Fail;
+
+/// The name of the stream that DeleteStream is asked for by a body, or the kind of its fault.
+fn named(alloc: Global, body: &[u8]) -> Result<Result<Octets, FaultKind>, Memory> {
+    match ask(alloc, b"DeleteStream".as_slice(), body)? {
+        Ok(Command::Delete { name }) => Ok(Ok(Octets::of(alloc, name.bytes())?)),
+        Ok(_) => Ok(Err(FaultKind::Unknown)),
+        Err(fault) => Ok(Err(fault.kind)),
+    }
+}
+
+/// Whether a body is read that names a stream and has this value beside it. Where it isn't read the fault is
+/// `Serialization`; `None` is any other answer.
+fn is_read(alloc: Global, value: &[u8]) -> Result<Option<bool>, Memory> {
+    let mut body = Octets::of(alloc, b"{\"StreamName\":\"s\",\"x\":".as_slice())?;
+    body.extend(value)?;
+    body.extend(b"}".as_slice())?;
+    match named(alloc, body.as_slice())? {
+        Ok(name) => if name.as_slice() == b"s".as_slice() {
+            Ok(Some(true))
+        } else {
+            Ok(None)
+        },
+        Err(FaultKind::Serialization) => Ok(Some(false)),
+        Err(_) => Ok(None),
+    }
+}
+
+#[test]
+fn values(rt: HostRuntime) -> Result<(), Fail> {
+    let cases: [(&str, bool); 54] = [
+        ("", false),
+        (" \t\r\n", false),
+        (" \t\r\nnull \t\r\n", true),
+        ("null\u{c}", false),
+        ("\u{feff}1", false),
+        ("nul", false),
+        ("True", false),
+        ("false", true),
+        ("null null", false),
+        ("{}]", false),
+        ("0", true),
+        ("-0", true),
+        ("-0.0", true),
+        ("00", false),
+        ("+1", false),
+        ("-", false),
+        ("1.", false),
+        (".5", false),
+        ("1e", false),
+        ("1E+2", true),
+        ("1e400", false),
+        ("-1e400", false),
+        ("1e-400", true),
+        ("18446744073709551615", true),
+        ("18446744073709551616", true),
+        ("-9223372036854775808", true),
+        ("-9223372036854775809", true),
+        ("NaN", false),
+        ("\"", false),
+        ("\"\n\"", false),
+        ("\"\u{7f}\"", true),
+        ("\"\\n\\/\\u0000\"", true),
+        ("\"\\x\"", false),
+        ("\"\\u00G0\"", false),
+        ("\"\\ud83d\\ude00\"", true),
+        ("\"\\ud83d\"", false),
+        ("\"\\ude00\"", false),
+        ("\"\\ud83d\\u0041\"", false),
+        ("\"\\ude00\\ud83d\"", false),
+        ("[]", true),
+        ("[1, 2]", true),
+        ("[1,]", false),
+        ("[1 2]", false),
+        ("[1}", false),
+        ("{}", true),
+        ("{\"\":true}", true),
+        ("{\"a\"}", false),
+        ("{\"a\":1,}", false),
+        ("{a:1}", false),
+        ("{1:1}", false),
+        ("{\"a\":1,\"a\":2}", true),
+        ("{\"a\":1,\"b\":3,\"\\u0061\":\"x\"}", true),
+        ("{\"\\u0062\":[1],\"a\":null}", true),
+        ("{\"\\ud83d\":1}", false),
+    ];
+    for (text, want) in cases {
+        let read = is_read(rt.alloc(), text.as_bytes())?;
+        assert_eq!(rt; read, Some(want), "of {text}");
+    }
+    Ok(())
+}
+
+/// A body is one object, and the last member of a name counts, also where it is null or of another kind.
+#[test]
+fn members(rt: HostRuntime) -> Result<(), Fail> {
+    let cases: [(&str, Result<&str, FaultKind>); 22] = [
+        ("{\"StreamName\":\"a\"}", Ok("a")),
+        (" \t\r\n{ \"StreamName\" : \"a\" } \t\r\n", Ok("a")),
+        ("{\"StreamName\":\"\\u0061\\u002db\"}", Ok("a-b")),
+        ("{\"StreamName\":\"a\",\"StreamName\":\"b\"}", Ok("b")),
+        (
+            "{\"StreamName\":\"a\",\"x\":1,\"Stream\\u004eame\":\"b\"}",
+            Ok("b"),
+        ),
+        ("{\"StreamName\":null,\"StreamName\":\"a\"}", Ok("a")),
+        ("{\"StreamName\":1,\"StreamName\":\"a\"}", Ok("a")),
+        (
+            "{\"StreamName\":\"a\",\"StreamName\":null}",
+            Err(FaultKind::Missing),
+        ),
+        (
+            "{\"StreamName\":\"a\",\"StreamName\":[]}",
+            Err(FaultKind::Invalid),
+        ),
+        ("{\"StreamName\":\"\\u0000\"}", Err(FaultKind::Invalid)),
+        ("{\"streamName\":\"a\"}", Err(FaultKind::Missing)),
+        ("{\"\":\"a\"}", Err(FaultKind::Missing)),
+        ("{\"x\":{\"StreamName\":\"a\"}}", Err(FaultKind::Missing)),
+        ("{}", Err(FaultKind::Missing)),
+        ("", Err(FaultKind::Serialization)),
+        ("null", Err(FaultKind::Serialization)),
+        ("\"StreamName\"", Err(FaultKind::Serialization)),
+        ("[]", Err(FaultKind::Serialization)),
+        ("[{\"StreamName\":\"a\"}]", Err(FaultKind::Serialization)),
+        (
+            "\u{feff}{\"StreamName\":\"a\"}",
+            Err(FaultKind::Serialization),
+        ),
+        ("{\"StreamName\":\"a\"}{}", Err(FaultKind::Serialization)),
+        ("{\"StreamName\":\"a\"", Err(FaultKind::Serialization)),
+    ];
+    for (body, want) in cases {
+        match (named(rt.alloc(), body.as_bytes())?, want) {
+            (Ok(name), Ok(want)) => assert!(rt; name.as_slice() == want.as_bytes(), "of {body}"),
+            (Err(kind), Err(want)) => assert_eq!(rt; kind, want, "of {body}"),
+            _ => assert!(rt; false, "of {body}"),
+        }
+    }
+    Ok(())
+}
+
+/// Bytes that aren't UTF-8 are no value, wherever they stand.
+#[test]
+fn bytes_beyond_text(rt: HostRuntime) -> Result<(), Fail> {
+    let cases: [(&[u8], bool); 5] = [
+        (&[255], false),
+        (&[34, 255, 34], false),
+        (&[34, 0xc3, 0xa9, 34], true),
+        (&[34, 0xc0, 0x80, 34], false),
+        (&[34, 0xed, 0xa0, 0xbd, 34], false),
+    ];
+    for (bytes, want) in cases {
+        let read = is_read(rt.alloc(), bytes)?;
+        assert_eq!(rt; read, Some(want));
+    }
+    Ok(())
+}
+
+/// So many levels of arrays, or of objects, with the body itself.
+#[test]
+fn levels(rt: HostRuntime) -> Result<(), Fail> {
+    for (open, close) in [("[", "]"), ("{\"a\":", "}")] {
+        for (levels, want) in [(1, true), (127, true), (128, false), (129, false)] {
+            let mut text = Octets::new(rt.alloc());
+            for _ in 1..levels {
+                text.extend(open.as_bytes())?;
+            }
+            text.extend(b"0".as_slice())?;
+            for _ in 1..levels {
+                text.extend(close.as_bytes())?;
+            }
+            let read = is_read(rt.alloc(), text.as_slice())?;
+            assert_eq!(rt; read, Some(want), "at {levels} of {open}");
+        }
+    }
+    Ok(())
+}
