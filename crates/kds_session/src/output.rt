@@ -7,6 +7,9 @@ use kds_head::response;
 use std::alloc::Global;
 use std::marker::Model;
 
+/// The most bytes whose room is used again.
+const KEPT_BYTES: usize = 1_048_576;
+
 /// Bytes that are added at the end, and taken from the front once they were sent. Contracts see those that are left.
 #[derive(Drop)]
 pub struct Output {
@@ -38,6 +41,7 @@ impl Output {
         }
     }
 
+    /// The bytes that are left.
     pub fn as_slice(&self) -> &[u8]
         ensures { result.now ≡ self.now }
     {
@@ -45,7 +49,7 @@ impl Output {
         left
     }
 
-    /// Takes away so many bytes at the front, and with the last one all memory.
+    /// Takes away so many bytes at the front, and with the last one the memory, unless it is used again.
     pub fn advance(&mut self, count: usize)
         requires { count ≤ length self.old }
         ensures { self.new ≡ drop count self.old }
@@ -55,9 +59,20 @@ impl Output {
             let all = self.text.as_slice().len();
             self.sent = all - (left - count);
         } else {
-            self.text = Octets::new(self.alloc);
-            self.sent = 0;
+            self.empty();
         }
+    }
+
+    /// Takes all bytes away. Room that isn't large is used again.
+    fn empty(&mut self)
+        ensures { self.new ≡ [] }
+    {
+        if self.text.as_slice().len() <= KEPT_BYTES {
+            self.text.clear();
+        } else {
+            self.text = Octets::new(self.alloc);
+        }
+        self.sent = 0;
     }
 
     /// Adds bytes. After `Memory` it is as before.
@@ -78,8 +93,8 @@ impl Output {
         response(self.alloc, status, body, true, close, &mut self.text)
     }
 
-    /// Lets go of the bytes that were sent, where the others are no more than these. So at most twice the bytes that
-    /// are left are kept.
+    /// Lets go of the bytes that were sent, where the others are no more than these: then at most twice the bytes that
+    /// are left are kept. `extend` doesn't call it, so between two answers all that was sent may still stand here.
     fn compact(&mut self) -> Result<(), Memory>
         ensures { self.new ≡ self.old }
     {
