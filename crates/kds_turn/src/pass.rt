@@ -3,6 +3,7 @@ ghost use Rattle.std.specs.Prelude.{◌≡◌, length};
 
 use crate::steps::Seat;
 use std::marker::Model;
+use thiserror::Error;
 
 /// The right to take turns under one number. Contracts see its number, the turns that it has seen, its own turns, and
 /// those of the passes that were joined into it.
@@ -87,9 +88,13 @@ impl<M> Past<M> {
     }
 }
 
-/// Why a turn was not taken: memory ran out, or the history has as many turns as can be counted.
-#[derive(Clone, Copy, Debug, PartialEq, Eq, Drop)]
+/// Why a turn was not taken.
+#[derive(Clone, Copy, Debug, PartialEq, Eq, Drop, Error)]
 pub enum TurnErr {
+    /// Memory ran out.
+    #[error("out of memory")]
     Memory,
+    /// The history has as many turns as can be counted.
+    #[error("the history is full")]
     Spent,
 }

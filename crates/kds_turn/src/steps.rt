@@ -13,8 +13,10 @@ use std::snapshot::Snapshot;
 use std::sync::Wait;
 use std::sync::atomic::{AtomicU64, Ordering};
 
+/// A place at the hall's table, from which steps are made.
 pub type Seat<M> = atomic_table::Seat<Option<M>, View>;
 
+/// The table of a hall: the slot of its machine, and what its seats know.
 pub type Board<M> = Shared<Option<M>, View, u32, InOrder<M>>;
 
 /// The number of turns, and the pass that has the turn. Word 1 is the number of passes.
