@@ -1,5 +1,5 @@
 //! Feeds a piece of the input.
-ghost use Rattle.std.specs.Prelude.{◌≡◌, [], ◌∷◌, ◌++◌, ◌+◌, ◌≤◌, List, ℕ, length, true, false, OnOk, OnErr, IfOk, IfErr, IsErrOf, MatchOption};
+ghost use Rattle.std.specs.Prelude.{◌≡◌, [], ◌∷◌, ◌++◌, ◌+◌, ◌≤◌, ◌<◌, List, ℕ, length, true, false, OnOk, OnErr, IfOk, IfErr, IsErrOf, MatchOption};
 ghost use Rattle.std.specs.declared.option.Option.{Option};
 ghost use Rattle.kds_ends.specs.Causes.{Rose};
 ghost use Rattle.kds_defs.specs.declared.limits.TheConstants.{LINE_BYTES};
@@ -9,6 +9,7 @@ ghost use Rattle.kds_lines.specs.Taking.{Goes, Breaks};
 
 use crate::outcome::Outcome;
 use crate::reading::LineBuffer;
+use crate::sizes::OUTPUT_BYTES;
 use crate::taker::Taker;
 use kds_base::{Memory, Octets};
 use kds_defs::limits::{INPUT_BYTES, LINE_BYTES};
@@ -109,6 +110,7 @@ fn next_line<T: Taker, K: Sink>(
         StopsInLine (T.took taker.old) (T.took taker.new) T.output reading.old reading.new (K.held out.old) (K.held out.new)
         (T.broke taker.new) T.refuses o tail.now) }
     ensures count { OnOk result (fed_count reading.new ≡ fed_count reading.old + length tail.now + 1) }
+    ensures bounded { OnOk result (length reading.new.output < OUTPUT_BYTES) }
     ensures later { K.faults out.old ≤ K.faults out.new }
     ensures write { IsErrOf result Outcome.Write → Rose (K.faults out.old) (K.faults out.new) }
     ensures kinds { IfErr result IsFeedStop }
@@ -120,7 +122,7 @@ fn next_line<T: Taker, K: Sink>(
     }
 }
 
-/// Ends each line that the piece ends, and gives the rest.
+/// Ends each line that the piece ends, and gives the rest. Condition: less output than `OUTPUT_BYTES` waits.
 fn feed_lines<'a, T: Taker, K: Sink>(
     alloc: Global,
     taker: &mut T,
@@ -128,10 +130,12 @@ fn feed_lines<'a, T: Taker, K: Sink>(
     piece: &'a [u8],
     out: &mut K,
 ) -> Result<&'a [u8], Outcome>
+    requires { length reading.old.output < OUTPUT_BYTES }
     ensures ok { IfOk result (λ rest.
         FeedsFront (T.took taker.old) (T.took taker.new) T.output reading.old reading.new (K.held out.old) (K.held out.new) piece.entry.now rest.now) }
     ensures rest { IfOk result (λ rest. NoFeed rest.now) }
     ensures count { IfOk result (λ rest. fed_count reading.new + length rest.now ≡ fed_count reading.old + length piece.entry.now) }
+    ensures bounded { OnOk result (length reading.new.output < OUTPUT_BYTES) }
     ensures err { IfErr result (λ o.
         StopsIn (T.took taker.old) (T.took taker.new) T.output reading.old reading.new (K.held out.old) (K.held out.new)
         (T.broke taker.new) T.refuses o piece.entry.now) }
@@ -172,7 +176,7 @@ fn hold(reading: &mut LineBuffer, rest: &[u8]) -> Result<(), Outcome>
     }
 }
 
-/// Feeds the next piece of the input.
+/// Feeds the next piece of the input. Condition: less output than `OUTPUT_BYTES` waits, and so it stays.
 pub fn feed<T: Taker, K: Sink>(
     alloc: Global,
     taker: &mut T,
@@ -180,9 +184,11 @@ pub fn feed<T: Taker, K: Sink>(
     piece: &[u8],
     out: &mut K,
 ) -> Result<(), Outcome>
+    requires { length reading.old.output < OUTPUT_BYTES }
     ensures ok { OnOk result
         (Feeds (T.took taker.old) (T.took taker.new) T.output reading.old reading.new (K.held out.old) (K.held out.new) piece.now) }
     ensures count { OnOk result (fed_count reading.new ≡ fed_count reading.old + length piece.now) }
+    ensures bounded { OnOk result (length reading.new.output < OUTPUT_BYTES) }
     ensures err { IfErr result (λ o.
         StopsIn (T.took taker.old) (T.took taker.new) T.output reading.old reading.new (K.held out.old) (K.held out.new)
         (T.broke taker.new) T.refuses o piece.now) }

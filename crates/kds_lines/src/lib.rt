@@ -5,8 +5,10 @@ mod feed;
 mod outcome;
 mod read;
 mod reading;
+mod sizes;
 mod taker;
 
 pub use outcome::Outcome;
 pub use read::read_lines;
+pub use sizes::line_sizes;
 pub use taker::Taker;

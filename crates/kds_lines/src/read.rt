@@ -1,20 +1,33 @@
 //! Reads an input to its end.
 ghost use Rattle.std.specs.Prelude.{◌≡◌, ◌<◌, ◌≤◌, [], List, ℕ, true, false, IfOk, IfErr, IsErrOf, IfSome, if◌then◌else◌, length, ◌==◌, ◌+◌};
 ghost use Rattle.std.specs.declared.option.Option.{Option};
-ghost use Rattle.std.specs.Io.KnownBytes.{IsAtEnd};
-ghost use Rattle.kds_ends.specs.Causes.{Rose};
+ghost use Rattle.std.specs.Io.{ReadsAtMost};
+ghost use Rattle.std.specs.Io.KnownBytes.{IsAtEnd, ReadConsumes};
+ghost use Rattle.kds_ends.specs.Causes.{HasCause, Rose};
 ghost use Rattle.kds_lines.specs.LineBuffer.{RunsOn, StopsRunning, IsStop, fed_count, lost_after};
 ghost use Rattle.kds_lines.specs.Telling.{Told};
 
 use crate::feed::feed;
 use crate::outcome::Outcome;
 use crate::reading::LineBuffer;
+use crate::sizes::PIECE_BYTES;
 use crate::taker::Taker;
-use kds_ends::{Sink, Source};
+use kds_ends::{Failed, Sink, Source};
 use std::alloc::Global;
 
-/// The bytes of one read.
-const PIECE_BYTES: usize = 65_536;
+/// Reads a piece. Condition: no output waits, since who sees an answer late may send no more before it comes.
+fn read_piece<S: Source>(
+    _reading: &LineBuffer,
+    input: &mut S,
+    room: &mut [u8],
+) -> Result<usize, Failed>
+    requires { _reading.now.output ≡ [] }
+    ensures bound { ReadsAtMost result room.new }
+    ensures bytes { ReadConsumes (S.left input.old) (S.left input.new) result room.new }
+    ensures cause { HasCause (S.faults input.old) (S.faults input.new) result }
+{
+    input.read(room)
+}
 
 /// How the reading ends where the output of a piece that was fed can't be written: with want of memory where that came
 /// before, since a line may have been taken in part.
@@ -27,7 +40,8 @@ fn lost_after(fed: Result<(), Outcome>) -> Outcome
     }
 }
 
-/// Reads a piece, feeds it, and writes the output of its lines. The answer is whether there was one.
+/// Reads a piece, feeds it, and writes the output of its lines. The answer is whether there was one. Condition: no
+/// output waits.
 fn step<T: Taker, S: Source, K: Sink>(
     alloc: Global,
     taker: &mut T,
@@ -36,7 +50,8 @@ fn step<T: Taker, S: Source, K: Sink>(
     room: &mut [u8],
     out: &mut K,
 ) -> Result<bool, Outcome>
-    requires { 0 < length room.old }
+    requires room { 0 < length room.old }
+    requires written { reading.old.output ≡ [] }
     ensures goes_on { IfOk result (λ more. RunsOn (T.took taker.old) (T.took taker.new) T.output
         (S.left input.old) (S.left input.new) (K.held out.old) (K.held out.new) reading.old reading.new) }
     ensures grows { IfOk result (λ more. more ≡ true → fed_count reading.old < fed_count reading.new) }
@@ -49,7 +64,7 @@ fn step<T: Taker, S: Source, K: Sink>(
     ensures write { IsErrOf result Outcome.Write → Rose (K.faults out.old) (K.faults out.new) }
     ensures kinds { IfErr result IsStop }
 {
-    match input.read(room) {
+    match read_piece(reading, input, room) {
         Ok(0) => Ok(false),
         Ok(count) => {
             let (piece, _) = room.split_at(count);

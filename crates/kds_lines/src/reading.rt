@@ -1,16 +1,14 @@
 //! An input that comes in pieces.
-ghost use Rattle.std.specs.Prelude.{◌≡◌, ℕ, List, [], ◌≤◌, ◌+◌, length, OnOk, OnErr};
+ghost use Rattle.std.specs.Prelude.{◌≡◌, ℕ, List, [], ◌≤◌, ◌<◌, ◌+◌, length, OnOk, OnErr};
 ghost use Rattle.std.specs.declared.option.Option.{Option};
 ghost use Rattle.kds_defs.specs.declared.limits.TheConstants.{LINE_BYTES, INPUT_BYTES};
 ghost use Rattle.kds_ends.specs.Causes.{HasCause};
 ghost use Rattle.kds_lines.specs.Writing.{LosesRest, WritesOn};
 
+use crate::sizes::OUTPUT_BYTES;
 use kds_base::Octets;
 use kds_ends::{Failed, Sink, write_all};
 use std::alloc::Global;
-
-/// How many bytes of output may wait.
-const OUTPUT_BYTES: usize = 65_536;
 
 /// The line that is not yet whole, and the output that waits.
 #[derive(Drop)]
@@ -56,13 +54,14 @@ impl LineBuffer {
         written
     }
 
-    /// Writes the output that waits where it is long. After a fault what was not written is lost.
+    /// Writes the output that waits where it is long: then less than `OUTPUT_BYTES` waits. After a fault what was not written is lost.
     pub fn spill<K: Sink>(&mut self, out: &mut K) -> Result<(), Failed>
         ensures held { self.new.held ≡ self.old.held }
         ensures count { self.new.count ≡ self.old.count }
         ensures used { self.new.used ≡ self.old.used }
         ensures ok { OnOk result (WritesOn (K.held out.old) (K.held out.new) self.old.output self.new.output) }
         ensures err { OnErr result (LosesRest (K.held out.old) (K.held out.new) self.old.output) }
+        ensures bounded { OnOk result (length self.new.output < OUTPUT_BYTES) }
         ensures lost { OnErr result (self.new.output ≡ []) }
         ensures cause { HasCause (K.faults out.old) (K.faults out.new) result }
     {

@@ -57,14 +57,15 @@ pub fn write_early<K: Sink>(session: &mut Session, out: &mut K) -> Result<(), St
     }
 }
 
-/// Reads a piece into the room and feeds it. The answer is whether there was one. Condition: the session has room for a
-/// whole piece.
+/// Reads a piece into the room and feeds it. The answer is whether there was one. Conditions: the session has room for a
+/// whole piece, and nothing is left to send, since a client may send no more before it has its response.
 fn read<S: Source>(
     session: &mut Session,
     input: &mut S,
     room: &mut [u8; PIECE_BYTES],
 ) -> Result<bool, Status>
-    requires { PIECE_BYTES ≤ room_of session.old }
+    requires room { PIECE_BYTES ≤ room_of session.old }
+    requires written { session.old.output ≡ [] }
     ensures ok { OnOk result ((held : Option (List ℕ)) → ReadsOn (S.left input.old) session.old held (S.left input.new) session.new held) }
     ensures ends { IfOk result (λ more. more ≡ false → IsAtEnd (S.left input.new) × (session.new ≡ session.old)) }
     ensures grows { session.old.standing ≡ Live → IfOk result (λ more. more ≡ true

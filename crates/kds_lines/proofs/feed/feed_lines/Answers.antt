@@ -8,6 +8,7 @@ loop-at-init g c = (
   λ fed start st. lines_begin (g.T.Taker.took c.args.taker.now) (g.T.Taker.took c.args.taker.now) (g.T.Taker.broke c.args.taker.now) g.T.Taker.refuses g.T.Taker.output fed c.args.piece.now c.args.reading.now start _ st,
   refl,
   omega arith,
+  c.requires,
 )
 
 pub returns-in-Err-clause-err : goal.returns-in-Err-clause-err
@@ -31,4 +32,5 @@ loop-at-preserved g c = (
       (c.in_default-next_line.ensures.ok (fed ++ f.front) start f.stands parts.1),
   omega (arith, c.in_default-next_line.ensures.count, c.loop-at.invariant.1, c.in-Some.ensures.within, c.split_at.ensures.front_len, c.split_at.ensures.back_len, c.split_at-in-Some.ensures.back_len),
   omega (arith, c.loop-at.invariant.2, c.in_default-next_line.ensures.later),
+  c.in_default-next_line.ensures.bounded,
 )

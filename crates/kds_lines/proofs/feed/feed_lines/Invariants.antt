@@ -1,4 +1,5 @@
-use Rattle.std.proofs.Common.{◌≡◌, ◌+◌, ◌≤◌, List, ℕ, length, Option}
+use Rattle.std.proofs.Common.{◌≡◌, ◌+◌, ◌≤◌, ◌<◌, List, ℕ, length, Option}
+use Rattle.kds_lines.specs.declared.sizes.TheConstants.{OUTPUT_BYTES}
 use Rattle.kds_lines.specs.LineBuffer.{Stands, FedLines, fed_count}
 use Rattle.kds_lines.proofs.feed.feed_lines.Given as goal
 
@@ -8,6 +9,7 @@ invariant-loop-at g l =
     → FedLines (g.T.Taker.took l.taker) g.T.Taker.output fed l.piece l.rest l.reading start (g.K.Sink.held l.out))
     × (fed_count l.reading + length l.rest ≡ fed_count l.fn.reading + length l.piece)
     × (g.K.Sink.faults l.fn.out ≤ g.K.Sink.faults l.out)
+    × (length l.reading.output < OUTPUT_BYTES)
 
 abbrev pub decreases-loop-at : goal.decreases-loop-at
 decreases-loop-at g l = length l.rest
