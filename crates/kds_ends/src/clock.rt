@@ -85,6 +85,7 @@ fn moment_after(last: Moment, read: Option<Moment>) -> Moment
 }
 
 impl<R: Timer> SystemClock<R> {
+    /// A clock over the system's time, whose last answer is the moment 0.
     pub fn new(rt: R) -> SystemClock<R>
         ensures { result.last ≡ 0 }
     {

@@ -22,7 +22,8 @@ const LOOKS: u32 = 10_000_000;
 /// What a connection wrote, which its door can copy.
 type Written = Arc<Mutex<MemSink>>;
 
-/// The input of a connection in memory. Where it is held, it gives its bytes once another connection has written.
+/// The input of a connection in memory. Where it is held, it gives its bytes once another connection has written, and its end
+/// where that one hasn't within 10,000,000 looks, so that a test ends.
 #[derive(Drop)]
 pub struct MemInput<R: Wait + Drop> {
     rt: R,

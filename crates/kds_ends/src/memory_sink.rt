@@ -34,6 +34,8 @@ impl Model for MemSink {
 }
 
 impl MemSink {
+    /// Room for so many bytes, none of which is written yet. It takes at most `step` bytes at a time, and the calls with the numbers
+    /// in `failing`, from 1, fail. Condition: `step` is at least 1. The error is want of memory.
     pub fn new(
         alloc: Global,
         room: usize,
@@ -53,6 +55,7 @@ impl MemSink {
         })
     }
 
+    /// The bytes that were written.
     pub fn held(&self) -> &[u8]
         ensures { result.now ≡ self.now.held }
     {

@@ -42,6 +42,8 @@ pub fn copy_front(bytes: &[u8], room: &mut [u8], step: usize) -> usize
 }
 
 impl MemSource {
+    /// These bytes, given at most `step` at a time. The calls with the numbers in `failing`, from 1, fail. Condition: `step` is at
+    /// least 1.
     pub fn new(bytes: Octets, step: usize, failing: Items<u64>) -> MemSource
         requires { 0 < step }
         ensures { result ≡ record { left = bytes; step = step; failing = failing; calls = 0; faults = 0 } }

@@ -28,6 +28,7 @@ impl Model for SureSource {
 }
 
 impl SureSource {
+    /// These bytes, none of which was given.
     pub fn new(bytes: Octets) -> SureSource
         ensures { result ≡ bytes }
     {
@@ -58,6 +59,7 @@ impl Source for SureSource {
 pub struct SureSink;
 
 impl SureSink {
+    /// A sink for bytes that nobody wants.
     pub fn new() -> SureSink {
         SureSink
     }

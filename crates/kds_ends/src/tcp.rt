@@ -9,6 +9,17 @@ use std::io::Read;
 use std::net::{Net, OpenListener, OpenStream, Shutdown, SocketAddr};
 use std::time::Duration;
 
+/// How long a read waits for a byte, in milliseconds, before it is a fault: so an idle client's connection ends. It is
+/// shorter than the time for which an SDK waits for a response, 30 or 60 seconds, so a client that finds idle ones in all
+/// places is served before it gives up.
+const IDLE_WAIT: u64 = 10_000;
+
+/// How long a write waits for room, in milliseconds: for a client that reads none of its answers. A write that has put a
+/// part of its bytes into the machine's buffer tells so when its time is out, and the next one waits anew; that buffer was
+/// seen to grow once under a client that reads nothing. So the third write is the fault, and all three take less than the
+/// 30 seconds for which an SDK waits.
+const FULL_WAIT: u64 = 9_000;
+
 /// How many pieces of what a client still sends are taken in at most, once its connection has ended.
 const LAST_READS: u32 = 256;
 
@@ -86,9 +97,11 @@ pub struct TcpDoor<R: Net> {
     faults: u64,
 }
 
-/// Both ends of a connection. What is written goes out at once.
+/// Both ends of a connection. What is written goes out at once, and neither end waits without bound for the client.
 fn ends_of<S: Read + OpenStream + Drop>(stream: S) -> io::Result<(TcpInput<S>, S)> {
     stream.set_nodelay(true)?;
+    stream.set_read_timeout(Some(Duration::from_millis(IDLE_WAIT)))?;
+    stream.set_write_timeout(Some(Duration::from_millis(FULL_WAIT)))?;
     let other = stream.try_clone()?;
     let input = TcpInput {
         source: StdSource::new(stream),
@@ -132,6 +145,7 @@ fn accept_on<S: Read + OpenStream + Drop, L: OpenListener<Stream = S> + Drop>(
 }
 
 impl<R: Net> TcpDoor<R> {
+    /// A door that doesn't listen yet. It listens at 127.0.0.1 alone.
     pub fn new(rt: R) -> TcpDoor<R>
         ensures { result.faults ≡ 0 }
     {

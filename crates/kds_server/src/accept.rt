@@ -10,7 +10,7 @@ use kds_ends::{Clock, Door, Sink, Source, Status};
 use kds_turn::{Hall, Pass};
 use std::alloc::Global;
 use std::sync::atomic::{AtomicBool, Ordering};
-use std::sync::{Mutex, Wait};
+use std::sync::{Condvar, Mutex, Wait};
 use std::thread;
 use std::thread::{Scope, Threads};
 
@@ -20,8 +20,10 @@ struct Shared<'c, R, M: Machine, C> {
     rt: &'c R,
     alloc: Global,
     clock: &'c Mutex<C>,
-    /// The passes that serve no connection, but for the calling thread's own.
+    /// The passes that serve no connection, but for the next connection's.
     idle: Mutex<Vec<FreePass<'c, M>>>,
+    /// Told when a pass is given back.
+    freed: Condvar,
     /// Whether memory ran out on a connection.
     out_of_memory: AtomicBool,
 }
@@ -55,23 +57,31 @@ impl<'c, R: Wait, M: Machine, C: Clock> Shared<'c, R, M, C> {
         if self.idle.lock(self.rt).push(free).is_err() {
             self.out_of_memory.store(true, Ordering::SeqCst);
         }
+        self.freed.notify_one();
     }
 
-    /// A pass that serves no connection, but for the calling thread's own.
-    fn take_idle(&self) -> Option<FreePass<'c, M>> {
-        self.idle.lock(self.rt).pop()
+    /// A pass that serves no connection, once there is one, or nothing where memory has run out on a connection.
+    fn next_pass(&self) -> Option<FreePass<'c, M>> {
+        let mut idle = self
+            .freed
+            .wait_while(self.rt, self.idle.lock(self.rt), |idle| {
+                idle.is_empty() && !self.out_of_memory.load(Ordering::SeqCst)
+            });
+        if self.out_of_memory.load(Ordering::SeqCst) {
+            return None;
+        }
+        idle.pop()
     }
 }
 
-/// Serves a connection in a thread of its own. Where no other pass is free, or no thread is made, the calling thread
-/// serves it.
+/// Serves a connection in a thread of its own. Where no thread is made, the calling thread serves it.
 fn host<'s, 'e: 's, 'c: 'e, R, M, C, S, K>(
     scope: &'s Scope<'s, &'e ()>,
     crew: &'e Shared<'c, R, M, C>,
-    own: FreePass<'c, M>,
+    free: FreePass<'c, M>,
     input: S,
     out: K,
-) -> FreePass<'c, M>
+)
 where
     R: Wait + Sync,
     M: Machine + Send,
@@ -79,22 +89,15 @@ where
     S: Source + Send + Drop + 'e,
     K: Sink + Send + Drop + 'e,
 {
-    match crew.take_idle() {
-        Some(free) => {
-            if let Err(refused) = scope.spawn(move || crew.attend_and_return(free, input, out)) {
-                (refused.value)();
-            }
-            own
-        }
-        None => crew.attend(own, input, out),
+    if let Err(refused) = scope.spawn(move || crew.attend_and_return(free, input, out)) {
+        (refused.value)();
     }
 }
 
-/// Accepts connections until the door fails, or memory has run out on one of them.
+/// Accepts connections, each once there is a pass for it, until the door fails or memory has run out on one of them.
 fn accept_all<'s, 'e: 's, 'c: 'e, R, M, C, D>(
     scope: &'s Scope<'s, &'e ()>,
     crew: &'e Shared<'c, R, M, C>,
-    own: FreePass<'c, M>,
     door: &mut D,
 ) -> Status
 where
@@ -109,11 +112,10 @@ where
     ensures listens { (port : ℕ) → D.listens door.old port → D.listens door.new port }
     ensures kinds { IsCrewStatus result }
 {
-    let mut own = own;
     for _ in crew.rt.forever() {
-        if crew.out_of_memory.load(Ordering::SeqCst) {
+        let Some(free) = crew.next_pass() else {
             return Status::Memory;
-        }
+        };
         let Ok((input, out)) = door.accept() else {
             return Status::Door;
         };
@@ -121,16 +123,16 @@ where
         if crew.out_of_memory.load(Ordering::SeqCst) {
             return Status::Memory;
         }
-        own = host(scope, crew, own, input, out);
+        host(scope, crew, free, input, out);
     }
     unreachable!()
 }
 
 /// Serves the connections of a door, each in a thread of its own, by a pass that no other one is using. The calling
-/// thread accepts; where one pass is left, or no thread is made, it serves the connection itself. Nothing is accepted
-/// after the door's first fault. Door: the door failed, and the connections under way have ended. Memory: memory ran out
-/// on a connection, after which none was served that wasn't yet, or before the first. Condition: there is a pass, and
-/// each is one of the hall.
+/// thread waits until there is such a pass, and accepts; where no thread is made, it serves the connection itself.
+/// Nothing is accepted after the door's first fault. Door: the door failed, and the connections under way have ended.
+/// Memory: memory ran out on a connection, after which none was served that wasn't yet, or before the first. Condition:
+/// there is a pass, and each is one of the hall.
 pub fn crew<R, M, C, D>(
     rt: &R,
     alloc: Global,
@@ -153,21 +155,21 @@ where
     ensures listens { (port : ℕ) → D.listens door.old port → D.listens door.new port }
     ensures kinds { IsCrewStatus result }
 {
-    let Ok(mut idle) = free_passes(alloc, hall, passes) else {
+    let Ok(idle) = free_passes(alloc, hall, passes) else {
         return Status::Memory;
     };
-    let own = idle.pop().unwrap();
     let crew = Shared {
         rt,
         alloc,
         clock,
         idle: Mutex::new(idle),
+        freed: Condvar::new(),
         out_of_memory: AtomicBool::new(false),
     };
     let shared = &crew;
     // The door comes back from the scope, so that its faults are known after it.
     let (status, _door) = thread::scope(thread::scope_env(), rt, move |scope| {
-        let status = accept_all(scope, shared, own, &mut *door);
+        let status = accept_all(scope, shared, &mut *door);
         (status, door)
     });
     if shared.out_of_memory.load(Ordering::SeqCst) {

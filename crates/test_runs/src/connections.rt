@@ -1,8 +1,8 @@
 //! Connections, and what is written to each.
-use crate::harness::{Left, Run, run_on};
-use kds_base::{Items, Octets};
+use crate::harness::{Left, RowDoor, Run, run_on};
+use kds_base::{Items, Moment, Octets};
 use kds_cli_runs::run_serve;
-use kds_ends::{Clock, MemDoor, MemSink, SystemClock};
+use kds_ends::{Clock, MemClock, MemDoor, MemSink, SystemClock};
 use std::alloc::Global;
 use std::test::Fail;
 
@@ -30,6 +30,10 @@ const OTHER_OPERATION: &str =
 const OTHER_TYPE: &str =
     "POST / HTTP/1.1\r\nHost: 127.0.0.1:4567\r\nX-Amz-Target: Kinesis_20131202.PutRecord\r\nContent-Type: application/x-amz-cbor-1.1\r\nAuthorization: AWS4-HMAC-SHA256 x\r\nContent-Length: 2\r\n\r\n{}";
 
+/// Reads the first record, by an iterator of the moment 3000.
+const READ: &str =
+    "POST / HTTP/1.1\r\nHost: 127.0.0.1:4567\r\nX-Amz-Target: Kinesis_20131202.GetRecords\r\nContent-Type: application/x-amz-json-1.1\r\nAuthorization: AWS4-HMAC-SHA256 x\r\nContent-Length: 40\r\n\r\n{\"ShardIterator\":\"S0kxOjE6MDoxOjMwMDA=\"}";
+
 /// There are no streams.
 pub const LISTED: &str =
     "HTTP/1.1 200 OK\r\nContent-Type: application/x-amz-json-1.1\r\nContent-Length: 41\r\n\r\n{\"HasMoreStreams\":false,\"StreamNames\":[]}";
@@ -45,6 +49,10 @@ const FIRST: &str =
 /// The second record was put.
 const SECOND: &str =
     "HTTP/1.1 200 OK\r\nContent-Type: application/x-amz-json-1.1\r\nContent-Length: 55\r\n\r\n{\"SequenceNumber\":\"2\",\"ShardId\":\"shardId-000000000000\"}";
+
+/// The first record, which was put at the moment 3000, as it is read at 4000.
+const FIRST_READ: &str =
+    "HTTP/1.1 200 OK\r\nContent-Type: application/x-amz-json-1.1\r\nContent-Length: 167\r\n\r\n{\"MillisBehindLatest\":0,\"NextShardIterator\":\"S0kxOjE6MDoyOjQwMDA=\",\"Records\":[{\"ApproximateArrivalTimestamp\":3,\"Data\":\"aGk=\",\"PartitionKey\":\"a\",\"SequenceNumber\":\"1\"}]}";
 
 /// The first record was put, and the connection closes.
 const LAST: &str =
@@ -224,6 +232,42 @@ fn served_at_once(rt: HostRuntime) -> Result<(), Fail> {
     for place in [0usize, 1] {
         let written = door.written(alloc, place)?;
         assert_eq!(rt; written.as_slice(), LISTED.as_bytes(), "of {place}");
+    }
+    Ok(())
+}
+
+/// A clock that gives the moments 1000, 2000, 3000 and 4000.
+fn four_moments(alloc: Global) -> Result<MemClock, Fail> {
+    let mut moments = Items::new(alloc);
+    moments.push(Moment::new(1000).ok_or("moment")?)?;
+    moments.push(Moment::new(2000).ok_or("moment")?)?;
+    moments.push(Moment::new(3000).ok_or("moment")?)?;
+    moments.push(Moment::new(4000).ok_or("moment")?)?;
+    Ok(MemClock::new(moments))
+}
+
+/// Four connections at two places, one behind the other: one is cut inside a request, one fails, one puts a record, and
+/// the last reads it with the moment at which it came. Each ends alone, and the door's end is the server's.
+#[test]
+fn served_in_a_row(rt: HostRuntime) -> Result<(), Fail> {
+    let alloc = rt.alloc();
+    let (cut, _) = PUT.split_at_checked(PUT.len() - 1).ok_or("cut")?;
+    let mut second = Items::new(alloc);
+    second.push(2)?;
+    let mut door = RowDoor::new(alloc, rt);
+    door.add(alloc, joined(alloc, [LIST, cut, ""])?, Items::new(alloc))?;
+    door.add(alloc, joined(alloc, [CREATE, "", ""])?, second)?;
+    door.add(alloc, joined(alloc, [PUT, "", ""])?, Items::new(alloc))?;
+    door.add(alloc, joined(alloc, [READ, "", ""])?, Items::new(alloc))?;
+    let mut out = MemSink::new(alloc, 64, 64, Items::new(alloc))?;
+    let clock = four_moments(alloc)?;
+    let status = run_serve(&rt, alloc, 4567, 2, &mut out, clock, &mut door);
+    let left = Left::new(alloc, status, out)?;
+    assert!(rt; left.is(8, b"listening\n", "door fault\n"));
+    let wanted = [LISTED, CREATED, FIRST, FIRST_READ];
+    for place in 0..wanted.len() {
+        let written = door.written(alloc, place)?;
+        assert_eq!(rt; written.as_slice(), wanted[place].as_bytes(), "of {place}");
     }
     Ok(())
 }

@@ -2,10 +2,12 @@
 
 mod cases;
 mod left;
+mod row_door;
 mod rows;
 mod runs;
 
 pub use cases::Case;
 pub use left::Left;
+pub use row_door::RowDoor;
 pub use rows::{Row, first_other};
 pub use runs::{Run, run_on};

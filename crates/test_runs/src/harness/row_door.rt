@@ -1,0 +1,130 @@
+//! A door whose connections come one behind the other.
+ghost use Rattle.std.specs.Prelude.{None};
+
+use kds_base::{Items, Memory, Octets};
+use kds_ends::{Door, Failed, MemSink, MemSource, Sink};
+use std::alloc::Global;
+use std::collections::VecDeque;
+use std::sync::{Arc, Mutex, Wait};
+use std::thread::yield_now;
+
+/// How often the door looks whether the last connection has ended.
+const LOOKS: u32 = 10_000_000;
+
+/// The room of a connection's output.
+const ROOM: usize = 1024;
+
+/// What a connection wrote, which its door can copy.
+type Written = Arc<Mutex<MemSink>>;
+
+/// The output of a connection. It is let go with the connection.
+#[derive(Drop)]
+pub struct RowOutput<R: Wait + Drop> {
+    rt: R,
+    written: Written,
+    faults: u64,
+}
+
+impl<R: Wait + Drop> Sink for RowOutput<R> {
+    ghost held = { λ _. None };
+
+    ghost faults = { λ s. s.faults };
+
+    fn write(&mut self, piece: &[u8]) -> Result<usize, Failed> {
+        match self.written.lock(&self.rt).write(piece) {
+            Ok(count) => Ok(count),
+            Err(_) => {
+                self.faults = self.faults.saturating_add(1);
+                Err(Failed)
+            }
+        }
+    }
+}
+
+/// A door with connections in memory, each of which comes once the last one has ended. It fails where there is none left.
+#[derive(Drop)]
+pub struct RowDoor<R: Wait + Drop> {
+    rt: R,
+    written: Vec<Written>,
+    waiting: VecDeque<(MemSource, RowOutput<R>)>,
+    faults: u64,
+}
+
+impl<R: Wait + Clone + Drop> RowDoor<R> {
+    pub fn new(alloc: Global, rt: R) -> RowDoor<R> {
+        RowDoor {
+            rt,
+            written: Vec::new(alloc),
+            waiting: VecDeque::new(alloc),
+            faults: 0,
+        }
+    }
+
+    /// One connection more, whose reads of these numbers fail.
+    pub fn add(&mut self, alloc: Global, bytes: Octets, failing: Items<u64>) -> Result<(), Memory> {
+        let sink = MemSink::new(alloc, ROOM, ROOM, Items::new(alloc))?;
+        let written = Arc::new(alloc, Mutex::new(sink))?;
+        let output = RowOutput {
+            rt: self.rt.clone()?,
+            written: written.clone()?,
+            faults: 0,
+        };
+        self.waiting
+            .push_back((MemSource::new(bytes, ROOM, failing), output))?;
+        self.written.push(written)?;
+        Ok(())
+    }
+}
+
+impl<R: Wait + Drop> RowDoor<R> {
+    /// A copy of what the connection at a place wrote, from 0.
+    pub fn written(&self, alloc: Global, place: usize) -> Result<Octets, Memory> {
+        match self.written.as_slice().get(place) {
+            Some(written) => Octets::of(alloc, written.lock(&self.rt).held()),
+            None => Ok(Octets::new(alloc)),
+        }
+    }
+
+    /// Whether all connections that were accepted have ended, within so many looks: then the outputs of those that wait
+    /// are held twice, and all others once.
+    fn row_has_ended(&self) -> bool {
+        let open = self.waiting.len();
+        for _ in 0..LOOKS {
+            let held = self
+                .written
+                .as_slice()
+                .iter()
+                .filter(|it| Arc::strong_count(*it) > 1)
+                .count();
+            if held <= open {
+                return true;
+            }
+            yield_now();
+        }
+        false
+    }
+}
+
+impl<R: Wait + Drop> Door for RowDoor<R> {
+    type Input = MemSource;
+
+    type Output = RowOutput<R>;
+
+    ghost faults = { λ d. d.faults };
+
+    ghost listens = { λ _ _. Unit {0} };
+
+    fn listen(&mut self, _port: u16) -> Result<(), Failed> {
+        Ok(())
+    }
+
+    fn accept(&mut self) -> Result<(MemSource, RowOutput<R>), Failed> {
+        if self.row_has_ended() {
+            if let Some(ends) = self.waiting.pop_front() {
+                return Ok(ends);
+            }
+        }
+        self.faults = self.faults.saturating_add(1);
+        Err(Failed)
+    }
+}
