@@ -1,4 +1,4 @@
-//! When a gate is told of a processor's call: before it begins, and after it came back.
+//! What a gate is told of a processor's call, and when: the worker and the call, before it begins and after it came back.
 ghost use Rattle.std.specs.Prelude.{◌≡◌};
 
 use crate::crews::prepare;
@@ -14,15 +14,33 @@ use std::alloc::Global;
 use std::sync::atomic::{AtomicU64, Ordering};
 use std::test::Fail;
 
-/// Counts its calls as they are made.
+/// The calls that were made: how many, and the code of the last one.
+#[derive(Drop)]
+struct Calls {
+    count: AtomicU64,
+    last: AtomicU64,
+}
+
+/// The number that stands for a call.
+fn code(call: Due) -> u64 {
+    match call {
+        Due::Initialize => 1,
+        Due::Process => 2,
+        Due::LeaseLost => 3,
+        Due::ShardEnded => 4,
+    }
+}
+
+/// Notes its calls as they are made.
 #[derive(Drop)]
 struct Counting<'a> {
-    calls: &'a AtomicU64,
+    calls: &'a Calls,
 }
 
 impl<'a> Counting<'a> {
-    fn count(&self) {
-        self.calls.fetch_add(1, Ordering::SeqCst);
+    fn note(&self, call: Due) {
+        self.calls.last.store(code(call), Ordering::SeqCst);
+        self.calls.count.fetch_add(1, Ordering::SeqCst);
     }
 }
 
@@ -32,22 +50,22 @@ impl<'a> Processor for Counting<'a> {
     ghost asks = { λ _ _ _. Unit {0} };
 
     fn initialize(&mut self, _key: ShardRef, _start: Checkpoint) -> Result<(), Memory> {
-        self.count();
+        self.note(Due::Initialize);
         Ok(())
     }
 
     fn process_records(&mut self, _batch: &[Stored]) -> Result<Ask, Memory> {
-        self.count();
+        self.note(Due::Process);
         Ok(Ask::None)
     }
 
     fn lease_lost(&mut self) -> Result<(), Memory> {
-        self.count();
+        self.note(Due::LeaseLost);
         Ok(())
     }
 
     fn shard_ended(&mut self) -> Result<(), Memory> {
-        self.count();
+        self.note(Due::ShardEnded);
         Ok(())
     }
 }
@@ -55,7 +73,7 @@ impl<'a> Processor for Counting<'a> {
 /// Makes processors that count together.
 #[derive(Drop)]
 struct Counters<'a> {
-    calls: &'a AtomicU64,
+    calls: &'a Calls,
 }
 
 impl<'a> Maker<Counting<'a>> for Counters<'a> {
@@ -66,30 +84,41 @@ impl<'a> Maker<Counting<'a>> for Counters<'a> {
     }
 }
 
-/// Looks at each telling whether the call was made.
+/// Looks at each telling whether the call was made, and whether worker and call are the right ones.
 #[derive(Drop)]
 struct Looking<'a> {
-    calls: &'a AtomicU64,
+    calls: &'a Calls,
+    worker: WorkerNo,
     told: u64,
-    is_in_time: bool,
+    /// The call that was told before it, until it is told after it.
+    open: Option<Due>,
+    is_right: bool,
 }
 
 impl<'a> Looking<'a> {
-    fn look(&mut self) {
-        if self.calls.load(Ordering::SeqCst) != self.told {
-            self.is_in_time = false;
+    fn look(&mut self, worker: WorkerNo) {
+        if self.calls.count.load(Ordering::SeqCst) != self.told || worker != self.worker {
+            self.is_right = false;
         }
     }
 }
 
 impl<'a> Gate for Looking<'a> {
-    fn before(&mut self, _worker: WorkerNo, _due: Due) {
-        self.look();
+    fn before(&mut self, worker: WorkerNo, due: Due) {
+        self.look(worker);
+        if self.open.is_some() {
+            self.is_right = false;
+        }
+        self.open = Some(due);
     }
 
-    fn after(&mut self, _worker: WorkerNo, _due: Due) {
+    fn after(&mut self, worker: WorkerNo, due: Due) {
         self.told = self.told.saturating_add(1);
-        self.look();
+        self.look(worker);
+        if self.open != Some(due) || self.calls.last.load(Ordering::SeqCst) != code(due) {
+            self.is_right = false;
+        }
+        self.open = None;
     }
 }
 
@@ -102,19 +131,24 @@ fn gate_is_told_before_and_after(rt: HostRuntime) -> Result<(), Fail> {
     let mut pass = passes.pop().unwrap();
     let mut root = passes.pop().unwrap();
     assert!(rt; prepare(&rt, alloc, &hall, &mut root)?);
-    let calls = AtomicU64::new(0);
+    let calls = Calls {
+        count: AtomicU64::new(0),
+        last: AtomicU64::new(0),
+    };
     let maker = Counters { calls: &calls };
-    let mut worker = Worker::new(alloc, WorkerNo(1), Settings::usual(), maker);
+    let mut worker = Worker::new(alloc, WorkerNo(7), Settings::usual(), maker);
     let mut gate = Looking {
         calls: &calls,
+        worker: WorkerNo(7),
         told: 0,
-        is_in_time: true,
+        open: None,
+        is_right: true,
     };
     assert_eq!(rt;
         run_worker(&rt, &hall, &mut pass, &mut worker, &mut gate, 40, 50),
         Ok(())
     );
-    assert!(rt; gate.is_in_time);
+    assert!(rt; gate.is_right);
     // Two shards: each begun, handed its record, and told of the loss when the worker is stopped.
     assert!(rt; gate.told >= 4);
     Ok(())

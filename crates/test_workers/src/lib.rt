@@ -16,4 +16,6 @@ mod hands;
 #[cfg(test)]
 mod meeting;
 #[cfg(test)]
+mod threes;
+#[cfg(test)]
 mod workers;

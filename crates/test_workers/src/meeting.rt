@@ -15,7 +15,7 @@ use std::sync::atomic::{AtomicU64, Ordering};
 use std::thread::yield_now;
 
 /// How often a gate looks whether the other worker's call has begun.
-const LOOKS: u32 = 10_000_000;
+const LOOKS: u32 = 100_000_000;
 
 /// Holds its worker's first call of a kind until the other's first one has begun.
 #[derive(Drop)]
