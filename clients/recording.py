@@ -6,6 +6,7 @@ import importlib.machinery
 import importlib.util
 import json
 import pathlib
+import signal
 import socket
 import subprocess
 import sys
@@ -14,7 +15,7 @@ import threading
 import unittest
 
 import suite
-from server import ROOT, serving
+from server import ROOT, free_port, request, responses, serving
 
 # what differs in a replay: tokens and moments
 LEFT_OUT = {'ShardIterator', 'NextShardIterator', 'NextToken', 'ApproximateArrivalTimestamp', 'StreamCreationTimestamp', 'MillisBehindLatest'}
@@ -35,12 +36,12 @@ record = program('record')
 class Witness(record.Recorder):
     """A recorder that remembers what each line was answered."""
 
-    def __init__(self, target, path):
-        super().__init__(target, path)
+    def __init__(self, target, file):
+        super().__init__(target, file)
         self.answers = []
 
-    def hand_on(self, server, head, body):
-        answer = super().hand_on(server, head, body)
+    def answer(self, head, body):
+        answer = super().answer(head, body)
         if answer and record.operation(head) and record.one_line(body) is not None:
             self.answers.append((record.operation(head), int(answer[0].split(b' ')[1]), answer[1]))
         return answer
@@ -48,8 +49,8 @@ class Witness(record.Recorder):
 
 @contextlib.contextmanager
 def recording(server, path):
-    """The same server, reached through a recorder."""
-    witness = Witness(server.port, path)
+    """The same server, reached through a recorder, whose file is whole at the end."""
+    witness = Witness(server.port, record.made(path))
     with socket.create_server(('127.0.0.1', 0)) as door:
         def accept():
             with contextlib.suppress(OSError):
@@ -61,6 +62,7 @@ def recording(server, path):
         through.port = door.getsockname()[1]
         yield through, witness
         door.shutdown(socket.SHUT_RDWR)
+    witness.end()
 
 
 def without_moments(value):
@@ -85,14 +87,134 @@ class Recording(unittest.TestCase):
                 finally:
                     suite.serving = given
                 self.assertTrue(result.wasSuccessful())
-            witness.file.close()
             done = subprocess.run([ROOT / 'kds', 'replay'], stdin=path.open('rb'), capture_output=True, check=False)
             self.assertEqual((0, b''), (done.returncode, done.stderr))
             lines = done.stdout.splitlines()
             self.assertEqual(len(witness.answers), len(lines))
+            self.assertGreater(len(lines), 1000)
             for (operation, status, body), line in zip(witness.answers, lines):
                 head, _, text = line.partition(b' ')
                 self.assertEqual((status, reply(body)), (int(head), reply(text)), operation)
             journal = subprocess.run([ROOT / 'kds', 'replay', '--journal'], stdin=path.open('rb'), capture_output=True, check=True).stdout
             verdict = subprocess.run([ROOT / 'kds', 'audit'], input=journal, capture_output=True, check=False)
             self.assertEqual((0, b'sound %d\n' % (journal.count(b'\n') - 2)), (verdict.returncode, verdict.stdout))
+
+
+class Beside(unittest.TestCase):
+    """Clients of one recorder, before a server with a single place."""
+
+    def setUp(self):
+        stack = contextlib.ExitStack()
+        self.addCleanup(stack.close)
+        self.path = pathlib.Path(stack.enter_context(tempfile.TemporaryDirectory())) / 'session.txt'
+        server = stack.enter_context(serving(members=1))
+        self.through, _ = stack.enter_context(recording(server, self.path))
+        self.stack = stack
+
+    def connect(self):
+        connection = self.stack.enter_context(self.through.connect())
+        connection.settimeout(10)
+        return connection
+
+    def assert_answered(self, connection, data, status=200):
+        connection.sendall(data)
+        self.assertEqual([it for it, _ in responses(connection, 1)], [status])
+
+    def lines(self):
+        return [line.split(b' ', 2)[2] for line in self.path.read_bytes().splitlines()]
+
+    def test_idle_ones_and_halves_hold_nobody_up(self):
+        first, second = self.connect(), self.connect()
+        self.assert_answered(second, request('CreateStream', b'{"StreamName":"a","ShardCount":1}'))
+        half = request('CreateStream', b'{"StreamName":"b","ShardCount":1}')
+        first.sendall(half[:-10])
+        self.assert_answered(second, request('CreateStream', b'{"StreamName":"c","ShardCount":1}'))
+        self.assert_answered(first, half[-10:])
+        self.assert_answered(second, request('CreateStream', b'{"StreamName":"d","ShardCount":1}'))
+        self.assertEqual(self.lines(), [b'CreateStream {"StreamName":"%s","ShardCount":1}' % it for it in (b'a', b'c', b'b', b'd')])
+
+    def test_readers_that_stop_hold_nobody_up(self):
+        rude, second = self.connect(), self.connect()
+        self.assert_answered(second, request('CreateStream', b'{"StreamName":"a","ShardCount":1}'))
+        self.assert_answered(second, request('PutRecord', b'{"StreamName":"a","PartitionKey":"a","Data":"%s"}' % (b'QUFB' * 200_000)))
+        second.sendall(request('GetShardIterator', b'{"StreamName":"a","ShardId":"shardId-000000000000","ShardIteratorType":"TRIM_HORIZON"}'))
+        iterator = json.loads(responses(second, 1)[0][1])['ShardIterator']
+        rude.sendall(request('GetRecords', json.dumps({'ShardIterator': iterator}).encode()) * 40)
+        for _ in range(20):
+            self.assert_answered(second, request('ListStreams', b'{}'))
+
+    def test_what_is_no_message(self):
+        """The server has the word on it, and no line stands for it."""
+        for odd, status in ((b'POST / HTTP/1.1\r\n\r\n', 411), (b'POST / HTTP/1.1\r\nX: ' + b'y' * 20_000, 431),
+                            (b'POST / HTTP/1.1\r\nContent-Length: 99999999\r\n\r\n' + b'x' * 200_000, 413)):
+            self.assert_answered(self.connect(), odd, status)
+        last = self.connect()
+        self.assert_answered(last, request('ListStreams', b'{}', close=True))
+        self.assertEqual(last.recv(1), b'')
+        self.assertEqual(self.lines(), [b'ListStreams {}'])
+
+
+class Command(unittest.TestCase):
+    """The program of the recorder: it never empties a file, and says in a line why there is no recording."""
+
+    def setUp(self):
+        folder = tempfile.TemporaryDirectory()
+        self.addCleanup(folder.cleanup)
+        self.path = pathlib.Path(folder.name) / 'session.txt'
+        self.port = free_port()
+
+    def start(self, *words):
+        started = subprocess.Popen([ROOT / 'clients' / 'record', *map(str, words)], stdin=subprocess.DEVNULL, stdout=subprocess.PIPE,
+                                   stderr=subprocess.PIPE, text=True)
+        self.addCleanup(started.kill)
+        return started
+
+    def assert_refused(self, started, said):
+        out, err = started.communicate(timeout=30)
+        self.assertEqual((started.returncode, out.removeprefix('recording\n'), err.count('\n')), (1, '', 1), err)
+        self.assertIn(said, err)
+
+    def test_a_file_that_is_there(self):
+        self.path.write_text('1 api ListStreams {}\n')
+        with serving(members=1) as server:
+            self.assert_refused(self.start(self.port, server.port, self.path), 'name another file')
+        self.assertEqual(self.path.read_text(), '1 api ListStreams {}\n')
+
+    def test_what_is_not_there(self):
+        self.assert_refused(self.start(self.port, free_port(), self.path), 'there is no server')
+        self.assertFalse(self.path.exists())
+        with serving(members=1) as server:
+            self.assert_refused(self.start(self.port, server.port, self.path.parent / 'no' / 'session.txt'), 'No such file or directory')
+            with socket.create_server(('127.0.0.1', 0)) as other:
+                self.assert_refused(self.start(other.getsockname()[1], server.port, self.path), 'Address already in use')
+        self.assertFalse(self.path.exists())
+
+    def test_words(self):
+        for words, code in (((), 2), (('0', '1', 'x'), 2), (('1', '65536', 'x'), 2), (('1', '2'), 2), (('--help',), 0)):
+            started = self.start(*words)
+            out, err = started.communicate(timeout=30)
+            self.assertEqual((started.returncode, 'clients/record PORT TARGET FILE' in (err if code else out)), (code, True), words)
+
+    def test_a_session_ends_whole(self):
+        """By an interrupt with status 0; by the end of the server with status 1. The file has what was answered."""
+        for by_interrupt in (True, False):
+            path, port = self.path.with_suffix(f'.{by_interrupt}'), free_port()
+            with serving(members=2) as server:
+                started = self.start(port, server.port, path)
+                self.assertEqual(started.stdout.readline(), 'recording\n')
+                with socket.create_connection(('127.0.0.1', port), timeout=10) as connection:
+                    connection.sendall(request('ListStreams', b'{}'))
+                    self.assertEqual([status for status, _ in responses(connection, 1)], [200])
+                    if not by_interrupt:
+                        server.stop()
+                        connection.sendall(request('ListStreams', b'{}'))
+                        self.assertEqual(responses(connection, 1), [])
+                        with socket.create_connection(('127.0.0.1', port), timeout=10) as another:
+                            another.sendall(request('ListStreams', b'{}'))
+                            self.assertEqual(responses(another, 1), [])
+            if by_interrupt:
+                started.send_signal(signal.SIGINT)
+                self.assertEqual((*started.communicate(timeout=30), started.returncode), ('', '', 0))
+            else:
+                self.assert_refused(started, 'is gone')
+            self.assertRegex(path.read_bytes(), rb'\A[0-9]+ api ListStreams {}\n\Z')

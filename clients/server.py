@@ -9,6 +9,8 @@ import time
 
 ROOT = pathlib.Path(__file__).resolve().parent.parent
 JSON = 'application/x-amz-json-1.1'
+# The seconds after which the server ends a connection that sends nothing, and one that takes nothing of its answer (docs/clients.md).
+IDLE, FULL = 10, 30
 
 
 def free_port():
@@ -49,10 +51,17 @@ class Server:
         """A plain connection."""
         return socket.create_connection(('127.0.0.1', self.port), timeout=30)
 
+    def memory(self, kind):
+        status = pathlib.Path(f'/proc/{self.process.pid}/status').read_text()
+        return next(int(line.split()[1]) * 1024 for line in status.splitlines() if line.startswith(kind))
+
     def resident(self):
         """The bytes of memory that the process has."""
-        status = pathlib.Path(f'/proc/{self.process.pid}/status').read_text()
-        return next(int(line.split()[1]) * 1024 for line in status.splitlines() if line.startswith('VmRSS'))
+        return self.memory('VmRSS')
+
+    def mapped(self):
+        """The bytes of addresses that the process has."""
+        return self.memory('VmSize')
 
     def threads(self):
         return len(list(pathlib.Path(f'/proc/{self.process.pid}/task').iterdir()))

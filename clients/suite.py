@@ -14,7 +14,7 @@ import boto3
 from botocore.config import Config
 from botocore.exceptions import ClientError
 
-from server import request, responses, serving
+from server import IDLE, request, responses, serving
 
 KEYS = 2**128
 FIVE = ('TRIM_HORIZON', 'LATEST', 'AT_SEQUENCE_NUMBER', 'AFTER_SEQUENCE_NUMBER', 'AT_TIMESTAMP')
@@ -38,14 +38,14 @@ class Suite(unittest.TestCase):
         cls.context.__exit__(None, None, None)
 
     @classmethod
-    def client(cls):
+    def client(cls, server=None, pool=32):
         return boto3.client(
             'kinesis',
-            endpoint_url=cls.server.endpoint,
+            endpoint_url=(server or cls.server).endpoint,
             region_name='us-east-1',
             aws_access_key_id='any',
             aws_secret_access_key='any',
-            config=Config(retries={'total_max_attempts': 1}, parameter_validation=False, max_pool_connections=32),
+            config=Config(retries={'total_max_attempts': 1}, parameter_validation=False, max_pool_connections=pool),
         )
 
     def stream(self, shards=1):
@@ -152,6 +152,25 @@ class Suite(unittest.TestCase):
         error = self.kinesis.exceptions.InvalidArgumentException
         self.refused(error, self.kinesis.decrease_stream_retention_period, StreamName=name, RetentionPeriodHours=72)
         self.refused(error, self.kinesis.increase_stream_retention_period, StreamName=name, RetentionPeriodHours=24)
+
+    def test_update_shard_count(self):
+        name = self.stream(2)
+        told = self.kinesis.update_shard_count(StreamName=name, TargetShardCount=3, ScalingType='UNIFORM_SCALING')
+        self.assertEqual((told['StreamName'], told['CurrentShardCount'], told['TargetShardCount']), (name, 2, 3))
+        left = [s for s in self.shards(name) if 'EndingSequenceNumber' not in s['SequenceNumberRange']]
+        self.assertEqual(sorted(int(s['HashKeyRange']['StartingHashKey']) for s in left), [i * (KEYS // 3) for i in range(3)])
+
+    def test_local_enforce_limits(self):
+        """No SDK has it, so it is sent plainly; then what boto3 puts is throttled, and retried by nobody."""
+        name = self.stream()
+        halves = [{'PartitionKey': 'a', 'Data': bytes(524_287)}] * 3
+        for enforce, failed in ((b'true', 1), (b'false', 0)):
+            with self.server.connect() as connection:
+                connection.sendall(request('LocalEnforceLimits', b'{"StreamName":"%s","Enforce":%s}' % (name.encode(), enforce)))
+                self.assertEqual(responses(connection, 1), [(200, b'')])
+            told = self.kinesis.put_records(StreamName=name, Records=halves)
+            self.assertEqual(told['FailedRecordCount'], failed)
+            self.assertEqual(told['Records'][-1].get('ErrorCode'), 'ProvisionedThroughputExceededException' if failed else None)
 
     # ---- iterators
 
@@ -391,6 +410,39 @@ class Suite(unittest.TestCase):
             self.assertEqual(given, sorted(wanted[shard]), shard)
         numbers = [int(place['SequenceNumber']) for place, _ in placed]
         self.assertEqual(sorted(numbers), list(range(1, writers * each + 1)))
+
+    def test_more_threads_than_places(self):
+        """Two clients of ten threads each, at a server with 17 places: all are answered, though each client keeps its connections."""
+        threads, puts = 10, 20
+        with serving(members=17) as server:
+            clients = [self.client(server, threads) for _ in range(2)]
+            clients[0].create_stream(StreamName='crowded', ShardCount=1)
+
+            def produce(client, thread):
+                return [int(client.put_record(StreamName='crowded', PartitionKey=thread, Data=str(i).encode())['SequenceNumber'])
+                        for i in range(puts)]
+
+            with concurrent.futures.ThreadPoolExecutor(2 * threads) as pool:
+                made = {f'{i} {j}': pool.submit(produce, client, f'{i} {j}') for i, client in enumerate(clients) for j in range(threads)}
+                placed = {thread: done.result() for thread, done in made.items()}
+            at = clients[0].get_shard_iterator(StreamName='crowded', ShardId='shardId-000000000000', ShardIteratorType='TRIM_HORIZON')
+            records = clients[0].get_records(ShardIterator=at['ShardIterator'])['Records']
+            self.assertEqual([int(r['SequenceNumber']) for r in records], list(range(1, 2 * threads * puts + 1)))
+            for thread, numbers in placed.items():
+                own = [(int(r['SequenceNumber']), r['Data']) for r in records if r['PartitionKey'] == thread]
+                self.assertEqual(own, [(number, str(i).encode()) for i, number in enumerate(numbers)])
+            clients[0].delete_stream(StreamName='crowded')
+            for client in clients:
+                client.close()
+
+    def test_a_pause_longer_than_the_idle_limit(self):
+        """The pooled connection was closed meanwhile; the client opens another, and its caller sees nothing of it."""
+        name, client = self.stream(), self.client()
+        first = client.put_record(StreamName=name, PartitionKey='a', Data=b'before')
+        time.sleep(IDLE + 2)
+        second = client.put_record(StreamName=name, PartitionKey='a', Data=b'after')
+        client.close()
+        self.assertEqual([int(put['SequenceNumber']) for put in (first, second)], [1, 2])
 
     # ---- paginators
 

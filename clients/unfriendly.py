@@ -1,18 +1,21 @@
 """What clients do that nobody asked for: bytes one by one, connections left half open, garbage, huge heads, wrong
-lengths, thousands of requests at once, resets in mid-answer, readers that stop, more clients than there are places.
-After each a normal client is served, and the memory of the server stays bounded."""
+lengths, thousands of requests at once, resets in mid-answer, readers that stop, more clients than there are places,
+clients that stay. After each a normal client is served, and the memory of the server stays bounded."""
+import contextlib
 import json
 import os
 import random
+import resource
 import select
 import signal
 import socket
 import struct
 import subprocess
+import threading
 import time
 import unittest
 
-from server import ROOT, Server, free_port, request, responses, serving
+from server import FULL, IDLE, ROOT, Server, free_port, request, responses, serving
 
 MEMBERS = 9
 MEGABYTE = 1 << 20
@@ -63,7 +66,7 @@ class Unfriendly(unittest.TestCase):
             self.assertEqual(responses(connection, 1), [(200, NAMES)])
 
     def test_half_open(self):
-        held = [self.server.connect() for _ in range(MEMBERS - 1)]
+        held = [self.server.connect() for _ in range(MEMBERS)]
         for connection in held:
             connection.sendall(LIST[:-3])
         for connection in held:
@@ -166,7 +169,7 @@ class Unfriendly(unittest.TestCase):
 
     def test_more_clients_than_places(self):
         """Those that find no place wait, and are served as soon as one is free."""
-        held = [self.server.connect() for _ in range(MEMBERS - 1)]
+        held = [self.server.connect() for _ in range(MEMBERS)]
         for connection in held:
             connection.sendall(LIST)
             self.assertEqual(responses(connection, 1), [(200, NAMES)])
@@ -190,6 +193,112 @@ class Unfriendly(unittest.TestCase):
         self.assertLessEqual(self.server.threads(), 2)
 
 
+class Places(unittest.TestCase):
+    """Clients that stay give their places back: none keeps another client from being served."""
+
+    def serve(self, members):
+        context = serving(members)
+        self.server = context.__enter__()
+        self.addCleanup(context.__exit__, None, None, None)
+
+    def clients(self, count):
+        """So many clients that were each answered once."""
+        made = [self.server.connect() for _ in range(count)]
+        for connection in made:
+            self.addCleanup(connection.close)
+            connection.settimeout(2 * FULL)
+            connection.sendall(request('ListStreams', b'{}'))
+            self.assertEqual([status for status, _ in responses(connection, 1)], [200])
+        return made
+
+    def assert_served_within(self, seconds):
+        begin = time.monotonic()
+        self.clients(1)
+        self.assertLess(time.monotonic() - begin, seconds)
+
+    def assert_ended(self, connection):
+        """The server has closed it, or reset it."""
+        connection.settimeout(5)
+        with contextlib.suppress(ConnectionResetError):
+            while connection.recv(1 << 20):
+                pass
+
+    def test_the_last_one_is_idle(self):
+        self.serve(17)
+        *others, _ = self.clients(17)
+        for connection in others:
+            connection.close()
+        self.assert_served_within(2)
+
+    def test_the_last_one_is_busy(self):
+        """And so is one that never stops asking, in whichever place it is."""
+        self.serve(3)
+        others, ended = self.clients(3), threading.Event()
+
+        def ask():
+            while not ended.is_set():
+                others[-1].sendall(request('ListStreams', b'{}'))
+                responses(others[-1], 1)
+
+        asking = threading.Thread(target=ask)
+        asking.start()
+        try:
+            for connection in others[:-1]:
+                connection.close()
+            self.assert_served_within(2)
+        finally:
+            ended.set()
+            asking.join()
+
+    def test_all_stay(self):
+        self.serve(17)
+        held = self.clients(17)
+        self.assert_served_within(IDLE + 1)
+        for connection in held:
+            self.assert_ended(connection)
+
+    def test_half_requests(self):
+        """Half a head, half a body, a request and a half."""
+        self.serve(3)
+        held = self.clients(3)
+        for connection, part in zip(held, (LIST[:40], LIST[:-1], LIST + LIST[:-1])):
+            connection.sendall(part)
+        self.assert_served_within(IDLE + 1)
+        for connection in held:
+            self.assert_ended(connection)
+
+    def test_readers_that_read_nothing(self):
+        self.serve(2)
+        held = self.clients(2)
+        held[0].sendall(request('CreateStream', b'{"StreamName":"s","ShardCount":1}'))
+        held[0].sendall(request('PutRecord', b'{"StreamName":"s","PartitionKey":"a","Data":"%s"}' % (b'QUFB' * 2_000_000)))
+        held[0].sendall(request('GetShardIterator',
+                        b'{"StreamName":"s","ShardId":"shardId-000000000000","ShardIteratorType":"TRIM_HORIZON"}'))
+        iterator = json.loads(responses(held[0], 3)[-1][1])['ShardIterator']
+        for connection in held:
+            connection.sendall(request('GetRecords', json.dumps({'ShardIterator': iterator}).encode()) * 4)
+        self.assert_served_within(FULL + 2)
+
+    def test_closed_ones_that_stay(self):
+        """A client that was told `Connection: close`, or whose head was refused, and doesn't close."""
+        self.serve(2)
+        closed, refused = self.clients(2)
+        closed.sendall(request('ListStreams', b'{}', close=True))
+        refused.sendall(b'GET / HTTP/1.1\r\nContent-Length: 0\r\n\r\n')
+        self.assertEqual([[status for status, _ in responses(it, 1)] for it in (closed, refused)], [[200], [405]])
+        self.assert_served_within(3)
+
+    def test_no_thread_can_be_made(self):
+        """Where the system has no room for a thread's stack, the thread that accepts serves, and then accepts again."""
+        self.serve(3)
+        room = self.server.mapped() + MEGABYTE
+        resource.prlimit(self.server.process.pid, resource.RLIMIT_AS, (room, room))
+        for _ in range(5):
+            connection, = self.clients(1)
+            self.assertEqual(self.server.threads(), 1)
+            connection.close()
+
+
 class Ending(unittest.TestCase):
     def test_signals_end_it_at_once(self):
         for sign in (signal.SIGINT, signal.SIGTERM):
@@ -202,7 +311,7 @@ class Ending(unittest.TestCase):
         with serving(2) as server:
             done = subprocess.run([ROOT / 'kds', 'serve', str(server.port), '2'], stdin=subprocess.DEVNULL,
                                   capture_output=True, timeout=60)
-            self.assertEqual((done.returncode, done.stdout, done.stderr), (8, b'', b'door fault\n'))
+            self.assertEqual((done.returncode, done.stdout, done.stderr.splitlines()[0]), (8, b'', b'door fault'))
 
     def test_words(self):
         port = str(free_port())
