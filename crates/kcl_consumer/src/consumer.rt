@@ -128,33 +128,37 @@ fn after_marking(ahead: &Ahead, answer: &Answer) -> (ConsumerStage, Progress)
 }
 
 /// Where a consumer stands after the answer to the opening of its shard, and what is told of it.
-fn after_opening(answer: &Answer) -> (ConsumerStage, Progress)
+fn after_opening(answer: Answer) -> (ConsumerStage, Progress)
     ensures phase { (reach : ℕ) (waiting : List Fetched) (asked : Option Target) (lost : Bool)
-        → phase_of result.0 reach waiting asked lost ≡ after_open answer.now }
+        → phase_of result.0 reach waiting asked lost ≡ after_open answer }
     ensures kept { (waiting : List Fetched) → waiting ≡ [] → IsKept result.0 waiting }
-    ensures told { result.1 ≡ told_over (over_at (after_open answer.now)) }
+    ensures told { result.1 ≡ told_over (over_at (after_open answer)) }
 {
-    match answer {
+    let after = match &answer {
         Ok(_) => (ConsumerStage::Starting, Progress::Going),
         Err(Refusal::ParentsOpen(_)) => (ConsumerStage::Opening, Progress::Going),
         Err(_) => (
             ConsumerStage::Over(Why::NeverOpened),
             Progress::Over(Why::NeverOpened),
         ),
-    }
+    };
+    let_go(answer);
+    after
 }
 
 /// Where a consumer stands after the mark at its shard's end, and what is told of it.
-fn after_ending(answer: &Answer) -> (ConsumerStage, Progress)
+fn after_ending(answer: Answer) -> (ConsumerStage, Progress)
     ensures phase { (reach : ℕ) (waiting : List Fetched) (asked : Option Target) (lost : Bool)
-        → phase_of result.0 reach waiting asked lost ≡ after_end answer.now }
+        → phase_of result.0 reach waiting asked lost ≡ after_end answer }
     ensures kept { (waiting : List Fetched) → IsKept result.0 waiting }
-    ensures told { result.1 ≡ told_over (over_at (after_end answer.now)) }
+    ensures told { result.1 ≡ told_over (over_at (after_end answer)) }
 {
-    match answer {
+    let after = match &answer {
         Ok(_) => (ConsumerStage::Over(Why::Ended), Progress::Over(Why::Ended)),
         Err(_) => (ConsumerStage::Leaving(Why::Lost), Progress::Going),
-    }
+    };
+    let_go(answer);
+    after
 }
 
 /// What is told of a consumer that waits for no answer at this stage: this one isn't needed.
@@ -408,9 +412,8 @@ impl<P: Processor> Consumer<P> {
     {
         match self.stage {
             ConsumerStage::Opening => {
-                let (stage, progress) = after_opening(&answer);
+                let (stage, progress) = after_opening(answer);
                 self.stage = stage;
-                let_go(answer);
                 progress
             }
             ConsumerStage::Filling => {
@@ -436,9 +439,8 @@ impl<P: Processor> Consumer<P> {
                 progress
             }
             ConsumerStage::MarkingEnd => {
-                let (stage, progress) = after_ending(&answer);
+                let (stage, progress) = after_ending(answer);
                 self.stage = stage;
-                let_go(answer);
                 progress
             }
             stage => told_over(stage, answer),

@@ -1,8 +1,0 @@
-use Rattle.std.proofs.Common.{rules}
-use Rattle.kcl_sim.proofs.print.print.Goals as goal
-
-pub returns-in_err-fill-clause-err : goal.returns-in_err-fill-clause-err
-returns-in_err-fill-clause-err c = search rules
-
-pub returns-clause-err : goal.returns-clause-err
-returns-clause-err c = search rules
