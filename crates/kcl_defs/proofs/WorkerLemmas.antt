@@ -4,6 +4,7 @@ use Rattle.std.specs.Prelude.{◌==◌, ◌&&◌, ◌||◌, not, cond, if◌then
 use Rattle.std.specs.List.{AllByRecursion, filter, find}
 use Rattle.std.proofs.lemmas.Bool.Decides.{nat_tests}
 use Rattle.std.proofs.lemmas.Bool.{and_right, or_parts}
+use Rattle.kds_base.proofs.Facts.{both_right, equal_so, is_itself}
 use Rattle.kds_defs.specs.declared.command.Command.{Command}
 use Rattle.kds_defs.specs.declared.command.Command.TheVariants as command
 use Rattle.kcl_defs.specs.declared.consumer.Ask.{Ask}
@@ -185,16 +186,12 @@ found_times id k (x ∷ xs) h = head (same_id (id_of x) id) refl h (λ g. found_
     at_least : (a b c : ℕ) → 1 ≤ b → 1 ≤ a + b
     at_least a b c h = omega (arith, h)
 
-    both : (a b : Bool) → (a && b) ≡ true → b ≡ true
-    both true b h = h
-    both false b h = absurd cc
-
     counted : (b : Bool) (m : ℕ) → b ≡ true → 1 ≤ (if b then 1 else 0) + m
     counted true m h = omega arith
     counted false m h = absurd cc
 
     head : (b : Bool) → same_id (id_of x) id ≡ b → cond b (Some x) (known_of id xs) ≡ Some k → (known_of id xs ≡ Some k → 1 ≤ times id.tenure xs) → 1 ≤ times id.tenure (x ∷ xs)
-    head true e g rest = counted (x.made.tenure == id.tenure) (times id.tenure xs) (both _ (x.made.tenure == id.tenure) e)
+    head true e g rest = counted (x.made.tenure == id.tenure) (times id.tenure xs) (both_right _ (x.made.tenure == id.tenure) e)
     head false e g rest = at_least (if x.made.tenure == id.tenure then 1 else 0) (times id.tenure xs) 0 (rest g)
 
 -- the consumer's command and its answer
@@ -202,10 +199,6 @@ own : (id : LeaseId) (deal : Deal) (deals : List Deal) (k : Known) (counter : �
 own id deal deals k counter [] next is once found h = tt
 own id deal deals k counter (x ∷ xs) next is once found h = head (same_id (id_of x) id) refl found (λ o g. own id deal deals k counter xs next is o g h.1)
   where
-    both : (a b : Bool) → (a && b) ≡ true → b ≡ true
-    both true b h = h
-    both false b h = absurd cc
-
     same_known : (x k : Known) → Some x ≡ Some k → k ≡ x
     same_known x k e = cc
 
@@ -219,7 +212,7 @@ own id deal deals k counter (x ∷ xs) next is once found h = head (same_id (id_
 
     head : (b : Bool) → same_id (id_of x) id ≡ b → cond b (Some x) (known_of id xs) ≡ Some k → (times id.tenure xs ≤ 1 → known_of id xs ≡ Some k → AllByRecursion (InStep (deal ∷ deals)) (consumed id deal.answer xs)) → AllByRecursion (InStep (deal ∷ deals)) (if b then with_event (Answered deal.answer) x ∷ xs else x ∷ consumed id deal.answer xs)
     head true e g rest =
-        let none = none_left (x.made.tenure == id.tenure) (times id.tenure xs) (both _ (x.made.tenure == id.tenure) e) once in
+        let none = none_left (x.made.tenure == id.tenure) (times id.tenure xs) (both_right _ (x.made.tenure == id.tenure) e) once in
         let P : Known → Type 0 = λ j. next_command j.made (phase_of_known j) counter ≡ Some deal.what in (
           own_keeps deal deals counter x.made x.past (subst P (same_known x k g) next) h.0,
           others id.tenure deal deals xs is none h.1,
@@ -323,9 +316,6 @@ taken_good deal deals k consumers retired is no_past begun_by new no_read no_giv
     first : InStep (deal ∷ deals) k
     first = let q = is k.made.tenure deal.answer in others_keep deal deals k.made k.past q.0 q.1 start
 
-    same_tenure : (t u : ℕ) → (t == u) ≡ true → t ≡ u
-    same_tenure t u h = grind (arith, nat_tests)
-
     one_at : (a b c : ℕ) → a ≡ 1 + b → b + c ≡ 0 → a + c ≤ 1
     one_at a b c h n = omega (arith, h, n)
 
@@ -339,7 +329,7 @@ taken_good deal deals k consumers retired is no_past begun_by new no_read no_giv
     apart_at t true e =
         one_at (times t (with_known k consumers)) (times t consumers) (times t retired)
         (times-with_known t k consumers ∙ ap (λ b. (if b then 1 else 0) + times t consumers) e)
-        (subst (λ u. times u consumers + times u retired ≡ 0) (same_tenure k.made.tenure t e) (g.begun k.made.tenure new))
+        (subst (λ u. times u consumers + times u retired ≡ 0) (equal_so k.made.tenure t e) (g.begun k.made.tenure new))
     apart_at t false e =
         none_at (times t (with_known k consumers)) (times t consumers) (times t retired)
         (times-with_known t k consumers ∙ ap (λ b. (if b then 1 else 0) + times t consumers) e) (g.apart t)
@@ -409,16 +399,13 @@ finds p k (x ∷ xs) once h = head (p x) refl h (λ o g. finds p k xs o g)
     more : (a b : ℕ) → 1 ≤ b → 1 ≤ a + b
     more a b o = omega (arith, o)
 
-    equal_true : (a : ℕ) → (a == a) ≡ true
-    equal_true a = grind (arith, nat_tests)
-
     head : (b : Bool) → p x ≡ b → cond b (Some x) (find p xs) ≡ Some k → (times k.made.tenure xs ≤ 1 → find p xs ≡ Some k → (known_of (id_of k) xs ≡ Some k) × (p k ≡ true) × (1 ≤ times k.made.tenure xs)) → (known_of (id_of k) (x ∷ xs) ≡ Some k) × (p k ≡ true) × (1 ≤ times k.made.tenure (x ∷ xs))
     head true e g rest =
         let P : Known → Type 0 = λ j. (known_of (id_of j) (x ∷ xs) ≡ Some j) × (p j ≡ true) × (1 ≤ times j.made.tenure (x ∷ xs)) in
         subst P (sym (same_known x k g)) (
           ap (λ b. cond b (Some x) (known_of (id_of x) xs)) (same_own_id x),
           e,
-          counted (x.made.tenure == x.made.tenure) (times x.made.tenure xs) (equal_true x.made.tenure),
+          counted (x.made.tenure == x.made.tenure) (times x.made.tenure xs) (is_itself x.made.tenure),
         )
     head false e g rest =
         let r = rest (rest_le (if x.made.tenure == k.made.tenure then 1 else 0) (times k.made.tenure xs) once) g in
@@ -439,12 +426,8 @@ found_tenure id k (x ∷ xs) h = head (same_id (id_of x) id) refl h (λ g. found
     same_known : (x k : Known) → Some x ≡ Some k → x ≡ k
     same_known x k e = cc
 
-    same_tenure : (a : Bool) (t u : ℕ) → (a && (t == u)) ≡ true → t ≡ u
-    same_tenure true t u h = grind (arith, nat_tests)
-    same_tenure false t u h = absurd cc
-
     head : (b : Bool) → same_id (id_of x) id ≡ b → cond b (Some x) (known_of id xs) ≡ Some k → (known_of id xs ≡ Some k → k.made.tenure ≡ id.tenure) → k.made.tenure ≡ id.tenure
-    head true e g rest = ap (λ j. j.made.tenure) (sym (same_known x k g)) ∙ same_tenure _ x.made.tenure id.tenure e
+    head true e g rest = ap (λ j. j.made.tenure) (sym (same_known x k g)) ∙ equal_so x.made.tenure id.tenure (both_right _ (x.made.tenure == id.tenure) e)
     head false e g rest = rest g
 
 -- ---- what holds along the record

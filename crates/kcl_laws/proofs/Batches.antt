@@ -4,7 +4,7 @@ use Rattle.std.specs.Prelude.{◌==◌, ◌&&◌, ◌||◌, ◌⊎◌, not, nat_
 use Rattle.std.specs.List.{AllByRecursion, filter}
 use Rattle.std.proofs.lemmas.Bool.Decides.{nat_tests}
 use Rattle.std.proofs.lemmas.Bool.{and_parts}
-use Rattle.kds_base.proofs.Facts.{equal_so}
+use Rattle.kds_base.proofs.Facts.{apart, equal_so}
 use Rattle.kds_defs.specs.declared.entry.Entry.{Entry}
 use Rattle.kds_defs.specs.declared.entry.Entry.TheVariants as entry
 use Rattle.kds_defs.specs.declared.limits.TheConstants.{BATCH_BYTES}
@@ -33,10 +33,7 @@ all_push P (x ∷ xs) y h g = (h.0, all_push P xs y h.1 g)
 
 filter_head : {A : Type 0} (f : A → Bool) (P : A → Type 0) (x : A) (xs : List A) (b : Bool) → f x ≡ b → (AllByRecursion P (filter f xs) → AllByRecursion (λ y. f y ≡ true → P y) xs) → AllByRecursion P (cond b (x ∷ filter f xs) (filter f xs)) → AllByRecursion (λ y. f y ≡ true → P y) (x ∷ xs)
 filter_head f P x xs true is rest h = (λ e. h.0, rest h.1)
-filter_head f P x xs false is rest h = (λ e. absurd (apart (sym e ∙ is)), rest h)
-  where
-    apart : true ≡ false → ⊥
-    apart e = cc
+filter_head f P x xs false is rest h = (λ e. absurd (apart (f x) e is), rest h)
 
 pub all_filter : {A : Type 0} (f : A → Bool) (P : A → Type 0) (xs : List A) → AllByRecursion P (filter f xs) → AllByRecursion (λ x. f x ≡ true → P x) xs
 all_filter f P [] h = tt

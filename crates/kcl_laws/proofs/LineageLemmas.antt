@@ -15,7 +15,7 @@ use Rattle.kds_defs.specs.Records.{next_number}
 use Rattle.kds_defs.specs.Safe.{IsPast, IsExpiredState, ArePastState, AreParentsPast, IsOpening, WasOpened, IsInLine, AreInLine}
 use Rattle.kds_defs.specs.Shards.{ShardState, Closing, shards, shards_after, first_shards, new_shard, with_closed, shard_at, is_expired, is_listed_state}
 use Rattle.kds_base.specs.Span.{uniform}
-use Rattle.kds_base.proofs.Facts.{equal_so}
+use Rattle.kds_base.proofs.Facts.{apart, equal_so}
 use Rattle.kds_defs.specs.StreamCommands.{is_open_at}
 use Rattle.kds_defs.specs.Keys.{ref}
 use Rattle.kds_defs.proofs.Decisions.{passes, holds_so}
@@ -151,10 +151,7 @@ past_state log legal c s sh (Some x) at listed read =
 
 opened_by : (log : Journal) (line : Line) (t : ℕ) (T : TenureState) → TenureStep log line t T → ((S : TenureState) → tenure log t ≡ Some S → S.opened ≡ true → WasOpened log t) → T.opened ≡ true → WasOpened (line ∷ log) t
 opened_by log line t T (Begun key number counter owner is new state) before h =
-    let e = sym h ∙ ap (λ (S : TenureState). S.opened) state in absurd (true_false e)
-  where
-    true_false : true ≡ false → ⊥
-    true_false h = cc
+    let e = sym h ∙ ap (λ (S : TenureState). S.opened) state in absurd (apart true refl e)
 opened_by log line t T (Same is) before h = inr (before T is h)
 opened_by log line t T (Opening S what is new) before h = inl (subst (λ e. IsOpening e t) (sym what) refl)
 opened_by log line t T (Reading S limit ended numbers what is new) before h = inr (before S is (ap (λ (U : TenureState). U.opened) (sym new) ∙ h))
