@@ -7,39 +7,44 @@ use Rattle.kds_defs.specs.declared.command.Command.{Command}
 use Rattle.kds_defs.specs.declared.command.Turn.{Turn}
 use Rattle.kds_defs.specs.declared.reply.Refusal.{Refusal}
 use Rattle.kds_defs.specs.declared.reply.Reply.{Reply}
+use Rattle.kds_defs.specs.declared.reply.Stored.{Stored}
 use Rattle.kds_defs.specs.Lawful.{IsHistory}
+use Rattle.kcl_defs.specs.declared.consumer.Ask.{Ask}
 use Rattle.kcl_defs.specs.declared.consumer.Call.{Call}
 use Rattle.kcl_defs.specs.declared.consumer.Tenancy.{Tenancy}
 use Rattle.kcl_defs.specs.declared.consumer.WorkerMade.{WorkerMade}
 use Rattle.kcl_defs.specs.declared.plans.Held.{Held}
-use Rattle.kcl_defs.specs.Consumers.{Losing, Past, calls_after, due_call, phase_after}
-use Rattle.kcl_defs.specs.Lives.{deals_of}
+use Rattle.kcl_defs.specs.Consumers.{Losing, Past, call_at, calls_after, due_call, phase_after, with_call}
+use Rattle.kcl_defs.specs.Lives.{Deal, deals_of}
 use Rattle.kcl_defs.specs.WorkerLives.{MayHappen}
-use Rattle.kcl_defs.specs.Workers.{Release, Released, WorkerPast, released, worker_after}
+use Rattle.kcl_defs.specs.Workers.{Release, Released, WorkerPast, id_of_held, released, worker_after}
 use Rattle.kcl_consumer.specs.Standing.{Standing as ConsumerStanding}
 use Rattle.kcl_hand.specs.declared.stand.Left.{Left}
 use Rattle.kcl_hand.specs.Handing.{HandPast, Hand_answered, Hand_called, command_at, hand_after, hand_command, left_at}
 use Rattle.kcl_hand.specs.Joints.{AreAllServed, AreOrderly, AreToldIn, JointPast, answered_deals, command_in, hand_of, hands_after, joint_deals, state_of, worker_in, worker_past}
 use Rattle.kcl_hand.specs.Runs.{with_hand}
-use Rattle.kcl_hand.specs.Standing.{AddsHandAnswer, BeginsHand, HandStanding, StandsFor as HandStandsFor}
+use Rattle.kcl_hand.specs.Standing.{AddsDueCall, AddsHandAnswer, AddsHandCall, AddsNothing, BeginsHand, HandStanding, KeepsCalls, StandsFor as HandStandsFor}
 use Rattle.kcl_hand.specs.Twice.{IsHandedOffIfFreed}
 use Rattle.kcl_hand.proofs.Running.{command_last, hands_with}
 use Rattle.kcl_worker.specs.Adding.{AddsRelease}
 use Rattle.kcl_worker.specs.Standing.{StandsFor, WorkerStanding}
+use Rattle.kcl_worker_lists.specs.Changes.{one_of}
 use Rattle.kds_turn.specs.declared.pass.TurnErr.{TurnErr}
 use Rattle.kds_turn.specs.Known.{Continues, turns_by}
 use Rattle.kds_turn.specs.Passes.{IsAnswered, Standing}
 use Rattle.kds_turn.proofs.Turns.{continues_same, continues_all}
-use Rattle.kcl_live.specs.Hands.{AreAnswered, AreServedJointly, Goes, HandWasCut, HasHandedOff, HasReleased, IsAlong, IsAnsweredAt, StoodStill, TellsJointly, hand_commands, hand_deals, release_state, turns_at}
+use Rattle.kcl_live.specs.Hands.{AreAnswered, AreServedJointly, Goes, HandWasCut, HasHandedOff, HasReleased, IsAlong, IsAnsweredAt, StoodStill, TellsJointly}
+use Rattle.kcl_live.specs.Hands.{hand_calls, hand_commands, hand_deals, release_calls, release_state, turns_at}
+use Rattle.kcl_live.specs.Records.{OfEachLater}
 use Rattle.kcl_live.proofs.Histories.{before_own, told_more}
 
 -- ---- going on
 
 pub goes_on : {P : Type 0} (stands : P → List Call → Type 0) (at : ℕ) (x y z : HandStanding P) (q r s : Standing) → r.by ≡ q.by
     → Goes stands at x y q r → Goes stands at y z r s → Goes stands at x z q s
-goes_on stands at x y z q r s same g f = λ p before since by along.
-    let one = g p before since by along in
-    f p before one.0 (by ∙ sym same) one.1
+goes_on stands at x y z q r s same g f = λ start p before since by along.
+    let one = g start p before since by along in
+    f start p before one.0 (by ∙ sym same) one.1
 
 -- ---- answers
 
@@ -62,7 +67,7 @@ pub goes_later : {P : Type 0} (stands : P → List Call → Type 0) (at : ℕ) (
     → r.by ≡ q.by → r.own ≡ q.own → Continues r.seen q.seen → Goes stands at x y q r
 goes_later stands at x y q r is same own seen =
     let P : _ → Type 0 = λ z. Goes stands at x z q r in
-    subst P (sym is) (λ p before since by along. (
+    subst P (sym is) (λ start p before since by along. (
       since,
       record {
         stood = along.stood;
@@ -70,14 +75,73 @@ goes_later stands at x y q r is same own seen =
         answered = answered_later p.by at x.held x.consumer.made before p.seen since q.seen r.seen seen along.answered;
         told = λ ds f h c alone. ap (λ n. deals_of n h) same
             ∙ along.told ds f h (continues_all h r.seen q.seen c seen) (ap (λ n. turns_by n h) (sym same) ∙ alone ∙ own);
+        added = along.added;
       },
     ))
+
+-- ---- a call
+
+-- made or not, no turn was made
+module _ {P : Type 0} (stands : P → List Call → Type 0) (at : ℕ) (x y : HandStanding P) (q : Standing) (held : y.held ≡ x.held)
+    (made : y.consumer.made ≡ x.consumer.made) where
+  same_own : (start : P) (p : Standing) (before : Past) (since : HandPast) → IsAlong stands at start x p q before since
+      → q.own ≡ turns_at p.by at (hand_commands y.held y.consumer.made before since) ++ p.own
+  same_own start p before since along = along.own ∙ (λ i. turns_at p.by at (hand_commands (sym held i) (sym made i) before since) ++ p.own)
+
+  same_told : (start : P) (p : Standing) (before : Past) (since : HandPast) → IsAlong stands at start x p q before since
+      → (deals : List Deal) → OfEachLater p.by p.seen p.own (λ h. deals_of p.by h ≡ deals)
+      → OfEachLater q.by q.seen q.own (λ h. deals_of q.by h ≡ hand_deals y.held y.consumer.made before since deals)
+  same_told start p before since along deals f k c alone =
+      along.told deals f k c alone ∙ (λ i. hand_deals (sym held i) (sym made i) before since deals)
+
+  same_answered : (start : P) (p : Standing) (before : Past) (since : HandPast) → IsAlong stands at start x p q before since
+      → AreAnswered p.by at y.held y.consumer.made before p.seen since q.seen
+  same_answered start p before since along =
+      answered_of p.by at x.held y.held x.consumer.made y.consumer.made before p.seen since q.seen (sym held) (sym made) along.answered
+
+  -- the call that was due was made
+  pub goes_called : (asks : P → List Stored → Ask → Type 0) → AddsHandCall stands asks x y → AddsDueCall stands x y → Goes stands at x y q q
+  goes_called asks called adds start p before since by along =
+      let h = x.held in
+      let m = x.consumer.made in
+      let event = Hand_called called.asked in (
+        event ∷ since,
+        record {
+          stood = called.adds before since along.stood;
+          own = same_own start p before since along;
+          answered = same_answered start p before since along;
+          told = same_told start p before since along;
+          added = λ calls s.
+              let so_far = hand_calls h m before since calls in
+              let is : with_call (call_at m x.consumer.phase) so_far ≡ hand_calls y.held y.consumer.made before (event ∷ since) calls
+              = ap (λ f. with_call (call_at m f) so_far) along.stood.consumer.phase
+              ∙ (λ i. hand_calls (sym held i) (sym made i) before (event ∷ since) calls) in
+              subst (stands y.consumer.processor) is (adds so_far (along.added calls s));
+        },
+      )
+
+  -- it is still due
+  pub goes_uncalled : AddsNothing stands x y → KeepsCalls stands x y → Goes stands at x y q q
+  goes_uncalled nothing keeps start p before since by along = (
+    since,
+    record {
+      stood = nothing before since along.stood;
+      own = same_own start p before since along;
+      answered = same_answered start p before since along;
+      told = same_told start p before since along;
+      added = λ calls s.
+          let so_far = hand_calls x.held x.consumer.made before since calls in
+          let is : so_far ≡ hand_calls y.held y.consumer.made before since calls = λ i. hand_calls (sym held i) (sym made i) before since calls in
+          subst (stands y.consumer.processor) is (keeps so_far (along.added calls s));
+    },
+  )
 
 -- ---- an answer
 
 module _ {P : Type 0} (stands : P → List Call → Type 0) (at : ℕ) (x y : HandStanding P) (q r : Standing) (what : Command) (a : Result Reply Refusal)
-    (held : y.held ≡ x.held) (made : y.consumer.made ≡ x.consumer.made) (next : Some what ≡ command_at x.held x.consumer.made x.consumer.phase x.stand)
-    (adds : AddsHandAnswer stands a x y) (same : r.by ≡ q.by) (t : IsAnswered (record { by = q.by; at = at; what = what }) a q r) where
+    (held : y.held ≡ x.held) (made : y.consumer.made ≡ x.consumer.made) (processor : y.consumer.processor ≡ x.consumer.processor)
+    (next : Some what ≡ command_at x.held x.consumer.made x.consumer.phase x.stand) (adds : AddsHandAnswer stands a x y) (same : r.by ≡ q.by)
+    (t : IsAnswered (record { by = q.by; at = at; what = what }) a q r) where
   command_is : (before : Past) (since : HandPast) → HandStandsFor stands x before since
       → Some what ≡ hand_command x.held x.consumer.made (hand_after x.held x.consumer.made before since)
   command_is before since st =
@@ -87,7 +151,7 @@ module _ {P : Type 0} (stands : P → List Call → Type 0) (at : ℕ) (x y : Ha
 
   -- the next command was answered
   pub goes_answered : Goes stands at x y q r
-  goes_answered p before since by along =
+  goes_answered start p before since by along =
       let h = x.held in
       let m = x.consumer.made in
       let cs = hand_commands h m before since in
@@ -116,6 +180,10 @@ module _ {P : Type 0} (stands : P → List Call → Type 0) (at : ℕ) (x y : Ha
               ∙ ap (λ (z : Result Reply Refusal). record { what = what; answer = z } ∷ ds) (sym t.answered)
               ∙ ap (λ o. answered_deals o a ds) is
               ∙ (λ i. hand_deals (sym held i) (sym made i) before (Hand_answered a ∷ since) deals);
+          added = λ calls s.
+              let is : hand_calls h m before since calls ≡ hand_calls y.held y.consumer.made before (Hand_answered a ∷ since) calls
+              = λ i. hand_calls (sym held i) (sym made i) before (Hand_answered a ∷ since) calls in
+              subst (stands y.consumer.processor) is (subst (λ z. stands z (hand_calls h m before since calls)) (sym processor) (along.added calls s));
         },
       )
 
@@ -147,8 +215,9 @@ joint_orderly key made joint r which may by at seen (Hand_answered answered ∷ 
 
 module _ {P F : Type 0} (stands : P → List Call → Type 0) (at : ℕ) (key : ShardRef) (w v : WorkerStanding P F) (worker : v.made ≡ w.made)
     (p q : Standing) (h : Held) (c : ConsumerStanding P) (x y : HandStanding P) (held : x.held ≡ h) (made : x.consumer.made ≡ c.made)
-    (begins : BeginsHand stands c x) (same_held : y.held ≡ x.held) (same_made : y.consumer.made ≡ x.consumer.made)
-    (gone : Goes stands at x y p q) (adds : AddsRelease stands w v key (h, c))
+    (processor : x.consumer.processor ≡ c.processor) (begins : BeginsHand stands c x) (same_held : y.held ≡ x.held)
+    (same_made : y.consumer.made ≡ x.consumer.made) (gone : Goes stands at x y p q) (adds : AddsRelease stands w v key (h, c))
+    (one : one_of (id_of_held h) w.consumers ≡ Some c)
     (service : (by : ℕ) (t : List Turn) (m : WorkerMade) (joint : JointPast) → AreOrderly m joint → AreToldIn by t m joint → AreAllServed by t m joint)
     (handed : (by : ℕ) (t : List Turn) (m : WorkerMade) (joint : JointPast) → IsHistory t → AreOrderly m joint → AreToldIn by t m joint
     → AllByRecursion (IsHandedOffIfFreed by t) (hands_after m joint)) where
@@ -164,15 +233,22 @@ module _ {P F : Type 0} (stands : P → List Call → Type 0) (at : ℕ) (key : 
     phase : y.consumer.phase ≡ phase_after so_far.release.known.made (release_state so_far.release so_far.since).past
     stand : y.stand ≡ (release_state so_far.release so_far.since).stand
     calls : stands y.consumer.processor (calls_after so_far.release.known.made (release_state so_far.release so_far.since).past)
+    whose : one_of (id_of_held so_far.release.held) w.consumers ≡ Some c
+    added : (earlier : List Call) → stands c.processor earlier → stands y.consumer.processor (release_calls so_far.release so_far.since earlier)
 
   went : (past : WorkerPast) → StandsFor stands w past → Went past
   went past st =
       let rel = adds past st in
       let r = rel.release in
       let before = Losing ∷ r.known.past in
-      let start : IsAlong stands at x p p before []
-      = record { stood = begins r.known.past rel.consumer; own = refl; answered = continues_same p.seen; told = λ ds f. f } in
-      let end = gone p before [] refl start in
+      let start : IsAlong stands at c.processor x p p before [] = record {
+        stood = begins r.known.past rel.consumer;
+        own = refl;
+        answered = continues_same p.seen;
+        told = λ ds f. f;
+        added = λ calls s. subst (λ z. stands z calls) (sym processor) s;
+      } in
+      let end = gone c.processor p before [] refl start in
       let since = end.0 in
       let along = end.1 in
       let is_held : y.held ≡ r.held = same_held ∙ held ∙ rel.held in
@@ -206,16 +282,24 @@ module _ {P F : Type 0} (stands : P → List Call → Type 0) (at : ℕ) (key : 
         calls = subst (λ m. stands y.consumer.processor (calls_after m (hand_after r.held m before since).past)) is_made
             (subst (λ g. stands y.consumer.processor (calls_after y.consumer.made (hand_after g y.consumer.made before since).past)) is_held
             along.stood.consumer.calls);
+        whose = ap (λ g. one_of (id_of_held g) w.consumers) (sym rel.held) ∙ one;
+        added = λ earlier s.
+            let is : hand_calls y.held y.consumer.made before since earlier ≡ hand_calls r.held r.known.made before since earlier
+            = λ i. hand_calls (is_held i) (is_made i) before since earlier in
+            subst (stands y.consumer.processor) is (along.added earlier s);
       }
 
-  pub handed_off : (left : Left) (processor : P) → left_at y.stand ≡ Some left → processor ≡ y.consumer.processor
-      → (past : WorkerPast) → StandsFor stands w past → HasHandedOff stands at key w v p q left processor past
-  handed_off left processor ended is past st =
+  pub handed_off : (left : Left) (last : P) → left_at y.stand ≡ Some left → last ≡ y.consumer.processor
+      → (past : WorkerPast) → StandsFor stands w past → HasHandedOff stands at key w v p q left last past
+  handed_off left last ended is past st =
       let e = went past st in
       record {
         so_far = e.so_far;
         ended = ap left_at (sym e.stand) ∙ ended;
         calls = subst (λ z. stands z (calls_after e.so_far.release.known.made (release_state e.so_far.release e.so_far.since).past)) (sym is) e.calls;
+        consumer = c;
+        whose = e.whose;
+        added = λ earlier s. subst (λ z. stands z (release_calls e.so_far.release e.so_far.since earlier)) (sym is) (e.added earlier s);
       }
 
   pub was_cut : (e : TurnErr) → StoodStill y q e → (past : WorkerPast) → StandsFor stands w past → HandWasCut stands at key w v p q e past

@@ -12,16 +12,18 @@ use Rattle.kcl_defs.specs.declared.consumer.Call.{Call}
 use Rattle.kcl_defs.specs.declared.consumer.Tenancy.{Tenancy}
 use Rattle.kcl_defs.specs.declared.consumer.WorkerMade.{WorkerMade}
 use Rattle.kcl_defs.specs.declared.plans.Held.{Held}
-use Rattle.kcl_defs.specs.Consumers.{Losing, Past, calls_after, due_call}
+use Rattle.kcl_defs.specs.Consumers.{Losing, Past, calls_after, due_call, with_call}
 use Rattle.kcl_defs.specs.Lives.{Deal, deals_of}
-use Rattle.kcl_defs.specs.Workers.{Release, Released, WorkerPast, released, worker_after}
+use Rattle.kcl_defs.specs.Workers.{Release, Released, WorkerPast, id_of_held, released, worker_after}
+use Rattle.kcl_consumer.specs.Standing.{Standing as ConsumerStanding}
 use Rattle.kcl_hand.specs.declared.stand.Left.{Left}
-use Rattle.kcl_hand.specs.Handing.{HandPast, HandState, Hand_answered, Hand_called, hand_after, hand_command, hand_due, hand_left, left_at}
+use Rattle.kcl_hand.specs.Handing.{HandPast, HandState, Hand_answered, Hand_called, hand_after, hand_call, hand_command, hand_due, hand_left, left_at}
 use Rattle.kcl_hand.specs.Joints.{AreAllServed, AreOrderly, AreToldIn, JointPast, answered_deals, hands_after, worker_past}
 use Rattle.kcl_hand.specs.Runs.{with_hand}
 use Rattle.kcl_hand.specs.Standing.{HandStanding, StandsFor as HandStandsFor}
 use Rattle.kcl_hand.specs.Twice.{IsHandedOffIfFreed}
 use Rattle.kcl_worker.specs.Standing.{StandsFor, WorkerStanding}
+use Rattle.kcl_worker_lists.specs.Changes.{one_of}
 use Rattle.kds_turn.specs.declared.pass.TurnErr.{TurnErr}
 use Rattle.kds_turn.specs.declared.pass.TurnErr.TheVariants as failed
 use Rattle.kds_turn.specs.Known.{Continues}
@@ -39,9 +41,19 @@ hand_commands h made before (Hand_answered answer ∷ since) =
 abbrev pub turns_at : ℕ → ℕ → List Command → List Turn
 turns_at by at commands = map (λ what. record { by = by; at = at; what = what }) commands
 
+-- the calls of a hand-off, each as it was due, after those that were there
+abbrev pub hand_calls : Held → Tenancy → Past → HandPast → List Call → List Call
+hand_calls h made before [] calls = calls
+hand_calls h made before (Hand_called asked ∷ since) calls =
+    with_call (hand_call made (hand_after h made before since)) (hand_calls h made before since calls)
+hand_calls h made before (Hand_answered answer ∷ since) calls = hand_calls h made before since calls
+
 -- of a release
 abbrev pub release_commands : Release → HandPast → List Command
 release_commands r since = hand_commands r.held r.known.made (Losing ∷ r.known.past) since
+
+abbrev pub release_calls : Release → HandPast → List Call → List Call
+release_calls r since calls = hand_calls r.held r.known.made (Losing ∷ r.known.past) since calls
 
 abbrev pub release_state : Release → HandPast → HandState
 release_state r since = hand_after r.held r.known.made (Losing ∷ r.known.past) since
@@ -69,19 +81,21 @@ AreAnswered by at h made before seen (Hand_answered a ∷ since) later = (place 
 
 -- ---- the hand-off alone
 
--- a hand-off stands for what happened to it since the pass was p; since then the pass q gained its commands and nothing else
-pub record IsAlong {P : Type 0} (stands : P → List Call → Type 0) (at : ℕ) (x : HandStanding P) (p q : Standing) (before : Past) (since : HandPast)
-    : Type 0 where
+-- A hand-off stands for what happened to it since the pass was p, and its processor the one at the start. Since then the pass
+-- q gained its commands and nothing else, and the processor's calls come after each list of calls that it stood for.
+pub record IsAlong {P : Type 0} (stands : P → List Call → Type 0) (at : ℕ) (start : P) (x : HandStanding P) (p q : Standing) (before : Past)
+    (since : HandPast) : Type 0 where
   pub stood : HandStandsFor stands x before since
   pub own : q.own ≡ turns_at p.by at (hand_commands x.held x.consumer.made before since) ++ p.own
   pub answered : AreAnswered p.by at x.held x.consumer.made before p.seen since q.seen
   pub told : (deals : List Deal) → OfEachLater p.by p.seen p.own (λ h. deals_of p.by h ≡ deals)
       → OfEachLater q.by q.seen q.own (λ h. deals_of q.by h ≡ hand_deals x.held x.consumer.made before since deals)
+  pub added : (calls : List Call) → stands start calls → stands x.consumer.processor (hand_calls x.held x.consumer.made before since calls)
 
 -- it went on from here, at the pass q, to there, at the pass r: so it is still along
 abbrev pub Goes : {P : Type 0} → (P → List Call → Type 0) → ℕ → HandStanding P → HandStanding P → Standing → Standing → Type 0
-Goes stands at x y q r = (p : Standing) (before : Past) (since : HandPast) → p.by ≡ q.by → IsAlong stands at x p q before since
-    → (later : HandPast) × IsAlong stands at y p r before later
+Goes {P} stands at x y q r = (start : P) (p : Standing) (before : Past) (since : HandPast) → p.by ≡ q.by → IsAlong stands at start x p q before since
+    → (later : HandPast) × IsAlong stands at start y p r before later
 
 -- its next command, before which no call is due, became no turn, since the hall's history is full
 pub record HasNoTurn {P : Type 0} (x : HandStanding P) (q : Standing) (e : TurnErr) : Type 0 where
@@ -121,11 +135,15 @@ module _ {P F : Type 0} (stands : P → List Call → Type 0) (at : ℕ) (key : 
     pub told : (joint : JointPast) → worker_past joint ≡ past → TellsJointly p w.made joint → TellsJointly q w.made (with_hand key since w.made joint)
     pub served : (joint : JointPast) → worker_past joint ≡ past → TellsJointly p w.made joint → AreServedJointly q w.made (with_hand key since w.made joint)
 
-  -- and the hand-off ended so, with this processor
+  -- And the hand-off ended so, with this processor: that of the lease's consumer. It stands for each list of calls that it
+  -- stood for in the worker, with the calls of the hand-off added.
   pub record HasHandedOff (left : Left) (processor : P) (past : WorkerPast) : Type 0 where
     pub so_far : HasReleased past
     pub ended : hand_left (release_state so_far.release so_far.since) ≡ Some left
     pub calls : stands processor (calls_after so_far.release.known.made (release_state so_far.release so_far.since).past)
+    pub consumer : ConsumerStanding P
+    pub whose : one_of (id_of_held so_far.release.held) w.consumers ≡ Some consumer
+    pub added : (earlier : List Call) → stands consumer.processor earlier → stands processor (release_calls so_far.release so_far.since earlier)
 
   -- memory ran out in the processor's call, which is still due
   pub record HandCallFailed (e : TurnErr) (past : WorkerPast) : Type 0 where

@@ -23,3 +23,13 @@ loop-left-preserved g c =
 pub returns-in-Err-clause-seen : goal.returns-in-Err-clause-seen
 returns-in-Err-clause-seen g c =
     continues_all c.advance.new.pass.seen c.loop-left.pass.seen c.args.pass.now.seen c.advance.ensures.seen c.loop-left.invariant.seen
+
+pub returns-in-Ok-Some-clause-goes : goal.returns-in-Ok-Some-clause-goes
+returns-in-Ok-Some-clause-goes g c =
+    goes_on g.P.Processor.stands_for c.args.at c.args.hand.now c.loop-left.hand c.advance.new.hand
+    c.args.pass.now c.loop-left.pass c.advance.new.pass c.loop-left.invariant.kept.1 c.loop-left.invariant.goes c.advance.ensures.goes
+
+pub returns-in-Err-clause-goes : goal.returns-in-Err-clause-goes
+returns-in-Err-clause-goes g c =
+    goes_on g.P.Processor.stands_for c.args.at c.args.hand.now c.loop-left.hand c.advance.new.hand
+    c.args.pass.now c.loop-left.pass c.advance.new.pass c.loop-left.invariant.kept.1 c.loop-left.invariant.goes c.advance.ensures.goes
