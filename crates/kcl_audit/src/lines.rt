@@ -8,7 +8,7 @@ ghost use Rattle.kcl_audit.specs.Stages.{Finishes, HasVersion, IsAt, Took, end_b
 
 use crate::stage::{Stage, end_name, entry_name, finish_stage, is_found, next, report_stage};
 use crate::verdict::Audit;
-use kcl_journal::{FIRST_VERSION, VERSION, read_end, read_entry};
+use kcl_journal::{FIRST_VERSION, HEADING, VERSION, read_end, read_entry};
 use kds_base::{Memory, Octets};
 use kds_lines::Taker;
 use std::alloc::Global;
@@ -105,7 +105,7 @@ impl AuditTaker {
     {
         match self.stage {
             Stage::Fresh => {
-                if text == b"journal 2".as_slice() {
+                if text == HEADING.as_slice() {
                     return Ok(Stage::Going {
                         version: VERSION,
                         count: 0,

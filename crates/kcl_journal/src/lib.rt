@@ -10,6 +10,8 @@ mod read;
 mod streams;
 
 pub use laws::{journal_limits, one_entry};
-pub use line::{EntryLine, FIRST_RECORD_BYTES, FIRST_VERSION, KEY_BYTES, VERSION};
+pub use line::{
+    EntryLine, FIRST_RECORD_BYTES, FIRST_VERSION, HEADING, HEADING_LINE, KEY_BYTES, VERSION,
+};
 pub use print::{print_end, print_entry, print_heading};
 pub use read::{read_end, read_entry};

@@ -8,6 +8,12 @@ pub const FIRST_VERSION: u8 = 1;
 /// The version of a journal's text that is written. Its first line is `journal 2`.
 pub const VERSION: u8 = 2;
 
+/// That first line.
+pub const HEADING: &[u8; 9] = b"journal 2";
+
+/// The same with its line feed.
+pub const HEADING_LINE: &[u8; 10] = b"journal 2\n";
+
 /// The payload bytes that a record of the first version may have (Kinesis API Reference, PutRecord, Data: 1 MiB).
 pub const FIRST_RECORD_BYTES: u64 = 1_048_576;
 

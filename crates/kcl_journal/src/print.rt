@@ -3,7 +3,7 @@ ghost use Rattle.std.specs.Prelude.{◌≡◌, ◌∷◌, ◌++◌, decimal, tru
 ghost use Rattle.kcl_journal.specs.Entries.{end_spelling, ended_text, entry_spelling, entry_text, heading, numbers_text, switch_text};
 ghost use Rattle.kcl_journal.specs.Ranges.{is_lease_entry, is_resharding, is_tenure_entry};
 
-use crate::line::EntryLine;
+use crate::line::{EntryLine, HEADING};
 use kcl_script_fields::{
     number_field, origin_field, owner_field, target_field, with_key, with_number, with_numbers,
 };
@@ -214,7 +214,7 @@ pub fn print_heading(to: &mut Octets) -> Result<(), Memory>
     ensures ok { OnOk result (to.new ≡ to.old ++ heading) }
     ensures err { OnErr result (to.new ≡ to.old) }
 {
-    to.extend(b"journal 2".as_slice())
+    to.extend(HEADING.as_slice())
 }
 
 /// Adds the one text of a line of a journal, without its line feed. After `Memory` nothing was added.

@@ -14,7 +14,7 @@ ghost use Rattle.kds_cli_runs.specs.Told.{IsReplayStatus, TellsBy};
 
 use crate::schedule::status_of;
 use crate::typed::Typed;
-use kcl_journal::print_end;
+use kcl_journal::{HEADING_LINE, print_end};
 use kcl_sim_recorder::Recorder;
 use kds_base::{Memory, Moment, Octets};
 use kds_defs::Machine;
@@ -132,7 +132,7 @@ pub fn record_schedule<M: Machine + Drop, S: Source, K: Sink>(
     kcl_sim::lawful();
     kcl_audit_sound::sound_histories();
     let mut recorder = Recorder::keeping(alloc, machine, Typed);
-    match write_all(out, b"journal 2\n".as_slice()) {
+    match write_all(out, HEADING_LINE.as_slice()) {
         Ok(()) => Recorded {
             status: write_rest(alloc, &mut recorder, input, out),
             recorder,
