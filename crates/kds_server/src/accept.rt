@@ -158,7 +158,7 @@ where
     let Ok(idle) = free_passes(alloc, hall, passes) else {
         return Status::Memory;
     };
-    let crew = Shared {
+    let shared = &Shared {
         rt,
         alloc,
         clock,
@@ -166,7 +166,6 @@ where
         freed: Condvar::new(),
         out_of_memory: AtomicBool::new(false),
     };
-    let shared = &crew;
     // The door comes back from the scope, so that its faults are known after it.
     let (status, _door) = thread::scope(thread::scope_env(), rt, move |scope| {
         let status = accept_all(scope, shared, &mut *door);
