@@ -79,6 +79,10 @@ pub record TaskEnds : Type 1 where
   pub moments : Option (List ℕ)
   pub listens : ℕ → Type 0
 
+-- those with these before and after, these moments, and a door that listens so
+abbrev pub task_ends : Around (Option (List ℕ)) → Around (Option (List ℕ)) → Option (List ℕ) → (ℕ → Type 0) → TaskEnds
+task_ends input out moments listens = record { input = input; out = out; moments = moments; listens = listens }
+
 -- the run of a task ended so over these ends
 abbrev pub Performed : Task → Status → TaskEnds → Type 0
 Performed (Replay journal) status ends = Replayed journal status ends.input ends.out

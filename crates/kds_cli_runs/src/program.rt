@@ -10,7 +10,7 @@ ghost use Rattle.kcl_sim.specs.Serving.{AreAllServed};
 ghost use Rattle.kds_cli_runs.specs.Answered.{AreHandedOn};
 ghost use Rattle.kds_server.specs.Around.{around};
 ghost use Rattle.kds_cli_runs.specs.Completed.{Completed};
-ghost use Rattle.kds_cli_runs.specs.Ends.{Performed};
+ghost use Rattle.kds_cli_runs.specs.Ends.{Performed, task_ends};
 ghost use Rattle.kds_cli_runs.specs.Journal.{IsAuditedSound};
 ghost use Rattle.kds_cli_runs.specs.Program.{CompletesSo, EndsSo, asks_for_door, asks_for_input};
 
@@ -44,13 +44,8 @@ where
     ensures usage { result ≡ Status.Usage → task_of (texts_of words.now.items) ≡ None }
     ensures refused { task_of (texts_of words.now.items) ≡ None → (result ≡ Status.Usage) ⊎ (result ≡ Status.Memory) }
     ensures untouched { task_of (texts_of words.now.items) ≡ None → (input.new ≡ input.old) × (out.new ≡ out.old) }
-    ensures performed { IfSome (task_of (texts_of words.now.items)) (λ task. Performed task result
-        (record {
-          input = around (S.left input.old) (S.left input.new);
-          out = around (K.held out.old) (K.held out.new);
-          moments = C.moments clock;
-          listens = D.listens door.new;
-        })) }
+    ensures performed { IfSome (task_of (texts_of words.now.items)) (λ task. Performed task result (task_ends
+        (around (S.left input.old) (S.left input.new)) (around (K.held out.old) (K.held out.new)) (C.moments clock) (D.listens door.new))) }
     ensures door_left { asks_for_door (task_of (texts_of words.now.items)) ≡ false → door.new ≡ door.old }
     ensures input_left { asks_for_input (task_of (texts_of words.now.items)) ≡ false → input.new ≡ input.old }
     ensures complete { (Rose (S.faults input.old) (S.faults input.new) → ⊥) → (Rose (K.faults out.old) (K.faults out.new) → ⊥)
@@ -70,6 +65,17 @@ where
 
 /// The whole program: its words, its input, its output, its error output, its clock and its door. The answer is the exit
 /// status.
+///
+/// - `usage`, `refused`, `untouched`: it is 2 only if the words ask for no task; if they ask for none, it is 2 or 6, and the
+///   input and the output are as they were.
+/// - `door_left`, `input_left`: the door and the input are left alone unless the words ask for them.
+/// - `ended`: each task ends as told, and the error output is told this very end.
+/// - `complete`: over ends whose faults don't rise each task ends as the bytes of its input decide, or by want of memory.
+/// - `safe`, `served`: of a schedule that is replayed, with its answers or its journal, the state of its turns is safe, at
+///   their clock, and its workers' processors are called for the given reads of their tenures.
+/// - `handed`: what was given in a tenure that was handed off isn't read in a tenure of the key that begins after it.
+/// - `sound`: a journal that is whole is found sound.
+/// - `read`, `write`, `door`: 4, 5 and 8 come only where the input, the output or the door failed.
 pub fn run<R, S, K, E, C, D>(
     rt: &R,
     alloc: Global,
@@ -89,27 +95,16 @@ where
     D: Door,
     D::Input: Send,
     D::Output: Send,
-    // 2 only if the words ask for no task; if they ask for none, 2 or 6.
     ensures usage { result ≡ 2 → task_of (texts_of words.now.items) ≡ None }
     ensures refused { task_of (texts_of words.now.items) ≡ None → (result ≡ 2) ⊎ (result ≡ 6) }
-    // Then the input and the output are as they were.
     ensures untouched { task_of (texts_of words.now.items) ≡ None → (input.new ≡ input.old) × (out.new ≡ out.old) }
-    // The door and the input are left alone unless the words ask for them.
     ensures door_left { asks_for_door (task_of (texts_of words.now.items)) ≡ false → door.new ≡ door.old }
     ensures input_left { asks_for_input (task_of (texts_of words.now.items)) ≡ false → input.new ≡ input.old }
-    // Each task ends as told, and the error output is told this very end.
-    ensures ended { EndsSo result words.now.items (record {
-      input = around (S.left input.old) (S.left input.new);
-      out = around (K.held out.old) (K.held out.new);
-      moments = C.moments clock;
-      listens = D.listens door.new;
-    }) (around (E.held err.old) (E.held err.new)) (around (E.faults err.old) (E.faults err.new)) }
-    // Over ends whose faults don't rise each task ends as the bytes of its input decide, or by want of memory.
+    ensures ended { EndsSo result words.now.items (task_ends
+        (around (S.left input.old) (S.left input.new)) (around (K.held out.old) (K.held out.new)) (C.moments clock) (D.listens door.new))
+        (around (E.held err.old) (E.held err.new)) (around (E.faults err.old) (E.faults err.new)) }
     ensures complete { (Rose (S.faults input.old) (S.faults input.new) → ⊥) → (Rose (K.faults out.old) (K.faults out.new) → ⊥)
         → (Rose (D.faults door.old) (D.faults door.new) → ⊥) → CompletesSo result words.now.items (S.left input.old) }
-    // Of a schedule that is replayed, with its answers or its journal: the state of its turns is safe, at their clock, and
-    // its workers' processors are called for the given reads of their tenures. What was given in a tenure that was handed
-    // off isn't read in a tenure of the key that begins after it. A journal that is whole is found sound.
     ensures safe { (journal : Bool) → task_of (texts_of words.now.items) ≡ Some (Replay journal)
         → IfSome (S.left input.old) (λ bytes. IsSafe (journal_of (history bytes)) (clock_of (history bytes))) }
     ensures served { (journal : Bool) → task_of (texts_of words.now.items) ≡ Some (Replay journal)

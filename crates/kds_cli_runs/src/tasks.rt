@@ -4,7 +4,7 @@ ghost use Rattle.kds_ends.specs.Causes.{Rose};
 ghost use Rattle.kds_cli_tasks.specs.Words.{IsWithin};
 ghost use Rattle.kds_server.specs.Around.{around};
 ghost use Rattle.kds_cli_runs.specs.Completed.{Completed};
-ghost use Rattle.kds_cli_runs.specs.Ends.{Performed, reads_input, serves_door};
+ghost use Rattle.kds_cli_runs.specs.Ends.{Performed, reads_input, serves_door, task_ends};
 
 use crate::runs::{run_answer, run_replay, run_serve};
 use kcl_audit::run_audit;
@@ -16,14 +16,14 @@ use std::sync::Wait;
 use std::thread::Threads;
 
 /// Does a task, and gives its end. Condition: its numbers are within the table's ranges. Read, Write, Door: the source, the
-/// sink or the door failed.
+/// sink or the door failed. A task leaves the ends alone that it hasn't (`door_left`, `input_left`).
 pub fn perform<R, S, K, C, D>(
     rt: &R,
     alloc: Global,
     task: Task,
     input: &mut S,
     out: &mut K,
-    clock: C,
+    mut clock: C,
     door: &mut D,
 ) -> Status
 where
@@ -35,14 +35,8 @@ where
     D::Input: Send,
     D::Output: Send,
     requires { IsWithin task }
-    ensures performed { Performed task result
-        (record {
-          input = around (S.left input.old) (S.left input.new);
-          out = around (K.held out.old) (K.held out.new);
-          moments = C.moments clock;
-          listens = D.listens door.new;
-        }) }
-    // A task leaves the ends that it hasn't.
+    ensures performed { Performed task result (task_ends
+        (around (S.left input.old) (S.left input.new)) (around (K.held out.old) (K.held out.new)) (C.moments clock) (D.listens door.new)) }
     ensures door_left { serves_door task ≡ false → door.new ≡ door.old }
     ensures input_left { reads_input task ≡ false → input.new ≡ input.old }
     ensures complete { (Rose (S.faults input.old) (S.faults input.new) → ⊥) → (Rose (K.faults out.old) (K.faults out.new) → ⊥)
@@ -55,10 +49,7 @@ where
     kds_cli_tasks::limits();
     match task {
         Task::Replay { journal } => run_replay(alloc, input, out, journal),
-        Task::Answer => {
-            let mut clock = clock;
-            run_answer(alloc, input, out, &mut clock)
-        }
+        Task::Answer => run_answer(alloc, input, out, &mut clock),
         Task::Audit => run_audit(alloc, input, out),
         Task::Serve { port, passes } => run_serve(rt, alloc, port, passes, out, clock, door),
         Task::Drill {
