@@ -221,8 +221,14 @@ fn fill_refusal(alloc: Global, refusal: &Refusal, to: &mut Octets) -> Result<(),
     value(alloc, refusal, to)
 }
 
-/// Adds the text of an answer. After `Memory` a front of it may have been added.
-fn fill_answer(alloc: Global, answer: &Answer, long: bool, to: &mut Octets) -> Result<(), Memory>
+/// Adds the text of an answer, as `print_answer` does, with no room of its own: after `Memory` a front of it may have been
+/// added.
+pub fn fill_answer(
+    alloc: Global,
+    answer: &Answer,
+    long: bool,
+    to: &mut Octets,
+) -> Result<(), Memory>
     requires { is_lease_answer answer.now ≡ true }
     ensures { OnOk result (to.new ≡ to.old ++ answer_text long answer.now) }
 {

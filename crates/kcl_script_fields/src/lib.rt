@@ -9,7 +9,7 @@ mod origins;
 mod raw;
 mod words;
 
-pub use answer::{print_answer, refusal_name};
+pub use answer::{fill_answer, print_answer, refusal_name};
 pub use command::{origin_field, owner_field, print_command, target_field};
 pub use fields::{count, field, key, moment, worker};
 pub use laws::one_command_text;

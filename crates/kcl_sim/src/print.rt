@@ -1,31 +1,42 @@
-//! Lines of output. Each is made in a room that is used again, and added whole.
-ghost use Rattle.std.specs.Prelude.{◌≡◌, [], ◌∷◌, ◌++◌, codes, decimal, true, false, IsUtf8, OnOk, OnErr};
+//! Lines of output. Short ones are made in a room that is used again; each is added whole, or nothing of it.
+ghost use Rattle.std.specs.Prelude.{◌≡◌, [], ◌∷◌, ◌++◌, codes, decimal, take, vec_len, true, false, IsUtf8, OnOk, OnErr};
 ghost use Rattle.kds_defs.specs.Kinds.{is_lease_answer};
 ghost use Rattle.kds_reply.specs.Replies.{fault_reply};
 ghost use Rattle.kcl_script_fields.specs.Answers.{answer_text};
-ghost use Rattle.kcl_sim.specs.Output.{left_text, printed};
+ghost use Rattle.kcl_sim.specs.Output.{body_part, left_text, printed};
 
 use kcl_hand::Left;
-use kcl_script_fields::print_answer;
+use kcl_script_fields::fill_answer;
 use kds_base::{Memory, Octets, write_u64};
 use kds_defs::Answer;
 use kds_json_members::Fault;
 use kds_reply::fault;
 use std::alloc::Global;
 
-/// Adds a status and a body as a line. After `Memory` a front of it may have been added.
-fn fill(alloc: Global, status: u16, body: &[u8], line: &mut Octets) -> Result<(), Memory>
-    ensures { OnOk result (line.new ≡ line.old ++ printed (status, body.now)) }
+/// Adds a status, and a space where a body follows it. After `Memory` a front of them may have been added.
+fn fill_head(alloc: Global, status: u16, body: &[u8], line: &mut Octets) -> Result<(), Memory>
+    ensures { OnOk result (line.new ++ body.now ≡ line.old ++ (decimal status ++ body_part body.now)) }
 {
     write_u64(alloc, status as u64, line)?;
-    if !body.is_empty() {
-        line.extend(b" ".as_slice())?;
-        line.extend(body)?;
+    if body.is_empty() {
+        return Ok(());
     }
-    line.extend(b"\n".as_slice())
+    line.extend(b" ".as_slice())
 }
 
-/// Adds a status and a body as a line. After `Memory` nothing was added.
+/// Adds what stands before a body, the body, and a line feed. After `Memory` a front of them may have been added.
+fn add_line(text: &mut Vec<u8>, head: &[u8], body: &[u8]) -> Result<(), Memory>
+    ensures front { take (vec_len text.old) text.new.items ≡ text.old.items }
+    ensures ok { OnOk result (text.new.items ≡ text.old.items ++ ((head.now ++ body.now) ++ 10 ∷ [])) }
+{
+    text.extend_from_slice(head)?;
+    text.extend_from_slice(body)?;
+    text.push(b'\n')?;
+    Ok(())
+}
+
+/// Adds a status and a body as a line. The body, which may be long, is copied once, and only what stands before it is made
+/// in `line`. After `Memory` nothing was added.
 pub fn print(
     alloc: Global,
     status: u16,
@@ -37,8 +48,15 @@ pub fn print(
     ensures err { OnErr result (to.new ≡ to.old) }
 {
     line.clear();
-    fill(alloc, status, body, line)?;
-    to.extend(line.as_slice())
+    fill_head(alloc, status, body, line)?;
+    let mut text = to.take()?;
+    let before = text.len();
+    let added = add_line(&mut text, line.as_slice(), body);
+    if added.is_err() {
+        text.truncate(before);
+    }
+    *to = Octets::unshared(text);
+    added
 }
 
 /// Adds the line of output of a request with a fault, which is no turn. After `Memory` nothing was added.
@@ -69,7 +87,7 @@ pub fn print_raw(
     ensures err { OnErr result (to.new ≡ to.old) }
 {
     line.clear();
-    print_answer(alloc, answer, long, line)?;
+    fill_answer(alloc, answer, long, line)?;
     line.extend(b"\n".as_slice())?;
     to.extend(line.as_slice())
 }
@@ -108,7 +126,7 @@ pub fn print_answered(alloc: Global, answer: &Answer, line: &mut Octets) -> Resu
     ensures { OnOk result (line.new ≡ line.old ++ (codes " = " ++ (answer_text false answer.now ++ 10 ∷ []))) }
 {
     line.extend(b" = ".as_slice())?;
-    print_answer(alloc, answer, false, line)?;
+    fill_answer(alloc, answer, false, line)?;
     line.extend(b"\n".as_slice())
 }
 
@@ -118,7 +136,7 @@ pub fn print_part(alloc: Global, answer: &Answer, line: &mut Octets) -> Result<(
     ensures { OnOk result (line.new ≡ line.old ++ (codes " = " ++ (answer_text false answer.now ++ codes "; "))) }
 {
     line.extend(b" = ".as_slice())?;
-    print_answer(alloc, answer, false, line)?;
+    fill_answer(alloc, answer, false, line)?;
     line.extend(b"; ".as_slice())
 }
 
