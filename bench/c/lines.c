@@ -11,8 +11,9 @@ struct shard {
     struct log log;
     u128 start, end;
     uint64_t first, last; /* the sequence numbers that opened and ended it */
+    uint64_t closed;      /* when it was closed */
     int open;
-    long parent, adjacent;
+    long parent, adjacent, child; /* of its children the first */
     size_t trimmed; /* how many of the first records are */
 };
 
@@ -94,6 +95,8 @@ static void close_shard(struct stream *s, size_t shard, uint64_t seq) {
     memmove(s->open + at, s->open + at + 1, (--s->open_count - at) * sizeof *s->open);
     s->shards[shard].open = 0;
     s->shards[shard].last = seq;
+    s->shards[shard].closed = clock_;
+    s->shards[shard].child = (long)s->count;
 }
 
 static size_t add_shard(struct stream *s, u128 start, u128 end, uint64_t first, long parent, long adjacent) {
@@ -102,7 +105,7 @@ static size_t add_shard(struct stream *s, u128 start, u128 end, uint64_t first, 
         s->shards = realloc(s->shards, s->room * sizeof *s->shards);
         if (!s->shards) exit(6);
     }
-    s->shards[s->count] = (struct shard){.start = start, .end = end, .first = first, .open = 1, .parent = parent, .adjacent = adjacent};
+    s->shards[s->count] = (struct shard){.start = start, .end = end, .first = first, .open = 1, .parent = parent, .adjacent = adjacent, .child = -1};
     add_open(s, s->count);
     return s->count++;
 }
@@ -282,8 +285,8 @@ static void get(const char *body, const char *end) {
         to = PRINT(to, "\"ChildShards\":[");
         int first = 1;
         struct stream *s = &streams[no - 1];
-        for (size_t i = sh + 1; i < s->count; i++) {
-            if (s->shards[i].parent != (long)sh && s->shards[i].adjacent != (long)sh) continue;
+        for (size_t i = (size_t)x->child; i < s->count; i++) {
+            if (s->shards[i].parent != (long)sh && s->shards[i].adjacent != (long)sh) break;
             to = first ? PRINT(to, "{") : PRINT(to, ",{");
             first = 0;
             print_range(&s->shards[i]);
@@ -320,6 +323,72 @@ static void get(const char *body, const char *end) {
         if (i > from) *to++ = ',';
         to = print_record(to, &x->log.records[i]);
         if (to - out > (1 << 23)) flush_out();
+    }
+    to = PRINT(to, "]}\n");
+}
+
+/* A shard as a listing shows it. */
+static void print_shard(struct stream *s, size_t i) {
+    struct shard *x = &s->shards[i];
+    *to++ = '{';
+    if (x->adjacent >= 0) {
+        to = PRINT(to, "\"AdjacentParentShardId\":\"");
+        print_id((size_t)x->adjacent);
+        to = PRINT(to, "\",");
+    }
+    print_range(x);
+    if (x->parent >= 0) {
+        to = PRINT(to, ",\"ParentShardId\":\"");
+        print_id((size_t)x->parent);
+        *to++ = '"';
+    }
+    to = PRINT(to, ",\"SequenceNumberRange\":{");
+    if (!x->open) {
+        to = PRINT(to, "\"EndingSequenceNumber\":\"");
+        to = print_number(to, x->last);
+        to = PRINT(to, "\",");
+    }
+    to = PRINT(to, "\"StartingSequenceNumber\":\"");
+    to = print_number(to, x->first);
+    to = PRINT(to, "\"},\"ShardId\":\"");
+    print_id(i);
+    to = PRINT(to, "\"}");
+}
+
+/* Whether a shard was closed at or before the moment up to which all is trimmed. */
+static int is_expired(struct shard *x) {
+    return !x->open && clock_ >= DAY && x->closed <= clock_ - DAY;
+}
+
+static size_t next_listed(struct stream *s, size_t i) {
+    while (i < s->count && is_expired(&s->shards[i])) i++;
+    return i;
+}
+
+static void list(const char *body, const char *end) {
+    struct found f;
+    uint64_t after, most = 1000;
+    struct stream *s = named(&f, body, end);
+    if (!s || (f.after.kind != NONE && !shard_id(f.after, &after)) || (f.most.kind != NONE && !number_in(f.most, 1, 10000, &most))) exit(1);
+    static size_t page[10000];
+    size_t count = 0, i = next_listed(s, f.after.kind == NONE ? 0 : after + 1);
+    for (; i < s->count && count < most; i = next_listed(s, i + 1)) page[count++] = i;
+    to = PRINT(to, "200 {");
+    if (i < s->count) {
+        char next[128], *e = PRINT(next, "KT1:");
+        e = print_number(e, (uint64_t)(s - streams) + 1);
+        *e++ = ':';
+        e = print_number(e, page[count - 1]);
+        *e++ = ':';
+        e = print_number(e, clock_);
+        to = PRINT(to, "\"NextToken\":\"");
+        to = encode((unsigned char *)next, (size_t)(e - next), to);
+        to = PRINT(to, "\",");
+    }
+    to = PRINT(to, "\"Shards\":[");
+    for (size_t j = 0; j < count; j++) {
+        if (j) *to++ = ',';
+        print_shard(s, page[j]);
     }
     to = PRINT(to, "]}\n");
 }
@@ -496,6 +565,7 @@ static void request(struct text name, const char *body, const char *end) {
     else if (IS(name, "CreateStream")) create(body, end);
     else if (IS(name, "SplitShard")) split(body, end);
     else if (IS(name, "MergeShards")) merge(body, end);
+    else if (IS(name, "ListShards")) list(body, end);
     else to = PRINT(to, "400 {\"__type\":\"UnknownOperationException\",\"message\":\"unknown operation\"}\n");
 }
 

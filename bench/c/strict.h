@@ -239,7 +239,7 @@ static const char *members(const char *at, const char *end, int depth, taker *ta
 #define IS(text_, word) ((text_).len == sizeof(word) - 1 && !memcmp((text_).at, word, sizeof(word) - 1))
 
 /* The members that requests have. */
-struct found { struct value stream, key, data, hash, records, iterator, limit, count, split, start, merge, adjacent; };
+struct found { struct value stream, key, data, hash, records, iterator, limit, count, split, start, merge, adjacent, after, most; };
 
 static void take_member(void *to_, struct text name, struct value v) {
     struct found *f = to_;
@@ -255,6 +255,8 @@ static void take_member(void *to_, struct text name, struct value v) {
     else if (IS(name, "NewStartingHashKey")) f->start = v;
     else if (IS(name, "ShardToMerge")) f->merge = v;
     else if (IS(name, "AdjacentShardToMerge")) f->adjacent = v;
+    else if (IS(name, "ExclusiveStartShardId")) f->after = v;
+    else if (IS(name, "MaxResults")) f->most = v;
 }
 
 /* The members of a body, if it is a JSON object in UTF-8. Of members with one name the last counts. */
