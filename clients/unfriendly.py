@@ -211,6 +211,12 @@ class Places(unittest.TestCase):
             self.assertEqual([status for status, _ in responses(connection, 1)], [200])
         return made
 
+    def assert_given_up(self, held):
+        """After the time that an idle client has, another one is served, and these connections are ended."""
+        self.assert_served_within(IDLE + 1)
+        for connection in held:
+            self.assert_ended(connection)
+
     def assert_served_within(self, seconds):
         begin = time.monotonic()
         self.clients(1)
@@ -253,9 +259,7 @@ class Places(unittest.TestCase):
     def test_all_stay(self):
         self.serve(17)
         held = self.clients(17)
-        self.assert_served_within(IDLE + 1)
-        for connection in held:
-            self.assert_ended(connection)
+        self.assert_given_up(held)
 
     def test_half_requests(self):
         """Half a head, half a body, a request and a half."""
@@ -263,9 +267,7 @@ class Places(unittest.TestCase):
         held = self.clients(3)
         for connection, part in zip(held, (LIST[:40], LIST[:-1], LIST + LIST[:-1])):
             connection.sendall(part)
-        self.assert_served_within(IDLE + 1)
-        for connection in held:
-            self.assert_ended(connection)
+        self.assert_given_up(held)
 
     def test_readers_that_read_nothing(self):
         self.serve(2)
