@@ -1,11 +1,74 @@
 -- Listings of a list of shards.
-use Rattle.std.proofs.Common.{ℕ, List, map, Option}
+use Rattle.std.proofs.Common.{◌≡◌, ℕ, zero, suc, ◌+◌, ◌<◌, ◌≤◌, Bool, true, false, List, [], ◌∷◌, drop, length, map, Option, Some, None, inl, inr, refl, sym, ap, subst, ◌∙◌, arith}
+use Rattle.std.specs.Prelude.{cond, min, nat_lt, ◌⊎◌}
 use Rattle.std.specs.List.{filter}
+use Rattle.std.proofs.lemmas.Bool.Decides.{nat_tests}
 use Rattle.kds_defs.specs.declared.reply.Shard.{Shard}
 use Rattle.kds_defs.specs.Listings.{is_after_shard}
 use Rattle.kds_defs.specs.Shards.{ShardState, listed_among, shown}
 use Rattle.kds_defs.specs.Streams.{floor_of}
+use Rattle.kds_defs.specs.Tiled.{AreNumbered}
 
--- the shards that are listed at a cut after a number, as they are shown
-abbrev pub listing : Option ℕ → Option ℕ → List ShardState → List Shard
-listing cut after xs = map shown (filter (is_after_shard after) (listed_among (floor_of cut) xs))
+-- the shards that are listed at a cut, as they are shown
+abbrev pub listing : Option ℕ → List ShardState → List Shard
+listing cut xs = map shown (listed_among (floor_of cut) xs)
+
+-- ---- two tests may be tried in either order
+
+swap_step : (p q : ShardState → Bool) (a b : Bool) (x : ShardState) (xs : List ShardState) → p x ≡ a → q x ≡ b → filter p (filter q xs) ≡ filter q (filter p xs)
+    → filter p (cond b (x ∷ filter q xs) (filter q xs)) ≡ filter q (cond a (x ∷ filter p xs) (filter p xs))
+swap_step p q true true x xs is_p is_q h =
+    ap (λ c. cond c (x ∷ filter p (filter q xs)) (filter p (filter q xs))) is_p
+    ∙ ap (λ ys. x ∷ ys) h
+    ∙ sym (ap (λ c. cond c (x ∷ filter q (filter p xs)) (filter q (filter p xs))) is_q)
+swap_step p q true false x xs is_p is_q h = h ∙ sym (ap (λ c. cond c (x ∷ filter q (filter p xs)) (filter q (filter p xs))) is_q)
+swap_step p q false true x xs is_p is_q h = ap (λ c. cond c (x ∷ filter p (filter q xs)) (filter p (filter q xs))) is_p ∙ h
+swap_step p q false false x xs is_p is_q h = h
+
+filter_swap : (p q : ShardState → Bool) (xs : List ShardState) → filter p (filter q xs) ≡ filter q (filter p xs)
+filter_swap p q [] = refl
+filter_swap p q (x ∷ xs) = swap_step p q (p x) (q x) x xs refl refl (filter_swap p q xs)
+
+-- ---- what stands behind a number
+
+above : (m n after : ℕ) → m ≡ n → after < n → nat_lt after m ≡ true
+above m n after is h = grind (arith, nat_tests)
+
+not_above : (m n after : ℕ) → m ≡ n → n ≤ after → nat_lt after m ≡ false
+not_above m n after is h = grind (arith, nat_tests)
+
+-- all are, if they are numbered from above it
+all_behind : (xs : List ShardState) (n after : ℕ) → AreNumbered n xs → after < n → filter (is_after_shard (Some after)) xs ≡ xs
+all_behind [] n after numbers h = refl
+all_behind (x ∷ xs) n after numbers h =
+    ap (λ c. cond c (x ∷ filter (is_after_shard (Some after)) xs) (filter (is_after_shard (Some after)) xs)) (above x.no n after numbers.0 h)
+    ∙ ap (λ ys. x ∷ ys) (all_behind xs (n + 1) after numbers.1 (omega (arith, h)))
+
+-- the place right behind a number, or the end where that comes first
+point : (xs : List ShardState) (n after from : ℕ) → AreNumbered n xs → n + from ≤ after + 1 → (n + from ≡ after + 1) ⊎ (length xs ≤ from) → drop from xs ≡ filter (is_after_shard (Some after)) xs
+point [] n after zero numbers below is = refl
+point [] n after (suc from) numbers below is = refl
+point (x ∷ xs) n after zero numbers below (inl e) = sym (all_behind (x ∷ xs) n after numbers (omega (arith, e)))
+point (x ∷ xs) n after zero numbers below (inr h) = absurd (omega (arith, h))
+point (x ∷ xs) n after (suc from) numbers below is =
+    point xs (n + 1) after from numbers.1 (omega (arith, below)) (later is)
+    ∙ sym (ap (λ c. cond c (x ∷ filter (is_after_shard (Some after)) xs) (filter (is_after_shard (Some after)) xs)) (not_above x.no n after numbers.0 (omega (arith, below))))
+  where
+    later : (n + suc from ≡ after + 1) ⊎ (length (x ∷ xs) ≤ suc from) → (n + 1 + from ≡ after + 1) ⊎ (length xs ≤ from)
+    later (inl e) = inl (omega (arith, e))
+    later (inr h) = inr (omega (arith, h))
+
+pub right_behind : (xs : List ShardState) (after i from : ℕ) → AreNumbered 0 xs → i ≡ after → from ≡ i + 1 → drop from xs ≡ filter (is_after_shard (Some after)) xs
+right_behind xs after i from numbers same is = point xs 0 after from numbers (omega (arith, same, is)) (inl (omega (arith, same, is)))
+
+pub at_end : (xs : List ShardState) (after i from : ℕ) → AreNumbered 0 xs → i ≡ after → length xs ≤ i → from ≡ length xs → drop from xs ≡ filter (is_after_shard (Some after)) xs
+at_end xs after i from numbers same far is = point xs 0 after from numbers (omega (arith, same, far, is)) (inr (omega (arith, is)))
+
+pub behind_none : (xs : List ShardState) → xs ≡ filter (is_after_shard None) xs
+behind_none [] = refl
+behind_none (x ∷ xs) = ap (λ ys. x ∷ ys) (behind_none xs)
+
+-- those that are listed behind a number are those of the shards behind it
+pub listing_behind : (cut after : Option ℕ) (xs behind : List ShardState) → behind ≡ filter (is_after_shard after) xs
+    → listing cut behind ≡ map shown (filter (is_after_shard after) (listed_among (floor_of cut) xs))
+listing_behind cut after xs behind is = ap (listing cut) is ∙ ap (map shown) (filter_swap _ _ xs)

@@ -1,7 +1,6 @@
 //! One shard of a stream, as the tree keeps it.
 ghost use Rattle.std.specs.Prelude.{◌≡◌, ◌≤◌, not, length, Some, None};
 ghost use Rattle.kds_base.specs.Span.{covers};
-ghost use Rattle.kds_defs.specs.Listings.{is_after_shard};
 ghost use Rattle.kds_defs.specs.Shards.{is_open, is_child, is_closed_below, new_shard, shown, with_closed};
 ghost use Rattle.kds_defs.specs.Streams.{floor_of};
 ghost use Rattle.kds_tree.specs.Starts.{start_of};
@@ -103,16 +102,6 @@ impl KeptShard {
         match (&self.closed, cut) {
             (Some(closed), Some(cut)) => closed <= cut,
             _ => false,
-        }
-    }
-
-    /// Whether its number is above that one, if there is one.
-    pub fn is_after(&self, after: &Option<ShardNo>) -> bool
-        ensures { result ≡ is_after_shard after.now self.now }
-    {
-        match after {
-            Some(after) => *after < self.shard.no,
-            None => true,
         }
     }
 

@@ -117,16 +117,8 @@ impl ShardTree {
         ensures more { let xs = map shown (filter (is_after_shard after) (listed_among (floor_of cut) self.now.shards))
             in IfOk result (λ r. r.1 ≡ are_more limit xs) }
     {
-        let mut listed = Items::new(*self.shards.allocator());
-        for kept in &self.shards {
-            if !kept.is_expired(&cut) && kept.is_after(&after) {
-                if listed.as_slice().len() == limit as usize {
-                    return Ok((listed, true));
-                }
-                listed.push(*kept.shard())?;
-            }
-        }
-        Ok((listed, false))
+        let behind = shards_behind(&self.shards, after);
+        page_of(*self.shards.allocator(), behind, &cut, limit)
     }
 
     /// The children of a shard in order: it is their parent or their adjacent parent.
@@ -328,6 +320,40 @@ fn place_above(starts: &[u128], key: u128) -> usize
         }
     }
     starts.len()
+}
+
+/// The shards behind the one of a number, and all of them where there is no number: each stands at its own.
+fn shards_behind(shards: &[KeptShard], after: Option<ShardNo>) -> &[KeptShard]
+    ensures { AreNumbered 0 shards.now → result.now ≡ filter (is_after_shard after) shards.now }
+{
+    let from = match after {
+        Some(no) if (no.0 as usize) < shards.len() => no.0 as usize + 1,
+        Some(_) => shards.len(),
+        None => 0,
+    };
+    shards.split_at(from).1
+}
+
+/// At most `limit` of the shards that aren't expired at the cut, and whether more of them follow.
+fn page_of(
+    alloc: Global,
+    shards: &[KeptShard],
+    cut: &Option<Moment>,
+    limit: u32,
+) -> Result<(Items<Shard>, bool), Memory>
+    ensures shards { IfOk result (λ r. r.0 ≡ take limit (map shown (listed_among (floor_of cut.now) shards.now))) }
+    ensures more { IfOk result (λ r. r.1 ≡ are_more limit (map shown (listed_among (floor_of cut.now) shards.now))) }
+{
+    let mut listed = Items::new(alloc);
+    for kept in shards {
+        if !kept.is_expired(cut) {
+            if listed.as_slice().len() == limit as usize {
+                return Ok((listed, true));
+            }
+            listed.push(*kept.shard())?;
+        }
+    }
+    Ok((listed, false))
 }
 
 /// The shard of this number as it is shown.
