@@ -37,3 +37,7 @@ pub record AreStarts (ss : List OpenStart) (xs : List ShardState) : Type 0 where
 -- the start is that of neither shard
 abbrev pub stays : ℕ → ℕ → OpenStart → Bool
 stays shard other s = not (s.shard == shard) && not (s.shard == other)
+
+-- the keys at which they are
+abbrev pub starting_keys : List OpenStart → List ℕ
+starting_keys ss = map (λ (s : OpenStart). s.key) ss

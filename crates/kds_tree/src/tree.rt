@@ -1,17 +1,16 @@
 //! The shards of a stream: their making, the home of a key, listings, splits and merges.
-ghost use Rattle.std.specs.Prelude.{◌≡◌, ◌+◌, ◌-◌, ◌^◌, ◌<◌, ◌≤◌, ℕ, min, length, nat_lt, map, take, slice_get, Some, IsSome, IfOk, IfSome, OnOk, OnErr, IsOk};
-ghost use Rattle.std.specs.List.{AllByRecursion, filter, position_or_len};
+ghost use Rattle.std.specs.Prelude.{◌≡◌, ◌+◌, ◌-◌, ◌^◌, ◌<◌, ◌≤◌, ℕ, min, length, map, take, slice_get, Some, IsSome, IfOk, IfSome, OnOk, OnErr, IsOk};
+ghost use Rattle.std.specs.List.{AllByRecursion, filter};
 ghost use Rattle.std.specs.Option.{option_map};
 ghost use Rattle.kds_base.specs.Span.{joined};
 ghost use Rattle.kds_defs.specs.declared.limits.TheConstants.{MOST_SHARDS};
 ghost use Rattle.kds_defs.specs.Listings.{are_more, is_after_shard};
 ghost use Rattle.kds_defs.specs.Scaling as scaling;
-ghost use Rattle.kds_defs.specs.Scaling.{with_start};
 ghost use Rattle.kds_defs.specs.ScaleCommands.{starts_among};
 ghost use Rattle.kds_defs.specs.Shards.{children_among, home_among, is_open, listed_among, made_shards, merged_shards, range_of, shown, split_shards, with_closed};
 ghost use Rattle.kds_defs.specs.Streams.{floor_of};
 ghost use Rattle.kds_defs.specs.Tiled.{AreNumbered, IsTiled};
-ghost use Rattle.kds_tree.specs.Starts.{AreStarts};
+ghost use Rattle.kds_tree.specs.Starts.{AreStarts, starting_keys};
 ghost use Rattle.kds_tree.specs.Tree.{IsHome, IsWithinKeys, after_merge, after_split, answer_by, merge_refusal, split_parts, split_refusal, was_expired};
 
 use crate::kept::KeptShard;
@@ -139,15 +138,7 @@ impl ShardTree {
         ensures value { IfOk result (λ starts. starts ≡ starts_among (filter is_open self.now.shards)) }
         ensures partition { scaling.AreStarts (starts_among (filter is_open self.now.shards)) }
     {
-        let mut starts = Vec::new(*self.shards.allocator());
-        let count = self.shards.len();
-        for i in 0..count {
-            let kept = &self.shards[count - 1 - i];
-            if kept.is_open() {
-                insert_start(&mut starts, kept.range().start)?;
-            }
-        }
-        Ok(Items::from_vec(starts))
+        keys_of(*self.shards.allocator(), &self.starts)
     }
 
     /// Takes memory for so many shards more. The shards are as before, whatever the answer.
@@ -298,28 +289,15 @@ fn open_starts(alloc: Global, shards: &[KeptShard]) -> Result<Vec<OpenStart>, Me
     Ok(starts)
 }
 
-/// Puts a start before the first that is above it.
-fn insert_start(starts: &mut Vec<u128>, start: u128) -> Result<(), Memory>
-    ensures { OnOk result (starts.new.items ≡ with_start start starts.old.items) }
+/// The keys of these starts.
+fn keys_of(alloc: Global, starts: &[OpenStart]) -> Result<Items<u128>, Memory>
+    ensures { IfOk result (λ keys. keys ≡ starting_keys starts.now) }
 {
-    let place = place_above(starts, start);
-    match starts.insert(place, start) {
-        Ok(()) => Ok(()),
-        Err(_) => Err(Memory),
+    let mut keys = Items::new(alloc);
+    for start in starts {
+        keys.push(start.key)?;
     }
-}
-
-/// The place of the first of the starts that is above a key, and their count where there is none.
-fn place_above(starts: &[u128], key: u128) -> usize
-    ensures value { result ≡ position_or_len (λ start. nat_lt key start) starts.now }
-    ensures within { result ≤ length starts.now }
-{
-    for (i, start) in starts.iter().enumerate() {
-        if key < *start {
-            return i;
-        }
-    }
-    starts.len()
+    Ok(keys)
 }
 
 /// The shards behind the one of a number, and all of them where there is no number: each stands at its own.
