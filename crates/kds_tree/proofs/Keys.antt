@@ -1,5 +1,5 @@
 -- The keys of the starts that are kept in order: they are those of the open shards, put in order.
-use Rattle.std.proofs.Common.{◌≡◌, ℕ, zero, suc, ◌+◌, ◌<◌, ◌≤◌, Bool, true, false, List, [], ◌∷◌, length, get_or, map, refl, sym, ap, subst, ◌∙◌, arith}
+use Rattle.std.proofs.Common.{◌≡◌, ℕ, suc, ◌+◌, ◌<◌, ◌≤◌, Bool, true, false, List, [], ◌∷◌, length, get_or, map, refl, sym, ap, subst, ◌∙◌, arith}
 use Rattle.std.specs.Prelude.{cond, ◌==◌, nat_lt}
 use Rattle.std.specs.List.{filter}
 use Rattle.std.specs.List.Sorted.{IsNonDecreasingBy}
@@ -58,7 +58,8 @@ same_lists n (x ∷ xs) (y ∷ ys) r t e =
 
 -- ---- how often a key is there
 
-times_by : (lt : Bool) (k b x : ℕ) (xs more : List ℕ) → times k more ≡ cond (b == k) 1 0 + times k xs → times k (cond lt (b ∷ x ∷ xs) (x ∷ more)) ≡ cond (b == k) 1 0 + times k (x ∷ xs)
+times_by : (lt : Bool) (k b x : ℕ) (xs more : List ℕ) → times k more ≡ cond (b == k) 1 0 + times k xs
+    → times k (cond lt (b ∷ x ∷ xs) (x ∷ more)) ≡ cond (b == k) 1 0 + times k (x ∷ xs)
 times_by true k b x xs more h = refl
 times_by false k b x xs more h = omega (arith, h)
 
@@ -87,12 +88,15 @@ times_keys k (s ∷ ss) = counted (s.key == k) s (filter (has_key k) ss) (times 
 
 -- ---- those that are kept don't fall
 
-none_falls : (n : ℕ) (ss : List OpenStart) → IsNonDecreasingBy (λ (s : OpenStart). s.key) ss → ((d : OpenStart) → 0 < length ss → n ≤ (get_or ss 0 d).key) → NoneFalls n (starting_keys ss)
+none_falls : (n : ℕ) (ss : List OpenStart) → IsNonDecreasingBy (λ (s : OpenStart). s.key) ss → ((d : OpenStart) → 0 < length ss → n ≤ (get_or ss 0 d).key)
+    → NoneFalls n (starting_keys ss)
 none_falls n [] order above = tt
 none_falls n (s ∷ ss) order above =
-    (above s (omega arith), none_falls s.key ss (λ i j d le within. order (suc i) (suc j) d (omega (arith, le)) (omega (arith, within))) (λ d some. order 0 1 d (omega arith) (omega (arith, some))))
+    let later : IsNonDecreasingBy (λ (t : OpenStart). t.key) ss = λ i j d le within. order (suc i) (suc j) d (omega (arith, le)) (omega (arith, within)) in
+    (above s (omega arith), none_falls s.key ss later (λ d some. order 0 1 d (omega arith) (omega (arith, some))))
 
 pub same_keys : (ss : List OpenStart) (xs : List ShardState) → AreStarts ss xs → IsTree xs → starting_keys ss ≡ starts_among (filter is_open xs)
 same_keys ss xs starts tree =
-    same_lists 0 (starting_keys ss) (starts_among (filter is_open xs)) (none_falls 0 ss starts.order (λ d some. omega arith)) (none_falls_rising 0 (starts_among (filter is_open xs)) (tree_rises xs tree))
+    same_lists 0 (starting_keys ss) (starts_among (filter is_open xs))
+    (none_falls 0 ss starts.order (λ d some. omega arith)) (none_falls_rising 0 (starts_among (filter is_open xs)) (tree_rises xs tree))
     (λ k. times_keys k ss ∙ starts.many (has_key k) ∙ sym (times_starts k (filter is_open xs)))

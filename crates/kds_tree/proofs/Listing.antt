@@ -1,6 +1,7 @@
 -- Listings of a list of shards.
-use Rattle.std.proofs.Common.{◌≡◌, ℕ, zero, suc, ◌+◌, ◌<◌, ◌≤◌, Bool, true, false, List, [], ◌∷◌, drop, length, map, Option, Some, None, inl, inr, refl, sym, ap, subst, ◌∙◌, arith}
-use Rattle.std.specs.Prelude.{cond, min, nat_lt, ◌⊎◌}
+use Rattle.std.proofs.Common.{◌≡◌, ℕ, zero, suc, ◌+◌, ◌<◌, ◌≤◌, Bool, true, false, List, [], ◌∷◌, refl, sym, ap, ◌∙◌, arith}
+use Rattle.std.proofs.Common.{drop, length, map, Option, Some, None, inl, inr}
+use Rattle.std.specs.Prelude.{cond, nat_lt, ◌⊎◌}
 use Rattle.std.specs.List.{filter}
 use Rattle.std.proofs.lemmas.Bool.Decides.{nat_tests}
 use Rattle.kds_defs.specs.declared.reply.Shard.{Shard}
@@ -45,23 +46,27 @@ all_behind (x ∷ xs) n after numbers h =
     ∙ ap (λ ys. x ∷ ys) (all_behind xs (n + 1) after numbers.1 (omega (arith, h)))
 
 -- the place right behind a number, or the end where that comes first
-point : (xs : List ShardState) (n after from : ℕ) → AreNumbered n xs → n + from ≤ after + 1 → (n + from ≡ after + 1) ⊎ (length xs ≤ from) → drop from xs ≡ filter (is_after_shard (Some after)) xs
+point : (xs : List ShardState) (n after from : ℕ) → AreNumbered n xs → n + from ≤ after + 1 → (n + from ≡ after + 1) ⊎ (length xs ≤ from)
+    → drop from xs ≡ filter (is_after_shard (Some after)) xs
 point [] n after zero numbers below is = refl
 point [] n after (suc from) numbers below is = refl
 point (x ∷ xs) n after zero numbers below (inl e) = sym (all_behind (x ∷ xs) n after numbers (omega (arith, e)))
 point (x ∷ xs) n after zero numbers below (inr h) = absurd (omega (arith, h))
 point (x ∷ xs) n after (suc from) numbers below is =
     point xs (n + 1) after from numbers.1 (omega (arith, below)) (later is)
-    ∙ sym (ap (λ c. cond c (x ∷ filter (is_after_shard (Some after)) xs) (filter (is_after_shard (Some after)) xs)) (not_above x.no n after numbers.0 (omega (arith, below))))
+    ∙ sym (ap (λ c. cond c (x ∷ filter (is_after_shard (Some after)) xs) (filter (is_after_shard (Some after)) xs))
+    (not_above x.no n after numbers.0 (omega (arith, below))))
   where
     later : (n + suc from ≡ after + 1) ⊎ (length (x ∷ xs) ≤ suc from) → (n + 1 + from ≡ after + 1) ⊎ (length xs ≤ from)
     later (inl e) = inl (omega (arith, e))
     later (inr h) = inr (omega (arith, h))
 
-pub right_behind : (xs : List ShardState) (after i from : ℕ) → AreNumbered 0 xs → i ≡ after → from ≡ i + 1 → drop from xs ≡ filter (is_after_shard (Some after)) xs
+pub right_behind : (xs : List ShardState) (after i from : ℕ) → AreNumbered 0 xs → i ≡ after → from ≡ i + 1
+    → drop from xs ≡ filter (is_after_shard (Some after)) xs
 right_behind xs after i from numbers same is = point xs 0 after from numbers (omega (arith, same, is)) (inl (omega (arith, same, is)))
 
-pub at_end : (xs : List ShardState) (after i from : ℕ) → AreNumbered 0 xs → i ≡ after → length xs ≤ i → from ≡ length xs → drop from xs ≡ filter (is_after_shard (Some after)) xs
+pub at_end : (xs : List ShardState) (after i from : ℕ) → AreNumbered 0 xs → i ≡ after → length xs ≤ i → from ≡ length xs
+    → drop from xs ≡ filter (is_after_shard (Some after)) xs
 at_end xs after i from numbers same far is = point xs 0 after from numbers (omega (arith, same, far, is)) (inr (omega (arith, is)))
 
 pub behind_none : (xs : List ShardState) → xs ≡ filter (is_after_shard None) xs

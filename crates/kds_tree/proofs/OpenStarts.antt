@@ -82,16 +82,16 @@ contains_left p (y ∷ ys) s (suc k) lt is t = left_choice (p y) y s (filter p y
 
 -- ---- places
 
-get_front : (xs ys : List ShardState) (i : ℕ) (x : ShardState) → slice_get xs i ≡ Some x → slice_get (xs ++ ys) i ≡ Some x
+pub get_front : {A : Type 0} → (xs ys : List A) (i : ℕ) (x : A) → slice_get xs i ≡ Some x → slice_get (xs ++ ys) i ≡ Some x
 get_front [] ys i x is = absurd cc
 get_front (z ∷ zs) ys zero x is = is
 get_front (z ∷ zs) ys (suc i) x is = get_front zs ys i x is
 
-get_back : (xs ys : List ShardState) (i : ℕ) → slice_get (xs ++ ys) (length xs + i) ≡ slice_get ys i
+pub get_back : {A : Type 0} → (xs ys : List A) (i : ℕ) → slice_get (xs ++ ys) (length xs + i) ≡ slice_get ys i
 get_back [] ys i = let e : 0 + i ≡ i = omega arith in ap (slice_get ys) e
 get_back (z ∷ zs) ys i = let e : suc (length zs) + i ≡ suc (length zs + i) = omega arith in ap (slice_get (z ∷ zs ++ ys)) e ∙ get_back zs ys i
 
-record IsBehind (ys : List ShardState) (n i : ℕ) (x : ShardState) : Type 0 where
+pub record IsBehind (ys : List ShardState) (n i : ℕ) (x : ShardState) : Type 0 where
   pub place : ℕ
   pub at : slice_get ys place ≡ Some x
   pub is : i ≡ n + place
@@ -99,7 +99,7 @@ record IsBehind (ys : List ShardState) (n i : ℕ) (x : ShardState) : Type 0 whe
 behind_more : (ys : List ShardState) (n i : ℕ) (x : ShardState) → IsBehind ys n i x → IsBehind ys (suc n) (suc i) x
 behind_more ys n i x h = record { place = h.place; at = h.at; is = omega (arith, h.is) }
 
-get_cases : (xs ys : List ShardState) (i : ℕ) (x : ShardState) → slice_get (xs ++ ys) i ≡ Some x → (slice_get xs i ≡ Some x) ⊎ IsBehind ys (length xs) i x
+pub get_cases : (xs ys : List ShardState) (i : ℕ) (x : ShardState) → slice_get (xs ++ ys) i ≡ Some x → (slice_get xs i ≡ Some x) ⊎ IsBehind ys (length xs) i x
 get_cases [] ys i x is = inr (record { place = i; at = is; is = omega arith })
 get_cases (z ∷ zs) ys zero x is = inl is
 get_cases (z ∷ zs) ys (suc i) x is = more (get_cases zs ys i x is)

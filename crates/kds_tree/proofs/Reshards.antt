@@ -15,8 +15,10 @@ use Rattle.kds_base.specs.Span.{uniform}
 use Rattle.std.specs.List.{AllByRecursion, filter}
 use Rattle.std.specs.List.Sorted.{IsNonDecreasingBy, IsPermutation}
 use Rattle.std.proofs.lemmas.Bool.{and_parts}
+use Rattle.kds_tree.specs.Families.{AreFamilies}
 use Rattle.kds_tree.specs.Starts.{AreStarts, own_start, stays}
 use Rattle.kds_tree.specs.declared.start.OpenStart.{OpenStart}
+use Rattle.kds_tree.proofs.Families.{after_birth, merge_families, split_families}
 use Rattle.kds_tree.proofs.OpenStarts.{reshaped, closes_one, closes_two}
 use Rattle.kds_tree.specs.Tree.{IsTree, IsWithinKeys, split_refusal, merge_refusal, answer_by, value_by}
 
@@ -175,6 +177,10 @@ closed_at (z ∷ zs) ys (suc i) x y closing at is = ap (λ ss. z ∷ ss) (closed
 abbrev pub StartsGo : List ShardState → ℕ → ℕ → List ShardState → List ShardState → Type 0
 StartsGo xs sh other born zs = IsTree xs → (ss more ts : List OpenStart) → AreStarts ss xs → more ≡ filter (stays sh other) ss ++ map own_start born → IsPermutation more ts → IsNonDecreasingBy (λ (s : OpenStart). s.key) ts → AreStarts ts zs
 
+-- the first children after a change: two shards have one, and others come that have none
+abbrev pub FamiliesGo : List ShardState → ℕ → ℕ → List (Option ℕ) → List ShardState → Type 0
+FamiliesGo xs sh other more zs = (firsts : List (Option ℕ)) → AreFamilies firsts xs → AreFamilies (after_birth firsts sh other (length xs) more) zs
+
 answered : {A : Type 0} (o : Option Refusal) (x y : A) → Ok x ≡ answer_by o y → (o ≡ None) × (x ≡ y)
 answered None x y h = let e : x ≡ y = cc in (refl, e)
 answered (Some r) x y h = absurd cc
@@ -207,6 +213,7 @@ pub record Splits (xs : List ShardState) (sh at start : ℕ) (closing : Closing)
   pub value : zs ≡ split_shards sh at closing start xs
   pub tree : IsTree xs → IsTree zs
   pub starts : StartsGo xs sh sh (low ∷ high ∷ []) zs
+  pub families : FamiliesGo xs sh sh (None ∷ None ∷ []) zs
 
 closed_in : (xs ys zs : List ShardState) (sh : ℕ) (x : ShardState) (closing : Closing) (old new : ShardState) → slice_get xs sh ≡ Some x → zs ≡ xs ++ ys → old ≡ slice_index_or zs sh old → new ≡ record old { closing = Some closing } → slice_set zs sh new ≡ with_closed sh closing xs ++ ys
 closed_in xs ys zs sh x closing old new made is read close =
@@ -259,6 +266,10 @@ splits xs zs sh i at start a b s closing ranges low high old new answer is_i is_
           let away' = away ∙ ap (λ (born : List ShardState). filter (stays sh sh) ss ++ map own_start born) is_born in
           subst (λ (us : List ShardState). AreStarts ts us) (sym value)
           (reshaped xs (with_closed sh closing xs) (lower_child ∷ upper_child ∷ []) sh sh (closes_one xs sh closing) (refl, (refl, tt)) tree.numbered ss more ts starts away' same order);
+      families = λ firsts families.
+          subst (AreFamilies (after_birth firsts sh sh (length xs) (None ∷ None ∷ []))) (sym value)
+          (split_families firsts xs sh (length xs) (length xs + 1) (start + 1) (lower_part r at) (upper_part r at) closing
+          can.state can.made can.is_open_now families);
     }
 
 -- a shard that is split is there
@@ -267,6 +278,14 @@ split_within xs zs sh i at ranges low high answer is_i is =
     let h = answered (split_refusal xs sh at) ranges (halves (range_of (slice_get xs sh)) at) answer in
     let can = can_split xs sh at h.0 in
     omega (arith, is_i, slice_get_within xs sh can.state can.made, ap length is, length-append xs (low ∷ high ∷ []))
+
+-- and a first child may be written down for it
+pub split_known : (xs : List ShardState) (firsts kept : List (Option ℕ)) (sh at : ℕ) (ranges : Span × Span)
+    → Ok ranges ≡ answer_by (split_refusal xs sh at) (halves (range_of (slice_get xs sh)) at)
+    → AreFamilies firsts xs → kept ≡ firsts → sh < length kept
+split_known xs firsts kept sh at ranges answer families is =
+    let can = can_split xs sh at (answered (split_refusal xs sh at) ranges (halves (range_of (slice_get xs sh)) at) answer).0 in
+    omega (arith, slice_get_within xs sh can.state can.made, families.long, ap length is)
 
 -- both shards of a merge stand in the list with one shard more
 pub both_within : (xs zs : List ShardState) (sh other i j n : ℕ) (range joint : Span) (child : ShardState)
@@ -277,6 +296,14 @@ both_within xs zs sh other i j n range joint child answer is_i is_j is_n more =
     let b : other < length xs = slice_get_within xs other can.beside can.other_made in
     let e : n ≡ length xs + 1 = is_n ∙ ap (λ (s : List ShardState). length s) more ∙ length-append xs (child ∷ []) in
     (omega arith, omega arith)
+
+pub both_known : (xs : List ShardState) (firsts kept : List (Option ℕ)) (sh other : ℕ) (range joint : Span)
+    → Ok range ≡ answer_by (merge_refusal xs sh other) joint
+    → AreFamilies firsts xs → kept ≡ firsts → (sh < length kept) × (other < length kept)
+both_known xs firsts kept sh other range joint answer families is =
+    let can = can_merge xs sh other (answered (merge_refusal xs sh other) range joint answer).0 in
+    let long : length kept ≡ length xs = ap length is ∙ families.long in
+    (omega (arith, slice_get_within xs sh can.state can.made, long), omega (arith, slice_get_within xs other can.beside can.other_made, long))
 
 -- the value after an accepted call
 by_none : (o : Option Refusal) (before after zs : List ShardState) → o ≡ None → zs ≡ after → zs ≡ value_by o before after
@@ -291,6 +318,7 @@ pub record Merges (xs : List ShardState) (sh other start : ℕ) (closing : Closi
   pub value : zs ≡ merged_shards sh other closing start xs
   pub tree : IsTree xs → IsTree zs
   pub starts : StartsGo xs sh other (child ∷ []) zs
+  pub families : FamiliesGo xs sh other (None ∷ []) zs
 
 pub merge_value : (xs : List ShardState) (sh other start : ℕ) (closing : Closing) (child : ShardState) (zs : List ShardState) → Merges xs sh other start closing child zs → zs ≡ value_by (merge_refusal xs sh other) xs (merged_shards sh other closing start xs)
 merge_value xs sh other start closing child zs s = by_none (merge_refusal xs sh other) xs (merged_shards sh other closing start xs) zs s.allowed s.value
@@ -327,4 +355,8 @@ merges xs zs sh other i j start a s closing range child old new old' new' answer
           let away' = away ∙ ap (λ (born : ShardState). filter (stays sh other) ss ++ own_start born ∷ []) e_child in
           subst (λ (us : List ShardState). AreStarts ts us) (sym value)
           (reshaped xs (with_closed other closing once) (kept ∷ []) sh other (closes_two xs sh other closing) (refl, tt) tree.numbered ss more ts starts away' same order);
+      families = λ firsts families.
+          subst (AreFamilies (after_birth firsts sh other (length xs) (None ∷ []))) (sym value)
+          (merge_families firsts xs sh other (length xs) (start + 1) (joined (range_of (slice_get xs sh)) (range_of (slice_get xs other))) closing
+          can.state can.beside can.made can.is_open_now can.other_made can.other_open families);
     }

@@ -13,6 +13,7 @@ ghost use Rattle.kds_defs.specs.Tiled.{AreNumbered, IsTiled};
 ghost use Rattle.kds_tree.specs.Starts.{AreStarts, starting_keys};
 ghost use Rattle.kds_tree.specs.Tree.{IsHome, IsWithinKeys, after_merge, after_split, answer_by, merge_refusal, split_parts, split_refusal, was_expired};
 
+use crate::family::{children_in, family_of, no_children, set_first_child};
 use crate::kept::KeptShard;
 use crate::start::{OpenStart, home_of, put_in_order, take_away};
 use kds_base::{Items, Memory, Moment, Range, Seq, ShardNo};
@@ -28,18 +29,24 @@ pub struct ShardTree {
     shards: Vec<KeptShard>,
     /// The starts of the open shards, in order.
     starts: Vec<OpenStart>,
+    /// The first child of each shard, in the order of their numbers, where it has one.
+    first_children: Vec<Option<ShardNo>>,
 }
 
 impl Model for ShardTree {
     ghost use Rattle.std.specs.Prelude.{min, vec_capacity, vec_len, ◌-◌};
+    ghost use Rattle.kds_tree.specs.Families.{AreFamilies};
     ghost use Rattle.kds_tree.specs.Starts.{AreStarts};
     ghost use Rattle.kds_tree.specs.Tree.{IsTree, TreeValue};
 
     ghost Value = { TreeValue };
 
-    ghost view = { λ t. record { shards = t.shards.items; spare = min (vec_capacity t.shards - vec_len t.shards) (vec_capacity t.starts - vec_len t.starts) } };
+    ghost view = { λ t. record {
+      shards = t.shards.items;
+      spare = min (vec_capacity t.shards - vec_len t.shards) (min (vec_capacity t.starts - vec_len t.starts) (vec_capacity t.first_children - vec_len t.first_children));
+    } };
 
-    ghost invariant = { λ t. IsTree t.shards.items × AreStarts t.starts.items t.shards.items };
+    ghost invariant = { λ t. IsTree t.shards.items × AreStarts t.starts.items t.shards.items × AreFamilies t.first_children.items t.shards.items };
 }
 
 impl ShardTree {
@@ -55,7 +62,12 @@ impl ShardTree {
             shards.push(KeptShard::new(ShardNo(i as u64), *range, None, None, Seq(1)))?;
         }
         let starts = open_starts(alloc, &shards)?;
-        Ok(ShardTree { shards, starts })
+        let first_children = no_children(alloc, n as usize)?;
+        Ok(ShardTree {
+            shards,
+            starts,
+            first_children,
+        })
     }
 
     /// How many shards were made, the closed ones included.
@@ -124,13 +136,8 @@ impl ShardTree {
     pub fn children(&self, no: ShardNo) -> Result<Items<Shard>, Memory>
         ensures { IfOk result (λ shards. shards ≡ map shown (children_among no self.now.shards)) }
     {
-        let mut children = Items::new(*self.shards.allocator());
-        for kept in &self.shards {
-            if kept.is_child_of(no) {
-                children.push(*kept.shard())?;
-            }
-        }
-        Ok(children)
+        let family = family_of(&self.shards, &self.first_children, no);
+        children_in(*self.shards.allocator(), family, no)
     }
 
     /// Where the ranges of the open shards start, in rising order: the starts of a partition of the hash keys.
@@ -149,6 +156,7 @@ impl ShardTree {
     {
         self.shards.reserve(shards as usize)?;
         self.starts.reserve(shards as usize)?;
+        self.first_children.reserve(shards as usize)?;
         Ok(())
     }
 
@@ -199,12 +207,16 @@ impl ShardTree {
         let lower_child = KeptShard::new(low, lower, Some(shard), None, start);
         let upper_child = KeptShard::new(high, upper, Some(shard), None, start);
         self.starts.reserve(2)?;
+        self.first_children.reserve(2)?;
         self.shards.extend_from_slice(&[lower_child, upper_child])?;
         self.shards[shard.0 as usize].close(seq, clock);
         take_away(&mut self.starts, shard, shard);
         self.starts.push_reserved(lower_child.start());
         self.starts.push_reserved(upper_child.start());
         put_in_order(&mut self.starts);
+        set_first_child(&mut self.first_children, shard, shard, low);
+        self.first_children.push_reserved(None);
+        self.first_children.push_reserved(None);
         Ok(Ok((low, high)))
     }
 
@@ -265,12 +277,15 @@ impl ShardTree {
         let start = Seq(seq.0 + 1);
         let born = KeptShard::new(child, range, Some(shard), Some(other), start);
         self.starts.reserve(1)?;
+        self.first_children.reserve(1)?;
         self.shards.push(born)?;
         self.shards[shard.0 as usize].close(seq, clock);
         self.shards[other.0 as usize].close(seq, clock);
         take_away(&mut self.starts, shard, other);
         self.starts.push_reserved(born.start());
         put_in_order(&mut self.starts);
+        set_first_child(&mut self.first_children, shard, other, child);
+        self.first_children.push_reserved(None);
         Ok(Ok(child))
     }
 }

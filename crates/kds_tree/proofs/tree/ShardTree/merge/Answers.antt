@@ -1,11 +1,14 @@
-use Rattle.std.proofs.Common.{◌≡◌, ◌+◌, ◌++◌, ◌∷◌, [], List, length, refl, rules, subst, ◌∙◌, ap}
+use Rattle.std.proofs.Common.{◌≡◌, ◌+◌, ◌++◌, ◌∷◌, [], List, Option, ℕ, length, refl, rules, subst, sym, ◌∙◌, ap}
 use Rattle.std.specs.List.{filter}
 use Rattle.std.specs.Vec.{vec_len}
 use Rattle.kds_defs.specs.Shards.{ShardState, Closing}
+use Rattle.std.specs.Prelude.{slice_set}
+use Rattle.kds_tree.specs.Families.{AreFamilies}
 use Rattle.kds_tree.specs.Starts.{AreStarts, own_start, stays}
 use Rattle.kds_tree.specs.Tree.{IsTree, TreeValue}
+use Rattle.kds_tree.proofs.Families.{one_place}
 use Rattle.kds_tree.proofs.OpenStarts.{one_more}
-use Rattle.kds_tree.proofs.Reshards.{both_within, merges, merge_value, refused_answer, refused_value}
+use Rattle.kds_tree.proofs.Reshards.{both_known, both_within, merges, merge_value, refused_answer, refused_value}
 use Rattle.kds_tree.proofs.tree.ShardTree.merge.Goals as goal
 
 pub invariant_of-self-2 : goal.invariant_of-self-2
@@ -21,7 +24,32 @@ invariant_of-self-2 c =
     let away = one_more (filter (stays c.args.shard c.args.other) ss) c.take_away.new.starts.items c.push_reserved.new.self.items c.start.result (own_start born)
     (c.take_away.ensures.left ∙ ap (filter (stays c.args.shard c.args.other)) c.reserve.ensures.items) c.push_reserved.ensures.items c.start.ensures in
     let tree = subst IsTree (ap (λ (t : TreeValue). t.shards) c.self.view_is) c.self.invariant.0 in
-    (s.tree tree, s.starts tree ss c.push_reserved.new.self.items c.put_in_order.new.starts.items starts away c.put_in_order.ensures.same c.put_in_order.ensures.order)
+    let firsts = c.self.inside.first_children.items in
+    let families : AreFamilies firsts xs = subst (AreFamilies firsts) (ap (λ (t : TreeValue). t.shards) c.self.view_is) c.self.invariant.2 in
+    let places = one_place firsts c.reserve-2.new.self.items c.set_first_child.new.first_children.items
+    c.push_reserved-2.new.self.items c.args.shard c.args.other c.len.result _
+    c.reserve-2.ensures.items c.set_first_child.ensures.items c.len.ensures.value c.push_reserved-2.ensures.items in
+    let zs = slice_set (slice_set c.push.new.self.items c.shard.inside.0 c.close.new.self) c.other.inside.0 c.close-2.new.self in (
+      s.tree tree,
+      s.starts tree ss c.push_reserved.new.self.items c.put_in_order.new.starts.items starts away c.put_in_order.ensures.same c.put_in_order.ensures.order,
+      subst (λ (fs : List (Option ℕ)). AreFamilies fs zs) (sym places) (s.families firsts families),
+    )
+
+pub set_first_child-requires-clause-shard : goal.set_first_child-requires-clause-shard
+set_first_child-requires-clause-shard c =
+    let firsts = c.self.inside.first_children.items in
+    let families : AreFamilies firsts c.args.self.now.shards =
+    subst (AreFamilies firsts) (ap (λ (t : TreeValue). t.shards) c.self.view_is) c.self.invariant.2 in
+    (both_known c.args.self.now.shards firsts c.reserve-2.new.self.items c.args.shard c.args.other
+    c.in-Ok.range _ c.in-Ok.ensures families c.reserve-2.ensures.items).0
+
+pub set_first_child-requires-clause-other : goal.set_first_child-requires-clause-other
+set_first_child-requires-clause-other c =
+    let firsts = c.self.inside.first_children.items in
+    let families : AreFamilies firsts c.args.self.now.shards =
+    subst (AreFamilies firsts) (ap (λ (t : TreeValue). t.shards) c.self.view_is) c.self.invariant.2 in
+    (both_known c.args.self.now.shards firsts c.reserve-2.new.self.items c.args.shard c.args.other
+    c.in-Ok.range _ c.in-Ok.ensures families c.reserve-2.ensures.items).1
 
 pub returns-clause-value : goal.returns-clause-value
 returns-clause-value c =

@@ -1,10 +1,13 @@
-use Rattle.std.proofs.Common.{◌≡◌, ◌+◌, ◌++◌, ◌∷◌, [], ◌<◌, List, length, subst, ◌∙◌, ap, rules}
+use Rattle.std.proofs.Common.{◌≡◌, ◌+◌, ◌++◌, ◌∷◌, [], ◌<◌, List, Option, ℕ, length, subst, sym, ◌∙◌, ap, rules}
 use Rattle.std.specs.List.{filter}
 use Rattle.kds_defs.specs.Shards.{ShardState, Closing}
+use Rattle.std.specs.Prelude.{slice_set}
+use Rattle.kds_tree.specs.Families.{AreFamilies}
 use Rattle.kds_tree.specs.Starts.{AreStarts, own_start, stays}
 use Rattle.kds_tree.specs.Tree.{IsTree, TreeValue}
+use Rattle.kds_tree.proofs.Families.{two_places}
 use Rattle.kds_tree.proofs.OpenStarts.{two_more}
-use Rattle.kds_tree.proofs.Reshards.{refused_answer, refused_value, split_within, splits, split_value}
+use Rattle.kds_tree.proofs.Reshards.{refused_answer, refused_value, split_known, split_within, splits, split_value}
 use Rattle.kds_tree.proofs.tree.ShardTree.split.Goals as goal
 
 pub invariant_of-self-2 : goal.invariant_of-self-2
@@ -22,7 +25,27 @@ invariant_of-self-2 c =
     let away = two_more (filter (stays c.args.shard c.args.shard) ss) c.take_away.new.starts.items c.push_reserved.new.self.items c.push_reserved-2.new.self.items c.start.result c.start-2.result (own_start low) (own_start high)
     (c.take_away.ensures.left ∙ ap (filter (stays c.args.shard c.args.shard)) c.reserve.ensures.items) c.push_reserved.ensures.items c.push_reserved-2.ensures.items c.start.ensures c.start-2.ensures in
     let tree = subst IsTree (ap (λ (t : TreeValue). t.shards) c.self.view_is) c.self.invariant.0 in
-    (s.tree tree, s.starts tree ss c.push_reserved-2.new.self.items c.put_in_order.new.starts.items starts away c.put_in_order.ensures.same c.put_in_order.ensures.order)
+    let firsts = c.self.inside.first_children.items in
+    let families : AreFamilies firsts xs = subst (AreFamilies firsts) (ap (λ (t : TreeValue). t.shards) c.self.view_is) c.self.invariant.2 in
+    let places = two_places firsts c.reserve-2.new.self.items c.set_first_child.new.first_children.items
+    c.push_reserved-3.new.self.items c.push_reserved-4.new.self.items c.args.shard c.args.shard c.len.result _
+    c.reserve-2.ensures.items c.set_first_child.ensures.items c.len.ensures.value c.push_reserved-3.ensures.items c.push_reserved-4.ensures.items in
+    let zs = slice_set c.extend_from_slice.new.self.items c.shard.inside.0 c.close.new.self in (
+      s.tree tree,
+      s.starts tree ss c.push_reserved-2.new.self.items c.put_in_order.new.starts.items starts away c.put_in_order.ensures.same c.put_in_order.ensures.order,
+      subst (λ (fs : List (Option ℕ)). AreFamilies fs zs) (sym places) (s.families firsts families),
+    )
+
+pub set_first_child-requires-clause-shard : goal.set_first_child-requires-clause-shard
+set_first_child-requires-clause-shard c =
+    let firsts = c.self.inside.first_children.items in
+    let families : AreFamilies firsts c.args.self.now.shards =
+    subst (AreFamilies firsts) (ap (λ (t : TreeValue). t.shards) c.self.view_is) c.self.invariant.2 in
+    split_known c.args.self.now.shards firsts c.reserve-2.new.self.items c.args.shard c.args.at
+    c.in-Ok.ranges c.in-Ok.ensures families c.reserve-2.ensures.items
+
+pub set_first_child-requires-clause-other : goal.set_first_child-requires-clause-other
+set_first_child-requires-clause-other c = set_first_child-requires-clause-shard c
 
 pub returns-clause-value : goal.returns-clause-value
 returns-clause-value c =

@@ -1,6 +1,5 @@
 use Rattle.std.proofs.Common.{◌≡◌, List, ℕ, ap, subst, ◌∙◌}
 use Rattle.std.specs.Prelude.{IfOk}
-use Rattle.std.specs.List.{filter}
 use Rattle.kds_tree.specs.Starts.{AreStarts, starting_keys}
 use Rattle.kds_tree.specs.Tree.{IsTree, TreeValue}
 use Rattle.kds_tree.proofs.Keys.{same_keys}
