@@ -3,8 +3,8 @@ use Rattle.std.proofs.Common.{◌≡◌, ℕ, true, false, List, Option, Some, N
 use Rattle.std.specs.Option.{IfSome}
 use Rattle.kds_ends.specs.declared.status.Status.{Status}
 use Rattle.kds_ends.specs.declared.status.Status.TheVariants.{Done, Memory}
-use Rattle.kds_cli_tasks.specs.declared.task.Task.{Task}
-use Rattle.kds_cli_tasks.specs.declared.task.Task.TheVariants.{Replay, Answer, Audit, Serve, Drill}
+use Rattle.kds_cli_words.specs.declared.task.Task.{Task}
+use Rattle.kds_cli_words.specs.declared.task.Task.TheVariants.{Replay, Answer, Audit, Serve, Drill}
 use Rattle.kds_cli_runs.proofs.Codes.{each}
 use Rattle.kds_server.specs.Around.{Around}
 use Rattle.kds_cli_runs.specs.Completed.{Completed}

@@ -5,8 +5,8 @@ use Rattle.std.proofs.KnownBytes.{Appends-nil}
 use Rattle.kds_defs.specs.Histories.{journal}
 use Rattle.kcl_audit.specs.Audited.{TellsAudit}
 use Rattle.kds_ends.specs.declared.status.Status.TheVariants.{Done, Memory, Unsound}
-use Rattle.kds_cli_tasks.specs.declared.task.Task.{Task}
-use Rattle.kds_cli_tasks.specs.declared.task.Task.TheVariants.{Replay, Answer, Audit, Serve, Drill}
+use Rattle.kds_cli_words.specs.declared.task.Task.{Task}
+use Rattle.kds_cli_words.specs.declared.task.Task.TheVariants.{Replay, Answer, Audit, Serve, Drill}
 use Rattle.kds_server.specs.Texts.{Tells}
 use Rattle.kds_server.proofs.Turning.{gives_none}
 use Rattle.kds_session.specs.Text.{commands}

@@ -5,8 +5,8 @@ use Rattle.kcl_audit.specs.Audited.{AuditsAs}
 use Rattle.kds_ends.specs.declared.status.Status.{Status}
 use Rattle.kds_ends.specs.declared.status.Status.TheVariants.{Done, BadLine, Memory, TooLong}
 use Rattle.kds_server.specs.Texts.{EndsAs}
-use Rattle.kds_cli_tasks.specs.declared.task.Task.{Task}
-use Rattle.kds_cli_tasks.specs.declared.task.Task.TheVariants.{Replay, Answer, Audit, Serve, Drill}
+use Rattle.kds_cli_words.specs.declared.task.Task.{Task}
+use Rattle.kds_cli_words.specs.declared.task.Task.TheVariants.{Replay, Answer, Audit, Serve, Drill}
 use Rattle.kcl_sim.specs.Schedule.{Ending, bad_line, ending, too_long, whole}
 
 -- how the run of a schedule ends whose bytes end so: with Done where all lines are lines of a schedule

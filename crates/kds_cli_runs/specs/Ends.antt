@@ -9,8 +9,8 @@ use Rattle.kds_ends.specs.Causes.{AppendsPart}
 use Rattle.kds_server.specs.Around.{Around, around}
 use Rattle.kds_server.specs.Texts.{IsAnswerStatus}
 use Rattle.kds_server.specs.Serving.{Served}
-use Rattle.kds_cli_tasks.specs.declared.task.Task.{Task}
-use Rattle.kds_cli_tasks.specs.declared.task.Task.TheVariants.{Replay, Answer, Audit, Serve, Drill}
+use Rattle.kds_cli_words.specs.declared.task.Task.{Task}
+use Rattle.kds_cli_words.specs.declared.task.Task.TheVariants.{Replay, Answer, Audit, Serve, Drill}
 use Rattle.kcl_script.specs.declared.line.Line.{Line}
 use Rattle.kcl_sim.specs.Output.{fresh, outputs}
 use Rattle.kcl_drill_run.specs.Told.{DrillTells}

@@ -4,10 +4,10 @@ use Rattle.std.specs.declared.alloc.Global.{Global}
 use Rattle.std.specs.declared.option.Option.{Option}
 use Rattle.std.specs.Io.KnownBytes.{Appends}
 use Rattle.kds_ends.specs.declared.status.Status.{Status}
-use Rattle.kds_cli_tasks.specs.declared.task.Task.{Task}
+use Rattle.kds_cli_words.specs.declared.task.Task.{Task}
 use Rattle.kds_ends.specs.Causes.{Rose}
 use Rattle.kds_ends.specs.Status.{code_of}
-use Rattle.kds_cli_tasks.specs.Words.{task_of, texts_of}
+use Rattle.kds_cli_words.specs.Words.{task_of, texts_of}
 use Rattle.kds_server.specs.Around.{Around}
 use Rattle.kds_cli_runs.specs.Completed.{Completed}
 use Rattle.kds_cli_runs.specs.Ends.{Performed, TaskEnds, reads_input, serves_door}

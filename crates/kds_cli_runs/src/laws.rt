@@ -5,7 +5,7 @@ ghost use Rattle.kds_defs.specs.declared.command.Turn.{Turn};
 ghost use Rattle.kds_defs.specs.Histories.{clock as clock_of, journal as journal_of};
 ghost use Rattle.kds_defs.specs.Lawful.{IsHistory};
 ghost use Rattle.kds_defs.specs.Safe.{IsSafe};
-ghost use Rattle.kds_cli_tasks.specs.declared.task.Task.{Task};
+ghost use Rattle.kds_cli_words.specs.declared.task.Task.{Task};
 ghost use Rattle.kcl_sim.specs.Schedule.{history, ran};
 ghost use Rattle.kcl_sim.specs.Serving.{AreAllServed};
 ghost use Rattle.kds_cli_runs.specs.Answered.{AreHandedOn};

@@ -3,8 +3,8 @@ ghost use Rattle.std.specs.Prelude.{◌≡◌, ◌⊎◌, Bool, true, false, Non
 ghost use Rattle.kds_defs.specs.Histories.{clock as clock_of, journal as journal_of};
 ghost use Rattle.kds_defs.specs.Safe.{IsSafe};
 ghost use Rattle.kds_ends.specs.Causes.{Rose};
-ghost use Rattle.kds_cli_tasks.specs.Words.{task_of, texts_of};
-ghost use Rattle.kds_cli_tasks.specs.declared.task.Task.TheVariants.{Replay};
+ghost use Rattle.kds_cli_words.specs.Words.{task_of, texts_of};
+ghost use Rattle.kds_cli_words.specs.declared.task.Task.TheVariants.{Replay};
 ghost use Rattle.kcl_sim.specs.Schedule.{history, ran};
 ghost use Rattle.kcl_sim.specs.Serving.{AreAllServed};
 ghost use Rattle.kds_cli_runs.specs.Answered.{AreHandedOn};

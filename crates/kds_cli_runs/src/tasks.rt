@@ -1,7 +1,7 @@
 //! What each task runs.
 ghost use Rattle.std.specs.Prelude.{◌≡◌, false};
 ghost use Rattle.kds_ends.specs.Causes.{Rose};
-ghost use Rattle.kds_cli_tasks.specs.Words.{IsWithin};
+ghost use Rattle.kds_cli_words.specs.Words.{IsWithin};
 ghost use Rattle.kds_server.specs.Around.{around};
 ghost use Rattle.kds_cli_runs.specs.Completed.{Completed};
 ghost use Rattle.kds_cli_runs.specs.Ends.{Performed, reads_input, serves_door, task_ends};
@@ -9,7 +9,7 @@ ghost use Rattle.kds_cli_runs.specs.Ends.{Performed, reads_input, serves_door, t
 use crate::runs::{run_answer, run_replay, run_serve};
 use kcl_audit::run_audit;
 use kcl_drill_run::run_drill;
-use kds_cli_tasks::Task;
+use kds_cli_words::Task;
 use kds_ends::{Clock, Door, Sink, Source, Status};
 use std::alloc::Global;
 use std::sync::Wait;
@@ -46,7 +46,7 @@ where
     ensures write { result ≡ Status.Write → Rose (K.faults out.old) (K.faults out.new) }
     ensures door { result ≡ Status.Door → Rose (D.faults door.old) (D.faults door.new) }
 {
-    kds_cli_tasks::limits();
+    kds_cli_words::limits();
     match task {
         Task::Replay { journal } => run_replay(alloc, input, out, journal),
         Task::Answer => run_answer(alloc, input, out, &mut clock),

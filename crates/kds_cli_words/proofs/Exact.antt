@@ -8,9 +8,9 @@ use Rattle.clap.specs.Words.{Kinds, Text, fault_of, is_simple, is_simple_and_fre
 use Rattle.clap.proofs.OnLiterals.{clap_on_literals}
 use Rattle.kds_base.specs.NumberText.{number_of}
 use Rattle.kds_cli_words.specs.Apps.{kds_app}
-use Rattle.kds_cli_tasks.specs.Words.{drill_of, members_of, port_of, serve_of, task_of}
-use Rattle.kds_cli_tasks.specs.declared.task.Task.{Task}
-use Rattle.kds_cli_words.specs.Words.{told}
+use Rattle.kds_cli_words.specs.Words.{drill_of, members_of, port_of, serve_of, task_of}
+use Rattle.kds_cli_words.specs.declared.task.Task.{Task}
+use Rattle.kds_cli_words.specs.Parsed.{told}
 use Rattle.kds_cli_words.proofs.Seen.{IsValue, Seen, flag, value, text}
 
 -- the faults are those of the words

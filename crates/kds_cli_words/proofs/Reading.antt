@@ -17,9 +17,9 @@ use Rattle.clap.specs.declared.parser.matches.ArgMatches.TheViews.{out-ArgMatche
 use Rattle.clap.specs.declared.parser.matches.Found.{Found}
 use Rattle.clap.proofs.WalkLemmas.{first_value-rows}
 use Rattle.kds_cli_words.specs.Apps.{kds_app}
-use Rattle.kds_cli_tasks.specs.Words.{task_of, texts_of}
-use Rattle.kds_cli_tasks.specs.declared.task.Task.{Task}
-use Rattle.kds_cli_words.specs.Words.{is_word, told, told_with}
+use Rattle.kds_cli_words.specs.Words.{task_of, texts_of}
+use Rattle.kds_cli_words.specs.declared.task.Task.{Task}
+use Rattle.kds_cli_words.specs.Parsed.{is_word, told, told_with}
 use Rattle.kds_cli_words.proofs.Exact.{Exact, exact, read}
 use Rattle.kds_cli_words.proofs.Seen.{seen}
 

@@ -8,8 +8,8 @@ use Rattle.std.proofs.lemmas.Slice.Eq.{bytes_eq-Decides}
 use Rattle.clap.specs.Lexer.{long_of, long_of_rest, short_of, short_of_rest, strip_byte}
 use Rattle.clap.specs.Words.{Text}
 use Rattle.kds_base.proofs.Facts.{both_left, both_right}
-use Rattle.kds_cli_tasks.specs.Words.{texts_of}
-use Rattle.kds_cli_words.specs.Words.{has_hyphen, is_word}
+use Rattle.kds_cli_words.specs.Words.{texts_of}
+use Rattle.kds_cli_words.specs.Parsed.{has_hyphen, is_word}
 
 -- the word is no flag: it has no leading hyphen
 pub record IsValue (w : Text) : Type 0 where

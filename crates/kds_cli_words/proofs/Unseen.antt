@@ -10,10 +10,10 @@ use Rattle.std.proofs.lemmas.Bool.{and_cases, and_right}
 use Rattle.clap.specs.Words.{Text}
 use Rattle.kds_base.specs.NumberText.{number_of}
 use Rattle.kds_base.proofs.Facts.{apart, equal_unless, neither_right}
-use Rattle.kds_cli_tasks.specs.Words.{drill_of, serve_of, task_of, texts_of}
-use Rattle.kds_cli_tasks.specs.declared.task.Task.{Task}
-use Rattle.kds_cli_tasks.specs.declared.task.Task.TheVariants.{Replay}
-use Rattle.kds_cli_words.specs.Words.{is_word}
+use Rattle.kds_cli_words.specs.Words.{drill_of, serve_of, task_of, texts_of}
+use Rattle.kds_cli_words.specs.declared.task.Task.{Task}
+use Rattle.kds_cli_words.specs.declared.task.Task.TheVariants.{Replay}
+use Rattle.kds_cli_words.specs.Parsed.{is_word}
 use Rattle.kds_cli_words.proofs.Exact.{Differ, HasNoNumber, differ, drills_nothing, nameless, serves_nothing}
 
 -- ---- such a word is no name, and no number

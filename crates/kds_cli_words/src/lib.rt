@@ -1,7 +1,13 @@
-//! The words of the command line, as `clap` reads them.
+//! The words of the command line: the tasks that they may ask for, and the one that `clap` reads of them.
 #![tactic(auto)]
 
 mod command;
+mod numbers;
+mod ranges;
+mod task;
 mod words;
 
+pub use numbers::{drill_task, serve_task};
+pub use ranges::{MOST_MEMBERS, MOST_PORT, MOST_RECORDS, limits};
+pub use task::Task;
 pub use words::find_task;

@@ -2,14 +2,15 @@
 ghost use Rattle.std.specs.Prelude.{◌≡◌, ◌≤◌, true, IfOk, IfSome, length, string_bytes};
 ghost use Rattle.std.specs.List.{list_all};
 ghost use Rattle.clap.specs.Words.{first_value, found_of, subcommand_rows_of};
-ghost use Rattle.kds_cli_tasks.specs.Words.{IsWithin, task_of, texts_of};
-ghost use Rattle.kds_cli_words.specs.Words.{has_hyphen, is_word, told, told_with};
+ghost use Rattle.kds_cli_words.specs.Words.{IsWithin, task_of, texts_of};
+ghost use Rattle.kds_cli_words.specs.Parsed.{has_hyphen, is_word, told, told_with};
 
 use crate::command::kds_command;
+use crate::numbers::{drill_task, serve_task};
+use crate::task::Task;
 use clap::ArgMatches;
 use clap::error::ErrorKind;
 use kds_base::Memory;
-use kds_cli_tasks::{Task, drill_task, serve_task};
 use std::alloc::Global;
 
 fn has_leading_hyphen(word: &str) -> bool

@@ -1,6 +1,5 @@
 //! The words of the command line: which of them ask for which task.
-use kds_cli_tasks::Task;
-use kds_cli_words::find_task;
+use kds_cli_words::{Task, find_task};
 use std::alloc::Global;
 use std::test::Fail;
 

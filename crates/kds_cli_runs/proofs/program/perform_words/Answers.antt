@@ -1,6 +1,6 @@
 use Rattle.std.proofs.Common.{◌≡◌, Some, refl, sym, inl, inr, ◌∙◌}
 use Rattle.kds_ends.specs.declared.status.Status.TheVariants.{Memory}
-use Rattle.kds_cli_tasks.specs.Words.{task_of, texts_of}
+use Rattle.kds_cli_words.specs.Words.{task_of, texts_of}
 use Rattle.kds_server.specs.Around.{around}
 use Rattle.kds_cli_runs.specs.Completed.{Completed}
 use Rattle.kds_cli_runs.specs.Ends.{Performed}

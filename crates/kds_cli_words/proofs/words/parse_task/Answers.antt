@@ -2,8 +2,8 @@ use Rattle.std.proofs.Common.{rules, ◌≡◌, [], sym, ap, ap₂, ◌∙◌}
 use Rattle.std.specs.Prelude.{map, string_bytes}
 use Rattle.clap.specs.Words.{fault_of, is_simple, is_simple_and_free, subcommand_of}
 use Rattle.kds_cli_words.specs.Apps.{kds_app}
-use Rattle.kds_cli_tasks.specs.Words.{texts_of}
-use Rattle.kds_cli_words.specs.Words.{told}
+use Rattle.kds_cli_words.specs.Words.{texts_of}
+use Rattle.kds_cli_words.specs.Parsed.{told}
 use Rattle.kds_cli_words.proofs.Exact.{free, simple}
 use Rattle.kds_cli_words.proofs.Reading.{read_words, refused}
 use Rattle.kds_cli_words.proofs.words.parse_task.Goals as goal

@@ -1,6 +1,6 @@
 //! The ranges of a task's numbers.
 ghost use Rattle.std.specs.Prelude.{◌≡◌};
-ghost use Rattle.kds_cli_tasks.specs.declared.ranges.TheConstants.{MOST_MEMBERS, MOST_PORT, MOST_RECORDS};
+ghost use Rattle.kds_cli_words.specs.declared.ranges.TheConstants.{MOST_MEMBERS, MOST_PORT, MOST_RECORDS};
 
 /// The greatest port (RFC 9293, section 3.1).
 pub const MOST_PORT: u64 = 65_535;

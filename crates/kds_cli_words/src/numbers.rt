@@ -1,6 +1,6 @@
 //! Tasks by the texts of their numbers.
 ghost use Rattle.std.specs.Prelude.{◌≡◌, ◌≤◌, IfSome};
-ghost use Rattle.kds_cli_tasks.specs.Words.{IsWithin, drill_of, number_in, serve_of};
+ghost use Rattle.kds_cli_words.specs.Words.{IsWithin, drill_of, number_in, serve_of};
 
 use crate::ranges::{MOST_MEMBERS, MOST_PORT, MOST_RECORDS};
 use crate::task::Task;

@@ -1,5 +1,5 @@
 use Rattle.std.proofs.Common.{rules}
-use Rattle.kds_cli_tasks.proofs.numbers.drill_task.Goals as goal
+use Rattle.kds_cli_words.proofs.numbers.serve_task.Goals as goal
 
 pub returns-clause-task : goal.returns-clause-task
 returns-clause-task c = search rules

@@ -1,0 +1,49 @@
+-- What `clap` read of the words, and the words that it sees.
+use Rattle.std.specs.Prelude.{ℕ, Bool, false, ◌==◌, ◌||◌, not, List, slice_get, codes, Option, Some, None, if◌then◌else◌}
+use Rattle.std.specs.Str.{bytes_eq}
+use Rattle.clap.specs.Words.{Row, Text, first_of}
+use Rattle.kds_cli_words.specs.Words.{drill_of, serve_of}
+use Rattle.kds_cli_words.specs.declared.task.Task.{Task}
+use Rattle.kds_cli_words.specs.declared.task.Task.TheVariants.{Replay, Answer, Audit}
+
+-- ---- what `clap` read
+
+abbrev pub is_told : Option Text → Bool
+is_told None = false
+is_told (Some text) = bytes_eq text (codes "true")
+
+abbrev pub serve_told : Option Text → Option Text → Option Task
+serve_told (Some port) (Some members) = serve_of port members
+serve_told port members = None
+
+abbrev pub drill_told : Option Text → Option Text → Option Text → Option Task
+drill_told (Some number) (Some workers) (Some records) = drill_of number workers records
+drill_told number workers records = None
+
+-- the task of a subcommand's name and its values
+abbrev pub told_with : Text → (Text → Option Text) → Option Task
+told_with name get =
+    if bytes_eq name (codes "replay") then Some (Replay (is_told (get (codes "journal"))))
+    else if bytes_eq name (codes "answer") then Some Answer
+    else if bytes_eq name (codes "audit") then Some Audit
+    else if bytes_eq name (codes "serve") then serve_told (get (codes "port")) (get (codes "members"))
+    else if bytes_eq name (codes "drill") then drill_told (get (codes "number")) (get (codes "workers")) (get (codes "records"))
+    else None
+
+-- the task of what a parse met
+abbrev pub told : Option (Text × List Row) → Option Task
+told None = None
+told (Some met) = told_with met.0 (λ id. first_of id met.1)
+
+-- ---- words that `clap` sees
+
+abbrev pub is_hyphen : Option ℕ → Bool
+is_hyphen None = false
+is_hyphen (Some d) = d == 45
+
+abbrev pub has_hyphen : Text → Bool
+has_hyphen w = is_hyphen (slice_get w 0)
+
+-- no leading hyphen, or the one flag
+abbrev pub is_word : Text → Bool
+is_word w = bytes_eq w (codes "--journal") || not (has_hyphen w)
