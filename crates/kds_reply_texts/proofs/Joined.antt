@@ -4,15 +4,13 @@ use Rattle.std.specs.Prelude.{codes, decimal, Some, None}
 use Rattle.std.proofs.lemmas.List.{append_assoc}
 use Rattle.json.specs.Token.{Token, begin_object, end_object, key, null, number, string}
 use Rattle.kds_defs.specs.declared.reply.Iter.{Iter}
-use Rattle.kds_defs.specs.declared.reply.Outcome.{Outcome}
-use Rattle.kds_defs.specs.declared.reply.Place.{Place}
 use Rattle.kds_defs.specs.declared.reply.Shard.{Shard}
 use Rattle.kds_defs.specs.declared.reply.Stored.{Stored}
 use Rattle.kds_token.specs.Ids.{shard_id}
 use Rattle.kds_token.specs.Tokens.{iter_token}
 use Rattle.kds_base.specs.Span.{Span}
 use Rattle.kds_reply_texts.specs.Errors.{error_data}
-use Rattle.kds_reply_texts.specs.Bodies.{id_data, list_data, place_data, failed_data, outcome_data, failed_count, outcomes_data, iterator_data}
+use Rattle.kds_reply_texts.specs.Bodies.{id_data, list_data, iterator_data}
 use Rattle.kds_reply_texts.specs.Records.{record_data, records_data}
 use Rattle.kds_reply_texts.specs.Children.{range_data, parents_of, child_data}
 use Rattle.kds_reply_texts.specs.Writing.{tokens_of}

@@ -3,3 +3,4 @@ pub mod TokenTexts
 pub mod PlainTexts
 pub mod RecordTexts
 pub mod PlaceTexts
+pub mod RoomTexts

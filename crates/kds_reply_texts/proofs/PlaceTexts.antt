@@ -1,5 +1,5 @@
 -- The texts of where records were put, in pieces.
-use Rattle.std.proofs.Common.{◌≡◌, ℕ, List, [], ◌∷◌, ◌++◌, decimal, codes, append_assoc, ap, ◌∙◌}
+use Rattle.std.proofs.Common.{◌≡◌, ℕ, List, ◌++◌, decimal, codes, append_assoc, ap, ◌∙◌}
 use Rattle.json.specs.Print.{escape, escape_byte}
 use Rattle.serde_json.specs.Data.{Data, unsigned, number, object, string, no_members, member}
 use Rattle.serde_json.specs.Written.{compact_text}

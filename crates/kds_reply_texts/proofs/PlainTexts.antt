@@ -1,15 +1,21 @@
 -- Texts that have no byte to escape.
-use Rattle.std.proofs.Common.{◌≡◌, ℕ, zero, suc, ◌+◌, ◌*◌, ◌/◌, ◌%◌, ◌^◌, ◌<◌, ◌≤◌, true, ◌==◌, ◌||◌, nat_lt, List, [], ◌∷◌, ◌++◌, length, refl, decimal, arith, slice_index, get_or, replicate}
-use Rattle.std.proofs.lemmas.Bool.{or_parts, not-true, eqb-false, ltb-false, ne_eqb, le-ltb}
+use Rattle.std.proofs.Common.{◌≡◌, ℕ, zero, suc, ◌+◌, ◌*◌, ◌/◌, ◌%◌, ◌^◌, ◌<◌, ◌≤◌, Bool, true, false, ◌==◌, ◌||◌, nat_lt, List, [], ◌∷◌, ◌++◌, length, refl, ap, ◌∙◌, decimal, arith, slice_index, get_or, replicate, IsUtf8, inl, inr}
+use Rattle.std.proofs.lemmas.Bool.{cases_lt, or_parts, not-true, eqb-false, ltb-false, ne_eqb, le-ltb}
 use Rattle.std.proofs.lemmas.Fmt.{decimal_is_IsNumeral}
 use Rattle.std.proofs.lemmas.Str.Parse.{digit_at}
 use Rattle.std.proofs.lemmas.List.Sums.{AllPass-from_list_all}
-use Rattle.std.specs.Prelude.{⊤}
+use Rattle.std.proofs.lemmas.List.{get_or_past}
+use Rattle.std.proofs.lemmas.Str.{utf8_lossy-IsUtf8, IsUtf8-from_ascii}
+use Rattle.std.specs.Prelude.{⊤, IsAscii}
+use Rattle.std.specs.Bool.{OnTrue}
+use Rattle.std.specs.Str.Lossy.{utf8_lossy}
 use Rattle.base64.specs.Engines.{standard}
 use Rattle.base64.specs.GeneralPurpose.{encode_of}
 use Rattle.base64.specs.Rfc4648.{encode_symbols, padding_len}
 use Rattle.json.specs.Run.{is_plain}
 use Rattle.json.specs.Print.{escape, escape_byte}
+use Rattle.json.specs.Written.{PlainBetween}
+use Rattle.json.proofs.Printed.Plain.{escape_on_plain}
 use Rattle.json.proofs.Printed.Strings.{escape_byte_plain}
 
 abbrev IsPlain : List ℕ → Type 0
@@ -72,3 +78,25 @@ digits_plain (x ∷ xs) h =
 
 pub escape-decimal : (n : ℕ) → n < 2 ^ 64 → escape (decimal n) ≡ decimal n
 escape-decimal n small = escape_plain (decimal n) (digits_plain (decimal n) (λ i inside. digit_at (decimal n) i (decimal_is_IsNumeral n small).0.1 inside))
+
+-- ---- texts that stand between quotes as they are, where n bytes were looked at, which are all
+
+below_128 : (d : List ℕ) (n : ℕ) → length d ≤ n → ((k : ℕ) → k < n → get_or d k 0 < 128) → IsAscii d
+below_128 d n all low i = elim (cases_lt i (length d)) [ inl inside ↦ low i (omega arith) | inr past ↦ let none = get_or_past d i 0 past in omega arith ]
+
+escape_seen : (plain : Bool) (d : List ℕ) (n : ℕ) → plain ≡ true → length d ≤ n → OnTrue plain (PlainBetween d 0 n) → escape d ≡ d
+escape_seen true d n is all seen = escape_on_plain true d (λ k low high. seen k low (omega arith))
+escape_seen false d n is all seen = absurd (cc)
+
+stands : (d : List ℕ) → IsUtf8 d → escape d ≡ d → escape (utf8_lossy d) ≡ d
+stands d text plain = ap escape (utf8_lossy-IsUtf8 d text) ∙ plain
+
+pub plain_ascii : (plain ascii : Bool) (d : List ℕ) (n : ℕ) → plain ≡ true → length d ≤ n → OnTrue plain (PlainBetween d 0 n)
+    → OnTrue ascii ((k : ℕ) → k < n → get_or d k 0 < 128) → OnTrue ascii (escape (utf8_lossy d) ≡ d)
+plain_ascii plain true d n is all seen low = stands d (IsUtf8-from_ascii d (below_128 d n all low)) (escape_seen plain d n is all seen)
+plain_ascii plain false d n is all seen low = tt
+
+pub plain_text : (plain text : Bool) (d : List ℕ) (n : ℕ) → plain ≡ true → length d ≤ n → OnTrue plain (PlainBetween d 0 n)
+    → OnTrue text (IsUtf8 d) → OnTrue text (escape (utf8_lossy d) ≡ d)
+plain_text plain true d n is all seen text = stands d text (escape_seen plain d n is all seen)
+plain_text plain false d n is all seen text = tt

@@ -94,3 +94,8 @@ next_item f xs i x later out parted more all inside is comma text whole =
     ap (λ (s : List ℕ). s ++ rest) (text ∙ ap (λ (s : List ℕ). s ++ compact_text (f x)) comma)
     ∙ append_assoc (out ++ comma_if later) (compact_text (f x)) rest ∙ append_assoc out (comma_if later) (compact_text (f x) ++ rest) in
     joined ∙ ap (λ ys. out ++ items_text later (items_of (map f ys))) (sym here) ∙ whole
+
+-- the end of an array, where no item is left
+pub last_item : {A : Type 0} (f : A → Data) (xs : List A) (i : ℕ) (later : Bool) (out all : List ℕ)
+    → length xs ≤ i → out ++ items_text later (items_of (map f (drop i xs))) ≡ all → out ++ 93 ∷ [] ≡ all
+last_item f xs i later out all past whole = ap (λ ys. out ++ items_text later (items_of (map f ys))) (sym (drop_all i xs past)) ∙ whole

@@ -1,5 +1,5 @@
 //! Records as they are read, written straight as text.
-ghost use Rattle.std.specs.Prelude.{◌≡◌, ◌++◌, ◌∷◌, [], false, Some, None, List, IfOk, OnOk};
+ghost use Rattle.std.specs.Prelude.{◌≡◌, ◌++◌, ◌∷◌, [], false, Some, None, List, IfOk};
 ghost use Rattle.json.specs.Print.{ends_value};
 ghost use Rattle.json.specs.Token.{end_object};
 ghost use Rattle.serde_json.specs.Data.{Data};
@@ -10,8 +10,8 @@ ghost use Rattle.kds_reply_texts.specs.Records.{record_data, records_data};
 ghost use Rattle.kds_reply_texts.specs.Writing.{tokens_of};
 
 use crate::children::put_children;
-use crate::moments::seconds;
-use crate::pieces::{put, put_base64, put_comma, put_decimal, put_escaped, put_seq};
+use crate::pieces::put;
+use crate::records::{put_records, record_room};
 use crate::tokens::{ITERATOR_BYTES, text_of};
 use crate::writing::{begin_object, new_writer, put_name, put_null, put_number, put_text};
 use json::Writer;
@@ -20,54 +20,17 @@ use kds_defs::{Iter, Shard, Stored};
 use kds_token::write_iter;
 use std::alloc::Global;
 
-/// What a record takes beside its key and payload.
-const RECORD_BYTES: usize = 128;
-
 /// The most bytes of a child of a shard.
 const CHILD_BYTES: usize = 320;
 
-/// The bytes of the text of records, where no byte of a key is escaped: base64 has four characters for three bytes.
+/// The most bytes of the text of records, where each key stands in it as it is.
 fn room_of(batch: &[Stored]) -> usize {
     let mut room = ITERATOR_BYTES;
     for stored in batch {
-        let payload = (stored.payload.as_slice().len() / 3).saturating_mul(4);
-        let record = payload
-            .saturating_add(stored.key.as_slice().len())
-            .saturating_add(RECORD_BYTES);
-        room = room.saturating_add(record);
+        let (payload, key) = (stored.payload.as_slice(), stored.key.as_slice());
+        room = room.saturating_add(record_room(payload, key));
     }
     room
-}
-
-/// Adds a record (Kinesis API Reference, Record).
-fn put_record(out: &mut Vec<u8>, alloc: Global, stored: &Stored) -> Result<(), Memory>
-    ensures { OnOk result (out.new.items ≡ out.old.items ++ compact_text (record_data stored.now)) }
-{
-    put(out, b"{\"ApproximateArrivalTimestamp\":")?;
-    put_decimal(out, seconds(stored.arrival))?;
-    put(out, b",\"Data\":\"")?;
-    put_base64(out, stored.payload.as_slice())?;
-    put(out, b"\",\"PartitionKey\":\"")?;
-    put_escaped(out, alloc, stored.key.as_slice())?;
-    put(out, b"\",\"SequenceNumber\":\"")?;
-    put_seq(out, stored.seq)?;
-    put(out, b"\"}")?;
-    Ok(())
-}
-
-/// Adds records as an array.
-fn put_records(out: &mut Vec<u8>, alloc: Global, batch: &[Stored]) -> Result<(), Memory>
-    ensures { OnOk result (out.new.items ≡ out.old.items ++ compact_text (list_data record_data batch.now)) }
-{
-    let mut later = false;
-    put(out, b"[")?;
-    for stored in batch {
-        put_comma(out, later)?;
-        put_record(out, alloc, stored)?;
-        later = true;
-    }
-    put(out, b"]")?;
-    Ok(())
 }
 
 /// The text of an object whose last member's name was written: its value is to be records.

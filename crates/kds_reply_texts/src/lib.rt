@@ -9,7 +9,9 @@ mod errors;
 mod moments;
 mod pieces;
 mod places;
+mod records;
 mod refusals;
+mod rooms;
 mod tokens;
 mod writing;
 

@@ -63,8 +63,7 @@ pub fn put_seq(out: &mut Vec<u8>, seq: Seq) -> Result<(), Memory>
 }
 
 /// Makes so many bytes, to be written over. A block is copied at a time, where `resize` stores byte by byte.
-#[inline(always)]
-fn put_room(out: &mut Vec<u8>, size: usize) -> Result<(), Memory>
+pub fn put_room(out: &mut Vec<u8>, size: usize) -> Result<(), Memory>
     ensures front { take (vec_len out.old) out.new.items ≡ out.old.items }
     ensures len { OnOk result (vec_len out.new ≡ vec_len out.old + size) }
 {
@@ -93,42 +92,49 @@ pub fn put_base64(out: &mut Vec<u8>, bytes: &[u8]) -> Result<(), Memory>
     }
 }
 
-/// Whether no byte of a text has to be escaped (RFC 8259, section 7).
-fn is_plain(text: &[u8]) -> bool
-    ensures { OnTrue result (escape text.now ≡ text.now) }
-{
-    let mut plain = true;
-    for &byte in text {
-        plain = plain & (byte >= 0x20) & (byte != b'"') & (byte != b'\\');
-    }
-    plain
-}
-
-/// Whether bytes are text. Most are ASCII, which is soon seen.
+/// Whether bytes that aren't all ASCII are text.
 fn is_text(bytes: &[u8]) -> bool
     ensures { OnTrue result (IsUtf8 bytes.now) }
 {
-    if bytes.is_ascii() {
-        return true;
-    }
     match str::from_utf8(bytes) {
         Ok(_) => true,
         Err(_) => false,
     }
 }
 
-/// Adds text as it stands between the quotes of a string. Bytes that aren't text are replaced.
-pub fn put_escaped(out: &mut Vec<u8>, alloc: Global, bytes: &[u8]) -> Result<(), Memory>
+/// Whether bytes stand between the quotes of a string as they are: none has to be escaped (RFC 8259, section 7), and they
+/// are text, so that none is replaced. Most are ASCII, which is seen in the same pass.
+pub fn stands_as_it_is(bytes: &[u8]) -> bool
+    ensures { OnTrue result (escape (utf8_lossy bytes.now) ≡ bytes.now) }
+{
+    let mut plain = true;
+    let mut ascii = true;
+    for &byte in bytes {
+        plain = plain & (byte >= 0x20) & (byte != b'"') & (byte != b'\\');
+        ascii = ascii & (byte < 0x80);
+    }
+    plain && (ascii || is_text(bytes))
+}
+
+/// Adds text as it stands between the quotes of a string, where that mostly isn't the text itself.
+pub fn put_replaced(out: &mut Vec<u8>, alloc: Global, bytes: &[u8]) -> Result<(), Memory>
     ensures { OnOk result (out.new.items ≡ out.old.items ++ escape (utf8_lossy bytes.now)) }
 {
-    if is_plain(bytes) && is_text(bytes) {
-        put(out, bytes)?;
-        return Ok(());
-    }
     let string = string_of(alloc, bytes)?;
     let string = string.as_slice();
     put(out, &string[1..string.len() - 1])?;
     Ok(())
+}
+
+/// Adds text as it stands between the quotes of a string. Bytes that aren't text are replaced.
+fn put_escaped(out: &mut Vec<u8>, alloc: Global, bytes: &[u8]) -> Result<(), Memory>
+    ensures { OnOk result (out.new.items ≡ out.old.items ++ escape (utf8_lossy bytes.now)) }
+{
+    if stands_as_it_is(bytes) {
+        put(out, bytes)
+    } else {
+        put_replaced(out, alloc, bytes)
+    }
 }
 
 /// Adds text as it stands between the quotes of a string.

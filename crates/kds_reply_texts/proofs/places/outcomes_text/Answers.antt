@@ -1,4 +1,4 @@
-use Rattle.std.proofs.Common.{[], ◌++◌, ◌≡◌, List, ℕ, ap, ◌∙◌, rules}
+use Rattle.std.proofs.Common.{◌≡◌, ◌∙◌, rules}
 use Rattle.kds_reply_texts.specs.Bodies.{failed_count}
 use Rattle.kds_reply_texts.proofs.Joined.{added, begun}
 use Rattle.kds_reply_texts.proofs.PlaceTexts.{outcomes_pieces}

@@ -1,7 +1,7 @@
 use Rattle.std.proofs.Common.{◌≡◌, ◌++◌, ◌/◌, List, ℕ, ap, ◌∙◌, rules}
 use Rattle.kds_reply_texts.proofs.Joined.{more}
 use Rattle.kds_reply_texts.proofs.RecordTexts.{record_pieces}
-use Rattle.kds_reply_texts.proofs.batches.put_record.Goals as goal
+use Rattle.kds_reply_texts.proofs.records.put_record.Goals as goal
 
 pub returns : goal.returns
 returns c =
@@ -14,8 +14,8 @@ returns c =
     let three = more t c.put_decimal.new.out.items c.put-2.new.out.items _ _ two c.in_ok-put-2.ensures in
     let four = more t c.put-2.new.out.items c.put_base64.new.out.items _ _ three c.in_ok-put_base64.ensures in
     let five = more t c.put_base64.new.out.items c.put-3.new.out.items _ _ four c.in_ok-put-3.ensures in
-    let six = more t c.put-3.new.out.items c.put_escaped.new.out.items _ _ five c.in_ok-put_escaped.ensures in
-    let seven = more t c.put_escaped.new.out.items c.put-4.new.out.items _ _ six c.in_ok-put-4.ensures in
+    let six = more t c.put-3.new.out.items c.put_replaced.new.out.items _ _ five c.in_ok-put_replaced.ensures in
+    let seven = more t c.put_replaced.new.out.items c.put-4.new.out.items _ _ six c.in_ok-put-4.ensures in
     let eight = more t c.put-4.new.out.items c.put_seq.new.out.items _ _ seven c.in_ok-put_seq.ensures in
     let nine = more t c.put_seq.new.out.items c.put-5.new.out.items _ _ eight c.in_ok-put-5.ensures in
     nine ∙ ap (λ (text : List ℕ). t ++ text) (record_pieces r c.seconds.result c.as_slice.result.now c.as_slice-2.result.now arrival payload name)
