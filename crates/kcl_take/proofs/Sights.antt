@@ -5,6 +5,7 @@ use Rattle.std.proofs.lemmas.List.{set_split}
 use Rattle.std.proofs.Math.Seq.{drop-cons}
 use Rattle.std.proofs.lemmas.Bool.Decides.{nat_tests}
 use Rattle.kds_base.specs.declared.lease_key.ShardRef.{ShardRef}
+use Rattle.kds_base.proofs.Facts.{apart}
 use Rattle.kcl_defs.specs.declared.plans.Seen.{Seen}
 use Rattle.kds_defs.specs.declared.reply.Row.{Row}
 use Rattle.kds_defs.specs.Keys.{same_key}
@@ -33,10 +34,6 @@ not_both s r k h g = test (same_key r k) refl
   where
     equal_true : (a b : ℕ) → ((a == a) && (b == b)) ≡ true
     equal_true a b = grind (arith, nat_tests)
-
-    apart : (b : Bool) → b ≡ true → b ≡ false → ⊥
-    apart true e f = absurd cc
-    apart false e f = absurd cc
 
     test : (b : Bool) → same_key r k ≡ b → b ≡ false
     test false e = refl

@@ -4,6 +4,7 @@ use Rattle.std.specs.Prelude.{◌==◌, ◌&&◌, ◌||◌, cond, is_some, not}
 use Rattle.std.specs.List.{AllByRecursion, find, list_any}
 use Rattle.std.specs.Option.{option_map}
 use Rattle.std.proofs.lemmas.Bool.Decides.{nat_tests}
+use Rattle.kds_base.proofs.Facts.{apart}
 use Rattle.kds_defs.specs.declared.command.Command.{Command}
 use Rattle.kds_defs.specs.declared.command.Command.TheVariants as command
 use Rattle.kcl_defs.specs.Workers.{is_due_known, is_idle}
@@ -308,10 +309,6 @@ none_left stands w old is now past none busy left st =
     let s : WorkerState = worker_after w.made past in
     apart (is_idle_in old)
     (sym (ap is_idle_in is) ∙ idle_so stands w s w.made.settings.failover now st0.shows (ap (λ v. due_in v.consumers) is ∙ none) (left s st0.shows.consumers st0.shows.held)) busy
-  where
-    apart : (b : Bool) → b ≡ true → b ≡ false → ⊥
-    apart true e f = absurd cc
-    apart false e f = absurd cc
 
 -- ---- what callers see of a worker, beside its record
 

@@ -8,6 +8,7 @@ use Rattle.std.proofs.lemmas.Bool.Decides.{nat_tests}
 use Rattle.std.proofs.lemmas.List.{append_assoc, length-append, length-replicate, length-set}
 use Rattle.std.proofs.lemmas.Option.{slice_get_within}
 use Rattle.kds_base.specs.Span.{Span}
+use Rattle.kds_base.proofs.Facts.{apart}
 use Rattle.kds_defs.specs.Shards.{ShardState, Closing, children_among, first_shards, is_child, is_open, new_shard, with_closed}
 use Rattle.kds_tree.specs.Families.{AreFamilies, MayStandAt, told_of}
 use Rattle.kds_tree.proofs.OpenStarts.{Closes, IsBehind, closes_one, closes_two, get_back, get_cases, get_front}
@@ -95,15 +96,12 @@ none_at zero place below = absurd (omega (arith, below))
 none_at (suc n) zero below = refl
 none_at (suc n) (suc place) below = none_at n place (omega (arith, below))
 
-both_ways : (b : Bool) → b ≡ true → b ≡ false → ⊥
-both_ways b h g = cc
-
 pub families_made : (count n start : ℕ) (ranges : List Span) → length (first_shards n start ranges) ≡ count
     → AreFamilies (replicate count None) (first_shards n start ranges)
 unfolding nones
 families_made count n start ranges long = record {
   long = (let none : Option ℕ = None in length-replicate count none ∙ sym long);
-  each = λ parent place x is child. absurd (both_ways (is_child parent x) child (unrelated n start ranges parent place x is));
+  each = λ parent place x is child. absurd (apart (is_child parent x) child (unrelated n start ranges parent place x is));
   young = λ place x is open_now. none_at count place (omega (arith, long, slice_get_within (first_shards n start ranges) place x is));
 }
 

@@ -8,6 +8,7 @@ use Rattle.std.proofs.lemmas.List.{append_assoc, length-append}
 use Rattle.std.proofs.lemmas.List.Elements.{All-append, All-filter, All-from_recursion, Contains-append_left, Contains-append_right, filter-append, filter_passes}
 use Rattle.std.proofs.lemmas.List.Sorted.{All-permutation, Contains-permutation, sum_by-IsPermutation}
 use Rattle.std.proofs.lemmas.List.Sums.{length-filter}
+use Rattle.kds_base.proofs.Facts.{apart}
 use Rattle.kds_defs.specs.Shards.{ShardState, Closing, is_open, with_closed}
 use Rattle.kds_defs.specs.Tiled.{AreNumbered}
 use Rattle.kds_defs.proofs.Numbers.{numbered-closed}
@@ -260,10 +261,7 @@ length-closed (x ∷ xs) (suc sh) closing = ap suc (length-closed xs sh closing)
 open_apart : (xs : List ShardState) (sh i : ℕ) (closing : Closing) (x : ShardState) → slice_get (with_closed sh closing xs) i ≡ Some x → is_open x ≡ true → i ≢ sh
 open_apart xs sh i closing x is open_now e =
     let is' : slice_get (with_closed sh closing xs) sh ≡ Some x = ap (slice_get (with_closed sh closing xs)) (sym e) ∙ is in
-    absurd (both_ways (is_open x) open_now (closed_same xs sh closing x is'))
-  where
-    both_ways : (b : Bool) → b ≡ true → b ≡ false → ⊥
-    both_ways b h g = cc
+    absurd (apart (is_open x) open_now (closed_same xs sh closing x is'))
 
 -- ---- the starts that are left
 
