@@ -1,17 +1,18 @@
 //! Answers, each as a status and a body.
-ghost use Rattle.std.specs.Prelude.{◌≡◌, IfOk, false, true};
+ghost use Rattle.std.specs.Prelude.{◌≡◌, ◌++◌, IfOk, OnOk, false, true};
 ghost use Rattle.serde_json.specs.View.{view};
 ghost use Rattle.serde_json.specs.Written.{compact_text, has_float};
 ghost use Rattle.kds_defs.specs.Kinds.{is_service_answer, is_service_reply};
 ghost use Rattle.kds_reply.specs.Replies.{reply_text, reply_of};
-ghost use Rattle.kds_reply.specs.Streams.{described_data};
+ghost use Rattle.kds_reply.specs.Shards.{shards_data};
+ghost use Rattle.kds_reply.specs.Streams.{described_data, scaled_data, streams_data, summary_data};
 
 use crate::shards::shards_value;
 use crate::streams::{described_value, scaled_value, streams_value, summary_value};
-use kds_base::{Memory, Octets};
-use kds_defs::{About, Answer, Reply, Shard};
+use kds_base::{Memory, Name, Octets};
+use kds_defs::{About, Answer, Page, Reply, Shard};
 use kds_reply_texts::{
-    BAD_REQUEST, batch_text, iterator_text, outcomes_text, place_text, refusal_body,
+    BAD_REQUEST, add_batch, add_outcomes, add_place, iterator_text, put, refusal_body,
 };
 use serde_json::Value;
 use std::alloc::Global;
@@ -19,81 +20,149 @@ use std::alloc::Global;
 /// The status of every reply to an accepted command.
 const DONE: u16 = 200;
 
-/// The text of a value that holds no float.
-fn value_text(alloc: Global, value: &Value) -> Result<Octets, Memory>
+/// Adds the text of a value that holds no float. Where nothing stands yet it is taken over, and not copied.
+fn add_value(to: &mut Vec<u8>, alloc: Global, value: &Value) -> Result<(), Memory>
     requires { has_float (view value.now) ≡ false }
-    ensures { IfOk result (λ o. o ≡ compact_text (view value.now)) }
+    ensures { OnOk result (to.new.items ≡ to.old.items ++ compact_text (view value.now)) }
 {
-    Ok(Octets::unshared(value.to_vec(alloc)?))
+    let text = value.to_vec(alloc)?;
+    if to.is_empty() {
+        *to = text;
+        return Ok(());
+    }
+    put(to, text.as_slice())
 }
 
-/// The text of what DescribeStream tells.
-fn described_text(
+/// Adds what ListStreams tells.
+fn add_streams(to: &mut Vec<u8>, alloc: Global, names: &[Name], more: bool) -> Result<(), Memory>
+    ensures { OnOk result (to.new.items ≡ to.old.items ++ compact_text (streams_data names.now more)) }
+{
+    let value = streams_value(alloc, names, more)?;
+    add_value(to, alloc, &value)
+}
+
+/// Adds what DescribeStream tells.
+fn add_described(
+    to: &mut Vec<u8>,
     alloc: Global,
     about: &About,
     shards: &[Shard],
     more: bool,
-) -> Result<Octets, Memory>
-    ensures { IfOk result (λ o. o ≡ compact_text (described_data about.now shards.now more)) }
+) -> Result<(), Memory>
+    ensures { OnOk result (to.new.items ≡ to.old.items ++ compact_text (described_data about.now shards.now more)) }
 {
     let value = described_value(alloc, about, shards, more)?;
-    value_text(alloc, &value)
+    add_value(to, alloc, &value)
 }
 
-fn reply_body(alloc: Global, reply: &Reply) -> Result<Octets, Memory>
+/// Adds what DescribeStreamSummary tells.
+fn add_summary(
+    to: &mut Vec<u8>,
+    alloc: Global,
+    about: &About,
+    open_shards: u32,
+) -> Result<(), Memory>
+    ensures { OnOk result (to.new.items ≡ to.old.items ++ compact_text (summary_data about.now open_shards)) }
+{
+    let value = summary_value(alloc, about, open_shards)?;
+    add_value(to, alloc, &value)
+}
+
+/// Adds what UpdateShardCount tells.
+fn add_scaled(
+    to: &mut Vec<u8>,
+    alloc: Global,
+    name: &Name,
+    before: u32,
+    target: u32,
+) -> Result<(), Memory>
+    ensures { OnOk result (to.new.items ≡ to.old.items ++ compact_text (scaled_data name.now before target)) }
+{
+    let value = scaled_value(alloc, name, before, target)?;
+    add_value(to, alloc, &value)
+}
+
+/// Adds what ListShards tells.
+fn add_shards(
+    to: &mut Vec<u8>,
+    alloc: Global,
+    shards: &[Shard],
+    next: &Option<Page>,
+) -> Result<(), Memory>
+    ensures { OnOk result (to.new.items ≡ to.old.items ++ compact_text (shards_data shards.now next.now)) }
+{
+    let value = shards_value(alloc, shards, next)?;
+    add_value(to, alloc, &value)
+}
+
+/// Adds the body of a reply.
+fn add_body(to: &mut Vec<u8>, alloc: Global, reply: &Reply) -> Result<(), Memory>
     requires { is_service_reply reply.now ≡ true }
-    ensures { IfOk result (λ o. o ≡ reply_text reply.now) }
+    ensures { OnOk result (to.new.items ≡ to.old.items ++ reply_text reply.now) }
 {
     match reply {
-        Reply::Done => Ok(Octets::new(alloc)),
-        Reply::Streams { names, more } => {
-            let value = streams_value(alloc, names.as_slice(), *more)?;
-            value_text(alloc, &value)
-        }
+        Reply::Done => Ok(()),
+        Reply::Streams { names, more } => add_streams(to, alloc, names.as_slice(), *more),
         Reply::Described {
             about,
             shards,
             more,
-        } => described_text(alloc, about, shards.as_slice(), *more),
-        Reply::Summary { about, open_shards } => {
-            let value = summary_value(alloc, about, *open_shards)?;
-            value_text(alloc, &value)
-        }
-        Reply::Put(place) => place_text(alloc, place),
-        Reply::PutMany(outcomes) => outcomes_text(alloc, outcomes.as_slice()),
+        } => add_described(to, alloc, about, shards.as_slice(), *more),
+        Reply::Summary { about, open_shards } => add_summary(to, alloc, about, *open_shards),
+        Reply::Put(place) => add_place(to, alloc, place),
+        Reply::PutMany(outcomes) => add_outcomes(to, alloc, outcomes.as_slice()),
         Reply::Scaled {
             name,
             before,
             target,
             ..
-        } => {
-            let value = scaled_value(alloc, name, *before, *target)?;
-            value_text(alloc, &value)
-        }
-        Reply::Iterator(iter) => iterator_text(alloc, iter),
+        } => add_scaled(to, alloc, name, *before, *target),
+        Reply::Iterator(iter) => put(to, iterator_text(alloc, iter)?.as_slice()),
         Reply::Records {
             batch,
             next,
             behind,
             children,
-        } => batch_text(alloc, batch.as_slice(), next, *behind, children.as_slice()),
-        Reply::Shards { shards, next } => {
-            let value = shards_value(alloc, shards.as_slice(), next)?;
-            value_text(alloc, &value)
-        }
+        } => add_batch(
+            to,
+            alloc,
+            batch.as_slice(),
+            next,
+            *behind,
+            children.as_slice(),
+        ),
+        Reply::Shards { shards, next } => add_shards(to, alloc, shards.as_slice(), next),
         _ => unreachable!(),
     }
 }
 
-/// The status and the body of an answer: 200, or 400 for a refusal
+/// Adds the body of an answer, and gives its status: 200, or 400 for a refusal
 /// (Kinesis API Reference, Response Elements and Errors of each action). Condition: it is an answer of the stream
-/// service. `Memory` is want of memory.
+/// service. `Memory` is want of memory, after which a part of the body may have been added.
+pub fn add_reply(alloc: Global, answer: &Answer, to: &mut Vec<u8>) -> Result<u16, Memory>
+    requires { is_service_answer answer.now ≡ true }
+    ensures status { IfOk result (λ status. status ≡ (reply_of answer.now).0) }
+    ensures body { OnOk result (to.new.items ≡ to.old.items ++ (reply_of answer.now).1) }
+{
+    match answer {
+        Ok(reply) => {
+            add_body(to, alloc, reply)?;
+            Ok(DONE)
+        }
+        Err(refusal) => {
+            put(to, refusal_body(alloc, refusal)?.as_slice())?;
+            Ok(BAD_REQUEST)
+        }
+    }
+}
+
+/// The status and the body of an answer, under the condition of `add_reply` and as it gives them. `Memory` is want of
+/// memory.
 pub fn reply(alloc: Global, answer: &Answer) -> Result<(u16, Octets), Memory>
     requires { is_service_answer answer.now ≡ true }
     ensures { IfOk result (λ r. r ≡ reply_of answer.now) }
 {
-    match answer {
-        Ok(reply) => Ok((DONE, reply_body(alloc, reply)?)),
-        Err(refusal) => Ok((BAD_REQUEST, refusal_body(alloc, refusal)?)),
-    }
+    let mut body = Vec::new(alloc);
+    let status = add_reply(alloc, answer, &mut body)?;
+    Ok((status, Octets::unshared(body)))
 }

@@ -8,6 +8,6 @@ mod laws;
 mod shards;
 mod streams;
 
-pub use answers::reply;
+pub use answers::{add_reply, reply};
 pub use faults::fault;
 pub use laws::keys_are_text;

@@ -1,22 +1,24 @@
 -- Tokens that are added one after another.
 use Rattle.std.proofs.Common.{◌≡◌, ℕ, List, [], ◌∷◌, ◌++◌, refl, ap, ◌∙◌}
-use Rattle.std.specs.Prelude.{codes, decimal, Some, None}
+use Rattle.std.specs.Prelude.{codes, decimal}
 use Rattle.std.proofs.lemmas.List.{append_assoc}
-use Rattle.json.specs.Token.{Token, begin_object, end_object, key, null, number, string}
+use Rattle.json.specs.Token.{Token, begin_object, end_object, key, string}
 use Rattle.kds_defs.specs.declared.reply.Iter.{Iter}
 use Rattle.kds_defs.specs.declared.reply.Shard.{Shard}
-use Rattle.kds_defs.specs.declared.reply.Stored.{Stored}
 use Rattle.kds_token.specs.Ids.{shard_id}
 use Rattle.kds_token.specs.Tokens.{iter_token}
 use Rattle.kds_base.specs.Span.{Span}
 use Rattle.kds_reply_texts.specs.Errors.{error_data}
 use Rattle.kds_reply_texts.specs.Bodies.{id_data, list_data, iterator_data}
-use Rattle.kds_reply_texts.specs.Records.{record_data, records_data}
 use Rattle.kds_reply_texts.specs.Children.{range_data, parents_of, child_data}
 use Rattle.kds_reply_texts.specs.Writing.{tokens_of}
 
 pub more : {A : Type 0} (t u v a b : List A) → u ≡ t ++ a → v ≡ u ++ b → v ≡ t ++ (a ++ b)
 more t u v a b first second = second ∙ ap (λ ts. ts ++ b) first ∙ append_assoc t a b
+
+-- the first piece of all, behind what stood there
+pub added_to : {A : Type 0} (t u v a : List A) → u ≡ t → v ≡ u ++ a → v ≡ t ++ a
+added_to t u v a same first = first ∙ ap (λ ts. ts ++ a) same
 
 -- the first tokens of all
 pub begun : {A : Type 0} (t u a : List A) → t ≡ [] → u ≡ t ++ a → u ≡ a
@@ -33,23 +35,6 @@ pub iterator_tokens : (i : Iter) (token : List ℕ) → token ≡ iter_token i
     → begin_object ∷ key (codes "ShardIterator") ∷ string token ∷ end_object ∷ [] ≡ tokens_of (iterator_data i)
 unfolding iterator_data
 iterator_tokens i token is = rw is refl
-
--- ---- records, and where reading goes on
-
-pub records_tokens : (batch : List Stored) (next : Iter) (behind : ℕ) (children : List Shard) (token : List ℕ) → token ≡ iter_token next
-    → (begin_object ∷ key (codes "MillisBehindLatest") ∷ number (decimal behind) ∷ key (codes "NextShardIterator") ∷ string token ∷ key (codes "Records") ∷ tokens_of (list_data record_data batch)) ++ end_object ∷ [] ≡ tokens_of (records_data batch (Some next) behind children)
-unfolding records_data
-records_tokens batch next behind children token is = rw is refl
-
-apart : (c a b k r e : List Token) → (((((c ++ a) ++ b) ++ k) ++ r) ++ e) ≡ c ++ (a ++ (b ++ (k ++ (r ++ e))))
-apart c a b k r e = simp append_assoc
-
-pub end_tokens : (batch : List Stored) (behind : ℕ) (children : List Shard)
-    → begin_object ∷ key (codes "ChildShards") ∷ (((((tokens_of (list_data child_data children) ++ key (codes "MillisBehindLatest") ∷ number (decimal behind) ∷ []) ++ key (codes "NextShardIterator") ∷ null ∷ []) ++ key (codes "Records") ∷ []) ++ tokens_of (list_data record_data batch)) ++ end_object ∷ []) ≡ tokens_of (records_data batch None behind children)
-unfolding records_data
-end_tokens batch behind children =
-    ap (λ (ts : List Token). begin_object ∷ key (codes "ChildShards") ∷ ts)
-    (apart (tokens_of (list_data child_data children)) (key (codes "MillisBehindLatest") ∷ number (decimal behind) ∷ []) (key (codes "NextShardIterator") ∷ null ∷ []) (key (codes "Records") ∷ []) (tokens_of (list_data record_data batch)) (end_object ∷ []))
 
 -- ---- the children of a shard
 

@@ -1,3 +1,4 @@
+pub mod BatchTexts
 pub mod Joined
 pub mod TokenTexts
 pub mod PlainTexts

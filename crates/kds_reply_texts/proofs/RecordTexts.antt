@@ -1,5 +1,5 @@
 -- The text of records in pieces.
-use Rattle.std.proofs.Common.{◌≡◌, ℕ, ◌+◌, ◌-◌, ◌/◌, ◌^◌, ◌<◌, ◌≤◌, Bool, true, false, List, [], ◌∷◌, ◌++◌, Some, None, Option, length, take, drop, map, get_or, refl, sym, ap, ◌∙◌, decimal, codes, arith, append_assoc, inl, inr}
+use Rattle.std.proofs.Common.{◌≡◌, ℕ, ◌+◌, ◌-◌, ◌/◌, ◌^◌, ◌<◌, ◌≤◌, Bool, true, List, [], ◌∷◌, ◌++◌, Some, None, Option, length, take, drop, map, get_or, refl, sym, ap, ◌∙◌, decimal, codes, arith, append_assoc, inl, inr}
 use Rattle.std.proofs.lemmas.List.{append-nil, length-append, length-drop, drop_all, drop_more, take_at}
 use Rattle.std.proofs.lemmas.Bool.{cases_lt}
 use borrow.Rule.Slice.PartMut.{post_of}
@@ -7,16 +7,13 @@ use Rattle.std.specs.Str.Lossy.{utf8_lossy}
 use Rattle.base64.specs.Engines.{standard}
 use Rattle.base64.specs.GeneralPurpose.{encode_of}
 use Rattle.base64.specs.Rfc4648.{encoded_size}
-use Rattle.json.specs.Token.{Token, end_object, key, string}
-use Rattle.json.specs.Print.{print, print_from, ends_value, separator, escape, escape_byte, quoted}
-use Rattle.json.proofs.Printed.Tokens.{print_from_push, print_from-append, ends_push}
+use Rattle.json.specs.Token.{Token, string}
+use Rattle.json.specs.Print.{print, print_from, escape, escape_byte, quoted}
 use Rattle.serde_json.specs.Data.{Data}
 use Rattle.serde_json.specs.Written.{compact_text, comma_if, items_text}
 use Rattle.serde_json.specs.View.{items_of}
-use Rattle.serde_json.proofs.Texts.{print-outline}
 use Rattle.kds_defs.specs.declared.reply.Stored.{Stored}
 use Rattle.kds_reply_texts.specs.Records.{record_data}
-use Rattle.kds_reply_texts.specs.Writing.{tokens_of}
 
 -- a record, whose digits and base64 stand between quotes as they are
 pub record_text : (r : Stored)
@@ -25,23 +22,6 @@ pub record_text : (r : Stored)
     ≡ compact_text (record_data r)
 unfolding record_data escape_byte
 record_text r = simp append_assoc
-
-pub after_name : (t u : List Token) (name : List ℕ) → u ≡ t ++ key name ∷ [] → ends_value u ≡ false
-after_name t u name is = ap ends_value is ∙ ends_push false t (key name)
-
-no_separator : (b : Bool) → separator b end_object ≡ []
-no_separator true = refl
-no_separator false = refl
-
--- the text of an object whose last member has the value d, which ts lead up to
-pub completed : (ts : List Token) (d whole : Data) → ends_value ts ≡ false → (ts ++ tokens_of d) ++ end_object ∷ [] ≡ tokens_of whole
-    → (print ts ++ compact_text d) ++ 125 ∷ [] ≡ compact_text whole
-completed ts d whole opens is =
-    let end : print ((ts ++ tokens_of d) ++ end_object ∷ []) ≡ print (ts ++ tokens_of d) ++ 125 ∷ [] =
-    print_from_push false (ts ++ tokens_of d) end_object ∙ ap (λ (s : List ℕ). print (ts ++ tokens_of d) ++ (s ++ 125 ∷ [])) (no_separator (ends_value (ts ++ tokens_of d))) in
-    let value : print (ts ++ tokens_of d) ≡ print ts ++ compact_text d =
-    print_from-append false ts (tokens_of d) ∙ ap (λ (b : Bool). print ts ++ print_from b (tokens_of d)) opens ∙ ap (λ (s : List ℕ). print ts ++ s) (print-outline d) in
-    sym (sym (print-outline whole) ∙ ap print (sym is) ∙ end ∙ ap (λ (s : List ℕ). s ++ 125 ∷ []) value)
 
 -- the length of base64, where it fits
 pub size_is : (n size : ℕ) (r : Option ℕ) → (encoded_size n true < 2 ^ 64 → r ≡ Some (encoded_size n true)) → (2 ^ 64 ≤ encoded_size n true → r ≡ None) → r ≡ Some size → size ≡ encoded_size n true

@@ -1,14 +1,21 @@
 //! The children of a shard at whose end reading is, written straight as text.
-ghost use Rattle.std.specs.Prelude.{◌≡◌, ◌++◌, OnOk};
+ghost use Rattle.std.specs.Prelude.{◌≡◌, ◌++◌, IfOk, OnOk};
+ghost use Rattle.serde_json.specs.Written.{compact_text};
 ghost use Rattle.kds_reply_texts.specs.Bodies.{id_data, list_data};
 ghost use Rattle.kds_reply_texts.specs.Children.{range_data, parents_of, child_data};
 ghost use Rattle.kds_reply_texts.specs.Writing.{tokens_of, id_tokens};
 
-use crate::writing::{begin_object, end_object, put_hash_key, put_name, put_text};
+use crate::writing::{
+    begin_object, end_object, new_writer, put_hash_key, put_name, put_text, written,
+};
 use json::Writer;
-use kds_base::{Memory, Range, ShardNo};
+use kds_base::{Memory, Octets, Range, ShardNo};
 use kds_defs::Shard;
 use kds_token::shard_id;
+use std::alloc::Global;
+
+/// The most bytes of a child of a shard.
+const CHILD_BYTES: usize = 320;
 
 /// Adds a range of hash keys (Kinesis API Reference, HashKeyRange).
 fn put_range(out: &mut Writer, range: &Range) -> Result<(), Memory>
@@ -65,7 +72,7 @@ fn put_child(out: &mut Writer, shard: &Shard) -> Result<(), Memory>
 }
 
 /// Adds the children of a shard as an array.
-pub fn put_children(out: &mut Writer, shards: &[Shard]) -> Result<(), Memory>
+fn put_children(out: &mut Writer, shards: &[Shard]) -> Result<(), Memory>
     ensures ok { OnOk result (out.new.tokens ≡ out.old.tokens ++ tokens_of (list_data child_data shards.now)) }
     ensures before { out.new.before ≡ out.old.before }
 {
@@ -75,4 +82,13 @@ pub fn put_children(out: &mut Writer, shards: &[Shard]) -> Result<(), Memory>
     }
     out.end_array()?;
     Ok(())
+}
+
+/// The text of the children of a shard, as an array.
+pub fn children_text(alloc: Global, shards: &[Shard]) -> Result<Octets, Memory>
+    ensures { IfOk result (λ o. o ≡ compact_text (list_data child_data shards.now)) }
+{
+    let mut out = new_writer(alloc, shards.len().saturating_mul(CHILD_BYTES))?;
+    put_children(&mut out, shards)?;
+    Ok(written(out))
 }

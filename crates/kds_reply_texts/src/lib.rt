@@ -15,9 +15,10 @@ mod rooms;
 mod tokens;
 mod writing;
 
-pub use batches::batch_text;
+pub use batches::add_batch;
 pub use errors::{BAD_REQUEST, error_body};
 pub use moments::seconds;
-pub use places::{outcomes_text, place_text};
+pub use pieces::put;
+pub use places::{add_outcomes, add_place};
 pub use refusals::refusal_body;
 pub use tokens::{iterator_text, listing_token};

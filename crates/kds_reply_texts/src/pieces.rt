@@ -17,6 +17,14 @@ use std::alloc::Global;
 /// What room is filled with before it is written over.
 static ZEROS: [u8; 1024] = [0; 1024];
 
+/// Takes memory for so many bytes more.
+pub fn reserve(out: &mut Vec<u8>, size: usize) -> Result<(), Memory>
+    ensures { OnOk result (out.new.items ≡ out.old.items) }
+{
+    out.reserve(size)?;
+    Ok(())
+}
+
 /// Adds a piece.
 #[inline(always)]
 pub fn put(out: &mut Vec<u8>, piece: &[u8]) -> Result<(), Memory>

@@ -1,11 +1,11 @@
 //! What became of records that were to be put, written straight as text.
-ghost use Rattle.std.specs.Prelude.{◌≡◌, ◌++◌, IfOk, OnOk};
+ghost use Rattle.std.specs.Prelude.{◌≡◌, ◌++◌, OnOk};
 ghost use Rattle.serde_json.specs.Written.{compact_text};
 ghost use Rattle.kds_reply_texts.specs.Bodies.{list_data, place_data, failed_data, outcome_data, has_failed, failed_count as count_of_failed, outcomes_data};
 
-use crate::pieces::{put, put_comma, put_decimal, put_seq, put_str};
+use crate::pieces::{put, put_comma, put_decimal, put_seq, put_str, reserve};
 use crate::refusals::{refusal_message, refusal_name};
-use kds_base::{Memory, Octets};
+use kds_base::Memory;
 use kds_defs::{Outcome, Place, Refusal};
 use kds_token::shard_id;
 use std::alloc::Global;
@@ -33,7 +33,7 @@ fn failed_count(outcomes: &[Outcome]) -> u64
 }
 
 /// Adds the text of where a record was put (Kinesis API Reference, PutRecord, Response Elements).
-fn add_place(out: &mut Vec<u8>, alloc: Global, place: &Place) -> Result<(), Memory>
+fn put_place(out: &mut Vec<u8>, alloc: Global, place: &Place) -> Result<(), Memory>
     ensures { OnOk result (out.new.items ≡ out.old.items ++ compact_text (place_data place.now)) }
 {
     let shard = shard_id(place.shard);
@@ -46,7 +46,7 @@ fn add_place(out: &mut Vec<u8>, alloc: Global, place: &Place) -> Result<(), Memo
 }
 
 /// Adds the text of why a record of many wasn't put.
-fn add_failed(out: &mut Vec<u8>, alloc: Global, name: &str, message: &str) -> Result<(), Memory>
+fn put_failed(out: &mut Vec<u8>, alloc: Global, name: &str, message: &str) -> Result<(), Memory>
     ensures { OnOk result (out.new.items ≡ out.old.items ++ compact_text (failed_data name.now message.now)) }
 {
     put(out, b"{\"ErrorCode\":\"")?;
@@ -58,14 +58,14 @@ fn add_failed(out: &mut Vec<u8>, alloc: Global, name: &str, message: &str) -> Re
 }
 
 /// Adds the text of what became of a record of many (Kinesis API Reference, PutRecordsResultEntry).
-fn add_outcome(out: &mut Vec<u8>, alloc: Global, outcome: &Outcome) -> Result<(), Memory>
+fn put_outcome(out: &mut Vec<u8>, alloc: Global, outcome: &Outcome) -> Result<(), Memory>
     ensures { OnOk result (out.new.items ≡ out.old.items ++ compact_text (outcome_data outcome.now)) }
 {
     match outcome {
-        Outcome::Stored(place) => add_place(out, alloc, place),
+        Outcome::Stored(place) => put_place(out, alloc, place),
         Outcome::Throttled(shard) => {
             let refusal = Refusal::Throttled(*shard);
-            add_failed(
+            put_failed(
                 out,
                 alloc,
                 refusal_name(&refusal),
@@ -76,39 +76,38 @@ fn add_outcome(out: &mut Vec<u8>, alloc: Global, outcome: &Outcome) -> Result<()
 }
 
 /// Adds the text of what became of records, as an array.
-fn add_outcomes(out: &mut Vec<u8>, alloc: Global, outcomes: &[Outcome]) -> Result<(), Memory>
+fn put_outcomes(out: &mut Vec<u8>, alloc: Global, outcomes: &[Outcome]) -> Result<(), Memory>
     ensures { OnOk result (out.new.items ≡ out.old.items ++ compact_text (list_data outcome_data outcomes.now)) }
 {
     let mut later = false;
     put(out, b"[")?;
     for outcome in outcomes {
         put_comma(out, later)?;
-        add_outcome(out, alloc, outcome)?;
+        put_outcome(out, alloc, outcome)?;
         later = true;
     }
     put(out, b"]")?;
     Ok(())
 }
 
-/// The text of where a record was put.
-pub fn place_text(alloc: Global, place: &Place) -> Result<Octets, Memory>
-    ensures { IfOk result (λ o. o ≡ compact_text (place_data place.now)) }
+/// Adds the text of where a record was put.
+pub fn add_place(out: &mut Vec<u8>, alloc: Global, place: &Place) -> Result<(), Memory>
+    ensures { OnOk result (out.new.items ≡ out.old.items ++ compact_text (place_data place.now)) }
 {
-    let mut out = Vec::with_capacity(alloc, PLACE_BYTES)?;
-    add_place(&mut out, alloc, place)?;
-    Ok(Octets::unshared(out))
+    reserve(out, PLACE_BYTES)?;
+    put_place(out, alloc, place)
 }
 
-/// The text of what became of each of some records (Kinesis API Reference, PutRecords, Response Elements).
-pub fn outcomes_text(alloc: Global, outcomes: &[Outcome]) -> Result<Octets, Memory>
-    ensures { IfOk result (λ o. o ≡ compact_text (outcomes_data outcomes.now)) }
+/// Adds the text of what became of each of some records (Kinesis API Reference, PutRecords, Response Elements).
+pub fn add_outcomes(out: &mut Vec<u8>, alloc: Global, outcomes: &[Outcome]) -> Result<(), Memory>
+    ensures { OnOk result (out.new.items ≡ out.old.items ++ compact_text (outcomes_data outcomes.now)) }
 {
     let room = outcomes.len().saturating_mul(PLACE_BYTES);
-    let mut out = Vec::with_capacity(alloc, room.saturating_add(PLACE_BYTES))?;
-    put(&mut out, b"{\"FailedRecordCount\":")?;
-    put_decimal(&mut out, failed_count(outcomes))?;
-    put(&mut out, b",\"Records\":")?;
-    add_outcomes(&mut out, alloc, outcomes)?;
-    put(&mut out, b"}")?;
-    Ok(Octets::unshared(out))
+    reserve(out, room.saturating_add(PLACE_BYTES))?;
+    put(out, b"{\"FailedRecordCount\":")?;
+    put_decimal(out, failed_count(outcomes))?;
+    put(out, b",\"Records\":")?;
+    put_outcomes(out, alloc, outcomes)?;
+    put(out, b"}")?;
+    Ok(())
 }

@@ -1,7 +1,8 @@
 //! The tokens that the service gives out, as text.
-ghost use Rattle.std.specs.Prelude.{◌≡◌, IfOk, IsUtf8, string_bytes};
+ghost use Rattle.std.specs.Prelude.{◌≡◌, ◌<◌, ◌^◌, IfOk, IsUtf8, string_bytes};
+ghost use Rattle.json.specs.Print.{escape};
 ghost use Rattle.serde_json.specs.Written.{compact_text};
-ghost use Rattle.kds_token.specs.Tokens.{page_token};
+ghost use Rattle.kds_token.specs.Tokens.{IsIter, iter_token, page_token};
 ghost use Rattle.kds_reply_texts.specs.Bodies.{iterator_data};
 
 use crate::writing::{begin_object, end_object, new_writer, put_text, written};
@@ -30,6 +31,21 @@ pub fn listing_token(alloc: Global, page: &Page) -> Result<String, Memory>
 {
     let token = write_page(alloc, page)?;
     Ok(String::from_utf8_lossy(alloc, token.as_slice())?)
+}
+
+/// The numbers of an iterator are within the ranges of their types.
+fn numbers_fit(stream: u64, shard: u64, position: u64, issued: u64)
+    requires { issued < 2 ^ 62 }
+    ensures { IsIter (record { stream = stream; shard = shard; position = position; issued = issued }) }
+{}
+
+/// The token of an iterator as it stands between the quotes of a string: it has no byte to escape.
+pub fn quoted_iter(alloc: Global, iter: &Iter) -> Result<Octets, Memory>
+    ensures { IfOk result (λ o. o ≡ escape (iter_token iter.now)) }
+{
+    numbers_fit(iter.stream.0, iter.shard.0, iter.position, iter.issued.ms());
+    let token = write_iter(alloc, iter)?;
+    Ok(token)
 }
 
 /// The text of an iterator (Kinesis API Reference, GetShardIterator, Response Elements).

@@ -1,6 +1,6 @@
 //! Members and values, written straight as text.
 ghost use Rattle.std.specs.Prelude.{◌≡◌, ◌++◌, ◌∷◌, [], decimal, OnOk, IfOk};
-ghost use Rattle.json.specs.Token.{begin_object, end_object, key, null, number, string};
+ghost use Rattle.json.specs.Token.{begin_object, end_object, key, string};
 ghost use Rattle.serde_json.specs.Data.{Data};
 ghost use Rattle.serde_json.specs.Written.{compact_text};
 ghost use Rattle.kds_reply_texts.specs.Writing.{tokens_of};
@@ -53,16 +53,6 @@ pub fn put_name(out: &mut Writer, name: &str) -> Result<(), Memory>
     Ok(())
 }
 
-/// Adds a member that is a number.
-pub fn put_number(out: &mut Writer, name: &str, n: u64) -> Result<(), Memory>
-    ensures ok { OnOk result (out.new.tokens ≡ out.old.tokens ++ key name.now ∷ number (decimal n) ∷ []) }
-    ensures before { out.new.before ≡ out.old.before }
-{
-    out.key(name)?;
-    out.u64(n)?;
-    Ok(())
-}
-
 /// Adds a member that is a hash key, which is a decimal string.
 pub fn put_hash_key(out: &mut Writer, name: &str, hash: u128) -> Result<(), Memory>
     ensures ok { OnOk result (out.new.tokens ≡ out.old.tokens ++ key name.now ∷ string (decimal hash) ∷ []) }
@@ -71,16 +61,6 @@ pub fn put_hash_key(out: &mut Writer, name: &str, hash: u128) -> Result<(), Memo
     let mut digits = Buffer::new();
     out.key(name)?;
     out.string(digits.format(hash))?;
-    Ok(())
-}
-
-/// Adds a member that is null.
-pub fn put_null(out: &mut Writer, name: &str) -> Result<(), Memory>
-    ensures ok { OnOk result (out.new.tokens ≡ out.old.tokens ++ key name.now ∷ null ∷ []) }
-    ensures before { out.new.before ≡ out.old.before }
-{
-    out.key(name)?;
-    out.null()?;
     Ok(())
 }
 

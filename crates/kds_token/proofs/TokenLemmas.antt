@@ -20,7 +20,7 @@ use Rattle.kds_token.proofs.FieldLemmas.{field_at, field_spells, moment_spells, 
 
 -- ---- base64
 
-small_bytes : (bs : List ℕ) → AreSmall bs → IsBytes bs
+pub small_bytes : (bs : List ℕ) → AreSmall bs → IsBytes bs
 small_bytes [] h i = omega arith
 small_bytes (b ∷ bs) h zero = h.0
 small_bytes (b ∷ bs) h (suc i) = small_bytes bs h.1 i
@@ -51,7 +51,7 @@ kind_is : {A : Type 0} (b : Bool) (x y : List ℕ) (o : Option A) (z : A) → by
 kind_is true x y o z e h = ((bytes_eq-Decides x y).0 e, h)
 kind_is false x y o z e h = absurd (cc)
 
-iter_small : (i : Iter) → IsIter i → AreSmall (iter_text i)
+pub iter_small : (i : Iter) → IsIter i → AreSmall (iter_text i)
 iter_small i is =
     let issued = decimal_small i.issued (omega (arith, is.issued)) in
     let position = small-append (decimal i.position) (58 ∷ decimal i.issued) (decimal_small i.position is.position) (omega arith, issued) in

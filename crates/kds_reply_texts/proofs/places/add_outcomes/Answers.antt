@@ -1,8 +1,17 @@
-use Rattle.kds_reply_texts.specs.Bodies.{outcome_data}
-use Rattle.kds_reply_texts.proofs.RecordTexts.{next_item}
+use Rattle.std.proofs.Common.{◌≡◌, ◌++◌, List, ℕ, ap, ◌∙◌, rules}
+use Rattle.kds_reply_texts.specs.Bodies.{failed_count}
+use Rattle.kds_reply_texts.proofs.Joined.{added_to, more}
+use Rattle.kds_reply_texts.proofs.PlaceTexts.{outcomes_pieces}
 use Rattle.kds_reply_texts.proofs.places.add_outcomes.Goals as goal
 
-pub loop-outcome-preserved : goal.loop-outcome-preserved
-loop-outcome-preserved c =
-    next_item outcome_data c.args.outcomes.now c.loop-outcome.outcome-index c.outcome-item.result c.loop-outcome.later _ _ _ _ c.loop-outcome-test.true c.outcome-item.is
-    c.in_ok-put_comma.ensures c.in_ok-add_outcome.ensures c.loop-outcome.invariant
+pub returns : goal.returns
+returns c =
+    let os = c.args.outcomes.now in
+    let t = c.args.out.now.items in
+    let counted : c.failed_count.result ≡ failed_count os = search rules in
+    let one = added_to t _ _ _ c.in_ok-reserve.ensures c.in_ok-put.ensures in
+    let two = more t _ _ _ _ one c.in_ok-put_decimal.ensures in
+    let three = more t _ _ _ _ two c.in_ok-put-2.ensures in
+    let four = more t _ _ _ _ three c.in_ok-put_outcomes.ensures in
+    let five = more t _ _ _ _ four c.in_ok-put-3.ensures in
+    five ∙ ap (λ (text : List ℕ). t ++ text) (outcomes_pieces os c.failed_count.result counted)

@@ -2,7 +2,7 @@ use Rattle.std.proofs.Common.{◌≡◌, ◌++◌, List, ℕ, ap, ◌∙◌, rul
 use Rattle.kds_token.specs.Ids.{shard_id}
 use Rattle.kds_reply_texts.proofs.Joined.{more}
 use Rattle.kds_reply_texts.proofs.PlaceTexts.{place_pieces}
-use Rattle.kds_reply_texts.proofs.places.add_place.Goals as goal
+use Rattle.kds_reply_texts.proofs.places.put_place.Goals as goal
 
 pub returns : goal.returns
 returns c =

@@ -1,7 +1,7 @@
 use Rattle.std.proofs.Common.{◌++◌, List, ℕ, ap, ◌∙◌}
 use Rattle.kds_reply_texts.proofs.Joined.{more}
 use Rattle.kds_reply_texts.proofs.PlaceTexts.{failed_pieces}
-use Rattle.kds_reply_texts.proofs.places.add_failed.Goals as goal
+use Rattle.kds_reply_texts.proofs.places.put_failed.Goals as goal
 
 pub returns : goal.returns
 returns c =
