@@ -10,6 +10,12 @@ pub eight : (t a b c d e f g h t1 t2 t3 t4 t5 t6 t7 t8 : List ℕ)
     → t8 ≡ t ++ (a ++ (b ++ (c ++ (d ++ (e ++ (f ++ (g ++ h)))))))
 eight t a b c d e f g h t1 t2 t3 t4 t5 t6 t7 t8 e1 e2 e3 e4 e5 e6 e7 e8 = rw (e8, e7, e6, e5, e4, e3, e2, e1) (simp append_assoc)
 
+-- seven parts that are written one in front of another
+pub in_front : (a b c d e f g body t1 t2 t3 t4 t5 t6 t7 : List ℕ)
+    → t1 ≡ g ++ body → t2 ≡ f ++ t1 → t3 ≡ e ++ t2 → t4 ≡ d ++ t3 → t5 ≡ c ++ t4 → t6 ≡ b ++ t5 → t7 ≡ a ++ t6
+    → t7 ≡ a ++ (b ++ (c ++ (d ++ (e ++ (f ++ (g ++ body))))))
+in_front a b c d e f g body t1 t2 t3 t4 t5 t6 t7 e1 e2 e3 e4 e5 e6 e7 = rw (e7, e6, e5, e4, e3, e2, e1) refl
+
 apart : (f m a d e l n b : List ℕ) → f ++ (m ++ (a ++ (d ++ (e ++ (l ++ (n ++ b)))))) ≡ ((((f ++ m) ++ ((a ++ d) ++ e)) ++ l) ++ n) ++ b
 apart f m a d e l n b = simp append_assoc
 

@@ -1,5 +1,5 @@
 //! The text of responses (RFC 9112, section 4).
-ghost use Rattle.std.specs.Prelude.{◌≡◌, ◌≤◌, ◌+◌, ◌++◌, codes, decimal, length, OnOk, OnErr, true};
+ghost use Rattle.std.specs.Prelude.{◌≡◌, ◌≤◌, ◌+◌, ◌++◌, codes, decimal, drop, length, OnOk, OnErr, true};
 ghost use Rattle.std.specs.Vec.{vec_len, vec_capacity};
 ghost use Rattle.kds_head.specs.Response.{line, reason_phrase, content_type, connection, is_status, IsResponse, response_text};
 
@@ -7,8 +7,8 @@ use itoa::Buffer;
 use kds_base::{Memory, Octets};
 use std::alloc::Global;
 
-/// Room for all of a response but its body.
-const FRONT_BYTES: usize = 256;
+/// Room in bytes for all of a response but its body.
+pub const FRONT_BYTES: usize = 256;
 
 /// The first line of a response of this status.
 fn status_line(status: u16) -> &'static [u8]
@@ -106,4 +106,39 @@ pub fn response(
     let added = add_response(status, body, json, close, &mut text);
     *to = Octets::unshared(text);
     added
+}
+
+/// Writes a piece right in front of a place, and gives the place where it begins.
+fn write_before(text: &mut [u8], at: usize, piece: &[u8]) -> usize
+    requires within { at ≤ length text.old }
+    requires room { length piece.now ≤ at }
+    ensures begins { result + length piece.now ≡ at }
+    ensures text { drop result text.new ≡ piece.now ++ drop at text.old }
+    ensures len { length text.new ≡ length text.old }
+{
+    let start = at - piece.len();
+    text[start..at].copy_from_slice(piece);
+    start
+}
+
+/// Writes what a response has before its body right in front of the body, which stands in the text from a place on to
+/// the end, and gives the place where the response begins. So no body is copied. Conditions: status and body are those
+/// of a response (see `response`), and at least `FRONT_BYTES` bytes stand before the body.
+#[tactic(auto, unfolding(crate::specs::Response::response_text))]
+pub fn put_front(status: u16, json: bool, close: bool, text: &mut [u8], body: usize) -> usize
+    requires response { IsResponse status (drop body text.old) json close }
+    requires room { 256 ≤ body }
+    requires within { body ≤ length text.old }
+    ensures begins { result ≤ length text.new }
+    ensures text { drop result text.new ≡ response_text status (drop body text.old) json close }
+{
+    let mut digits = Buffer::new();
+    let size = text.len() - body;
+    let at = write_before(text, body, b"\r\n".as_slice());
+    let at = write_before(text, at, connection_line(close));
+    let at = write_before(text, at, b"\r\n".as_slice());
+    let at = write_before(text, at, digits.format(size).as_bytes());
+    let at = write_before(text, at, b"Content-Length: ".as_slice());
+    let at = write_before(text, at, content_type_line(json));
+    write_before(text, at, status_line(status))
 }

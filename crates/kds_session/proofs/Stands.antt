@@ -346,10 +346,11 @@ answer_told s past a st waits new e = subst (λ (n : SessionState). StandsFor n 
     by_waiting LastAnswer _ n v w l t = absurd (cc v)
 
 -- the session is written to at the end
-pub told_state : (s : SessionState) (out text : List ℕ) (close : Bool) (d : Standing) (r : ℕ × List ℕ) → out ≡ s.output ++ text → text ≡ answered r close → close ≡ is_last s.waiting → d ≡ standing_after close s.standing
+pub told_state : (s : SessionState) (out : List ℕ) (close : Bool) (d : Standing) (r : ℕ × List ℕ)
+    → out ≡ s.output ++ answered r close → close ≡ is_last s.waiting → d ≡ standing_after close s.standing
     → (let new : SessionState = record s { output = out; waiting = Nothing; standing = d } in new) ≡ record s { output = s.output ++ answered r (is_last s.waiting); waiting = Nothing; standing = standing_after (is_last s.waiting) s.standing }
-told_state s out text close d r eo et ec ed =
-    ap (λ (z : List ℕ). let y : SessionState = record s { output = z; waiting = Nothing; standing = d } in y) (eo ∙ ap (λ z. s.output ++ z) (et ∙ ap (λ b. answered r b) ec))
+told_state s out close d r eo ec ed =
+    ap (λ (z : List ℕ). let y : SessionState = record s { output = z; waiting = Nothing; standing = d } in y) (eo ∙ ap (λ b. s.output ++ answered r b) ec)
     ∙ ap (λ (z : Standing). let y : SessionState = record s { output = s.output ++ answered r (is_last s.waiting); waiting = Nothing; standing = z } in y) (ed ∙ ap (λ b. standing_after b s.standing) ec)
 
 -- ---- less is to come

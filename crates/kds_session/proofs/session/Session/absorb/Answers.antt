@@ -1,8 +1,6 @@
-use Rattle.std.proofs.Common.{◌≢◌, ◌∙◌, sym, ap, subst, true}
-use Rattle.kds_head.specs.Response.{response_text}
+use Rattle.std.proofs.Common.{◌≢◌, ◌∙◌, sym, ap, subst}
 use Rattle.kds_reply.specs.Replies.{reply_of}
 use Rattle.kds_session.specs.declared.state.Waiting.TheVariants.{Nothing}
-use Rattle.kds_session.specs.Text.{answered}
 use Rattle.kds_session.specs.States.{SessionState}
 use Rattle.kds_session.specs.Standing.{StandsFor, to_come}
 use Rattle.kds_session.proofs.Stands.{answer_told, told_state, told_still}
@@ -12,9 +10,9 @@ pub returns-clause-stands : goal.returns-clause-stands
 returns-clause-stands c = λ past st.
     let waits = subst (λ (s : SessionState). s.waiting ≢ Nothing) (sym c.self.view_is) c.requires.waits in
     let stands = subst (λ (s : SessionState). StandsFor s past) (sym c.self.view_is) st in
-    let text_is = ap (λ b. response_text c.in_ok-status.status b true c.is_last-close.result) c.as_slice.ensures ∙ ap (λ r. answered r c.is_last-close.result) c.in_ok-status.ensures in
     answer_told _ past c.args.answer.now stands waits _
-    (told_state _ c.respond.new.self (response_text c.in_ok-status.status c.as_slice.result.now true c.is_last-close.result) c.is_last-close.result _ (reply_of c.args.answer.now) c.in_ok-respond.ensures.ok text_is c.is_last-close.ensures c.standing_after-self-inside.ensures)
+    (told_state _ c.answer.new.self c.is_last-close.result _ (reply_of c.args.answer.now) c.in_ok-answer.ensures.ok
+    c.is_last-close.ensures c.standing_after-self-inside.ensures)
 
 pub returns-clause-as_much : goal.returns-clause-as_much
 returns-clause-as_much c =
