@@ -4,18 +4,21 @@ import contextlib
 import copy
 import importlib.machinery
 import importlib.util
+import io
 import json
 import pathlib
+import resource
 import signal
 import socket
 import subprocess
 import sys
 import tempfile
 import threading
+import time
 import unittest
 
 import suite
-from server import ROOT, free_port, request, responses, serving
+from server import KDS, ROOT, free_port, request, responses, serving
 
 # what differs in a replay: tokens and moments
 LEFT_OUT = {'ShardIterator', 'NextShardIterator', 'NextToken', 'ApproximateArrivalTimestamp', 'StreamCreationTimestamp', 'MillisBehindLatest'}
@@ -87,7 +90,7 @@ class Recording(unittest.TestCase):
                 finally:
                     suite.serving = given
                 self.assertTrue(result.wasSuccessful())
-            done = subprocess.run([ROOT / 'kds', 'replay'], stdin=path.open('rb'), capture_output=True, check=False)
+            done = subprocess.run([KDS, 'replay'], stdin=path.open('rb'), capture_output=True, check=False)
             self.assertEqual((0, b''), (done.returncode, done.stderr))
             lines = done.stdout.splitlines()
             self.assertEqual(len(witness.answers), len(lines))
@@ -95,8 +98,8 @@ class Recording(unittest.TestCase):
             for (operation, status, body), line in zip(witness.answers, lines):
                 head, _, text = line.partition(b' ')
                 self.assertEqual((status, reply(body)), (int(head), reply(text)), operation)
-            journal = subprocess.run([ROOT / 'kds', 'replay', '--journal'], stdin=path.open('rb'), capture_output=True, check=True).stdout
-            verdict = subprocess.run([ROOT / 'kds', 'audit'], input=journal, capture_output=True, check=False)
+            journal = subprocess.run([KDS, 'replay', '--journal'], stdin=path.open('rb'), capture_output=True, check=True).stdout
+            verdict = subprocess.run([KDS, 'audit'], input=journal, capture_output=True, check=False)
             self.assertEqual((0, b'sound %d\n' % (journal.count(b'\n') - 2)), (verdict.returncode, verdict.stdout))
 
 
@@ -154,8 +157,8 @@ class Beside(unittest.TestCase):
         self.assertEqual(self.lines(), [b'ListStreams {}'])
 
 
-class Command(unittest.TestCase):
-    """The program of the recorder: it never empties a file, and says in a line why there is no recording."""
+class Program(unittest.TestCase):
+    """The program of the recorder."""
 
     def setUp(self):
         folder = tempfile.TemporaryDirectory()
@@ -173,6 +176,10 @@ class Command(unittest.TestCase):
         out, err = started.communicate(timeout=30)
         self.assertEqual((started.returncode, out.removeprefix('recording\n'), err.count('\n')), (1, '', 1), err)
         self.assertIn(said, err)
+
+
+class Command(Program):
+    """It never empties a file, and says in a line why there is no recording."""
 
     def test_a_file_that_is_there(self):
         self.path.write_text('1 api ListStreams {}\n')
@@ -218,3 +225,174 @@ class Command(unittest.TestCase):
             else:
                 self.assert_refused(started, 'is gone')
             self.assertRegex(path.read_bytes(), rb'\A[0-9]+ api ListStreams {}\n\Z')
+
+
+LISTED = b'HTTP/1.1 200 OK\r\nContent-Length: 44\r\n\r\n{"HasMoreStreams":false,"StreamNames":[]}   '
+
+
+class Amiss(Program):
+    """What would leave a file that isn't the session, or no end: one line, status 1, and whole lines up to there."""
+
+    def recording(self, server, **words):
+        """The program, recording, and a connection through it."""
+        started = subprocess.Popen([ROOT / 'clients' / 'record', str(self.port), str(server), self.path], stdin=subprocess.DEVNULL, stdout=subprocess.PIPE, stderr=subprocess.PIPE, text=True, **words)
+        self.addCleanup(started.kill)
+        self.assertEqual(started.stdout.readline(), 'recording\n')
+        return started
+
+    def ask(self, operation, body):
+        """The status of a request on a new connection; None where there is none, or it ended without a response."""
+        try:
+            with socket.create_connection(('127.0.0.1', self.port), timeout=60) as connection:
+                connection.sendall(request(operation, body))
+                return next((status for status, _ in responses(connection, 1)), None)
+        except OSError:
+            return None
+
+    def assert_replays(self, wanted):
+        """The file has whole lines, and its replay answers them so."""
+        self.assertRegex(self.path.read_bytes(), rb'\A(?:[0-9]+ api [A-Za-z]+ .*\n)*\Z')
+        done = subprocess.run([KDS, 'replay'], stdin=self.path.open('rb'), capture_output=True, check=False)
+        self.assertEqual((done.returncode, done.stderr, [int(line[:3]) for line in done.stdout.splitlines()]), (0, b'', wanted))
+
+    @contextlib.contextmanager
+    def listener(self, answers):
+        """A server that answers so many requests by an empty list of streams, and then nothing, and its port."""
+        left = [answers]
+
+        def serve(client):
+            with contextlib.suppress(OSError):
+                while client.recv(65_536):
+                    if left[0] > 0:
+                        left[0] -= 1
+                        client.sendall(LISTED)
+
+        def accept():
+            with contextlib.suppress(OSError):
+                while True:
+                    threading.Thread(target=serve, args=(door.accept()[0],), daemon=True).start()
+
+        with socket.create_server(('127.0.0.1', 0)) as door:
+            threading.Thread(target=accept, daemon=True).start()
+            yield door.getsockname()[1]
+            door.shutdown(socket.SHUT_RDWR)
+
+    def in_process(self, target):
+        """What the recorder's command says where it has less patience, and its status."""
+        signs, given = [(sign, signal.getsignal(sign)) for sign in (signal.SIGINT, signal.SIGTERM)], record.SILENCE
+        record.SILENCE, said = 1, io.StringIO()
+        try:
+            with contextlib.redirect_stderr(said), contextlib.redirect_stdout(io.StringIO()):
+                return record.main([str(self.port), str(target), str(self.path)]), said.getvalue()
+        finally:
+            record.SILENCE = given
+            for sign, handler in signs:
+                signal.signal(sign, handler)
+
+    def test_one_port_for_both(self):
+        self.assert_refused(self.start(self.port, self.port, self.path), f'PORT and TARGET are both {self.port}')
+        self.assertFalse(self.path.exists())
+
+    def test_streams_that_are_there(self):
+        with serving(members=1) as server:
+            with server.connect() as connection:
+                connection.sendall(request('CreateStream', b'{"StreamName":"old","ShardCount":1}', close=True))
+                self.assertEqual([status for status, _ in responses(connection, 1)], [200])
+            self.assert_refused(self.start(self.port, server.port, self.path), 'has the streams old already')
+        self.assertFalse(self.path.exists())
+
+    def test_a_server_that_is_started_anew(self):
+        port = free_port()
+        with serving(members=2, port=port):
+            started = self.recording(port)
+            self.assertEqual([self.ask('CreateStream', b'{"StreamName":"a","ShardCount":1}'), self.ask('PutRecord', b'{"StreamName":"a","PartitionKey":"a","Data":""}')], [200, 200])
+        with serving(members=2, port=port):
+            # the first may meet the old connection's end
+            self.assertEqual({self.ask('ListStreams', b'{}'), self.ask('ListStreams', b'{}')}, {None})
+            self.assert_refused(started, 'the server has no streams, and the lines make the streams a')
+        self.assert_replays([200, 200])
+
+    def test_a_client_that_goes_past_the_recorder(self):
+        with serving(members=2) as server:
+            started = self.recording(server.port)
+            self.assertEqual([self.ask('CreateStream', b'{"StreamName":"%s","ShardCount":1}' % name) for name in (b'a', b'b')], [200, 200])
+            self.assertEqual([self.ask('DeleteStream', b'{"StreamName":"b"}'), self.ask('DeleteStream', b'{"StreamName":"b"}')], [200, 400])
+            time.sleep(record.UNUSED + 0.5)
+            self.assertEqual(self.ask('ListStreams', b'{}'), 200)
+            with server.connect() as connection:
+                connection.sendall(request('CreateStream', b'{"StreamName":"past","ShardCount":1}', close=True))
+                self.assertEqual([status for status, _ in responses(connection, 1)], [200])
+            time.sleep(record.UNUSED + 0.5)
+            self.assertIsNone(self.ask('PutRecord', b'{"StreamName":"a","PartitionKey":"a","Data":""}'))
+            self.assert_refused(started, 'the server has the streams a, past, and the lines make the streams a')
+        self.assert_replays([200, 200, 200, 400, 200])
+
+    def test_a_full_disk(self):
+        """The file may have 8,192 bytes: what was answered is in it, and the server has done no more."""
+        with serving(members=2) as server:
+            started = self.recording(server.port, preexec_fn=lambda: resource.setrlimit(resource.RLIMIT_FSIZE, (8192, 8192)))
+            statuses = [self.ask('CreateStream', b'{"StreamName":"a","ShardCount":1}')]
+            statuses += [self.ask('PutRecord', b'{"StreamName":"a","PartitionKey":"a","Data":"%s"}' % (b'QUFB' * 100)) for _ in range(40)]
+            self.assert_refused(started, 'can not be written: File too large')
+            answered = statuses.count(200)
+            self.assertEqual((statuses[:answered], set(statuses[answered:])), ([200] * answered, {None}))
+            with server.connect() as connection:
+                connection.sendall(request('PutRecord', b'{"StreamName":"a","PartitionKey":"a","Data":""}'))
+                self.assertEqual(json.loads(responses(connection, 1)[0][1])['SequenceNumber'], str(answered))
+        self.assert_replays([200] * answered)
+
+    def test_a_server_that_never_answers(self):
+        with self.listener(0) as target:
+            self.assertEqual(self.in_process(target), (1, f'record: the server at 127.0.0.1:{target} has not answered for 1 seconds\n'))
+            self.assertFalse(self.path.exists())
+            started = self.start(self.port, target, self.path)
+            time.sleep(1)
+            started.send_signal(signal.SIGINT)
+            self.assert_refused(started, 'interrupted before the recording began')
+        self.assertFalse(self.path.exists())
+
+    def test_a_server_that_falls_silent(self):
+        """With less patience it ends by itself, and an interrupt ends it in any case. The file has what was answered."""
+        asked = request('ListStreams', b'{}')
+        for by_interrupt in (True, False):
+            self.path, self.port = self.path.with_suffix(f'.{by_interrupt}'), free_port()
+            with self.listener(3) as target, contextlib.ExitStack() as stack:
+                clients = []
+
+                def ask():
+                    for _ in range(2):
+                        clients.append(stack.enter_context(socket.create_connection(('127.0.0.1', self.port), timeout=60)))
+                        clients[-1].sendall(asked)
+                        clients[-1].recv(1) if len(clients) == 1 else None
+
+                if by_interrupt:
+                    started = self.recording(target)
+                    ask()
+                    time.sleep(0.5)
+                    for sign in (signal.SIGTERM, signal.SIGINT, signal.SIGTERM):
+                        started.send_signal(sign)
+                    begin = time.monotonic()
+                    self.assertEqual((*started.communicate(timeout=30), started.returncode), ('', '', 0))
+                    self.assertLess(time.monotonic() - begin, 10)
+                else:
+                    threading.Timer(1, ask).start()
+                    self.assertEqual(self.in_process(target), (1, f'record: the server at 127.0.0.1:{target} has not answered for 1 seconds; the file is whole up to there\n'))
+            self.assertRegex(self.path.read_bytes(), rb'\A[0-9]+ api ListStreams {}\n\Z')
+
+    def test_another_server(self):
+        """What listens there isn't the program at all."""
+        with socket.create_server(('127.0.0.1', 0)) as door:
+            def answer():
+                client, _ = door.accept()
+                with client:
+                    client.recv(1)
+                    client.sendall(b'SSH-2.0-x\r\n\r\n')
+
+            threading.Thread(target=answer, daemon=True).start()
+            self.assert_refused(self.start(self.port, door.getsockname()[1], self.path), 'did not answer as `kds serve` does')
+        self.assertFalse(self.path.exists())
+
+    def test_a_line_for_words(self):
+        for words in ((), ('--x',), ('0', '1', 'x'), ('1', '2', 'x', 'y')):
+            out, err = self.start(*words).communicate(timeout=30)
+            self.assertEqual((out, err.count('\n'), err.startswith('usage: clients/record PORT TARGET FILE')), ('', 1, True), words)

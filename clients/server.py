@@ -1,5 +1,6 @@
 """The built program as a server for the clients of this folder."""
 import contextlib
+import os
 import pathlib
 import select
 import signal
@@ -8,6 +9,8 @@ import subprocess
 import time
 
 ROOT = pathlib.Path(__file__).resolve().parent.parent
+# The program: one that is named, or the built one, which `kds` builds first where that is due.
+KDS = pathlib.Path(os.environ.get('KDS') or ROOT / 'kds').resolve()
 JSON = 'application/x-amz-json-1.1'
 # The seconds after which the server ends a connection that sends nothing, and one that takes nothing of its answer (docs/clients.md).
 IDLE, FULL = 10, 30
@@ -27,11 +30,11 @@ def heed_interrupts():
 class Server:
     """A process of `kds serve`, and where it listens."""
 
-    def __init__(self, members):
+    def __init__(self, members, port=None):
         self.members = members
-        self.port = free_port()
+        self.port = port or free_port()
         self.process = subprocess.Popen(
-            [ROOT / 'kds', 'serve', str(self.port), str(members)],
+            [KDS, 'serve', str(self.port), str(members)],
             stdin=subprocess.DEVNULL,
             stdout=subprocess.PIPE,
             stderr=subprocess.PIPE,
@@ -77,8 +80,8 @@ class Server:
 
 
 @contextlib.contextmanager
-def serving(members):
-    server = Server(members)
+def serving(members, port=None):
+    server = Server(members, port)
     try:
         yield server
     finally:
