@@ -18,7 +18,7 @@ import time
 import unittest
 
 import suite
-from server import KDS, ROOT, free_port, request, responses, serving
+from server import ROOT, free_port, request, responses, serving
 
 # what differs in a replay: tokens and moments
 LEFT_OUT = {'ShardIterator', 'NextShardIterator', 'NextToken', 'ApproximateArrivalTimestamp', 'StreamCreationTimestamp', 'MillisBehindLatest'}
@@ -90,7 +90,7 @@ class Recording(unittest.TestCase):
                 finally:
                     suite.serving = given
                 self.assertTrue(result.wasSuccessful())
-            done = subprocess.run([KDS, 'replay'], stdin=path.open('rb'), capture_output=True, check=False)
+            done = subprocess.run([ROOT / 'kds', 'replay'], stdin=path.open('rb'), capture_output=True, check=False)
             self.assertEqual((0, b''), (done.returncode, done.stderr))
             lines = done.stdout.splitlines()
             self.assertEqual(len(witness.answers), len(lines))
@@ -98,8 +98,8 @@ class Recording(unittest.TestCase):
             for (operation, status, body), line in zip(witness.answers, lines):
                 head, _, text = line.partition(b' ')
                 self.assertEqual((status, reply(body)), (int(head), reply(text)), operation)
-            journal = subprocess.run([KDS, 'replay', '--journal'], stdin=path.open('rb'), capture_output=True, check=True).stdout
-            verdict = subprocess.run([KDS, 'audit'], input=journal, capture_output=True, check=False)
+            journal = subprocess.run([ROOT / 'kds', 'replay', '--journal'], stdin=path.open('rb'), capture_output=True, check=True).stdout
+            verdict = subprocess.run([ROOT / 'kds', 'audit'], input=journal, capture_output=True, check=False)
             self.assertEqual((0, b'sound %d\n' % (journal.count(b'\n') - 2)), (verdict.returncode, verdict.stdout))
 
 
@@ -252,7 +252,7 @@ class Amiss(Program):
     def assert_replays(self, wanted):
         """The file has whole lines, and its replay answers them so."""
         self.assertRegex(self.path.read_bytes(), rb'\A(?:[0-9]+ api [A-Za-z]+ .*\n)*\Z')
-        done = subprocess.run([KDS, 'replay'], stdin=self.path.open('rb'), capture_output=True, check=False)
+        done = subprocess.run([ROOT / 'kds', 'replay'], stdin=self.path.open('rb'), capture_output=True, check=False)
         self.assertEqual((done.returncode, done.stderr, [int(line[:3]) for line in done.stdout.splitlines()]), (0, b'', wanted))
 
     @contextlib.contextmanager

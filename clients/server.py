@@ -9,11 +9,15 @@ import subprocess
 import time
 
 ROOT = pathlib.Path(__file__).resolve().parent.parent
-# The program: one that is named, or the built one, which `kds` builds first where that is due.
-KDS = pathlib.Path(os.environ.get('KDS') or ROOT / 'kds').resolve()
 JSON = 'application/x-amz-json-1.1'
 # The seconds after which the server ends a connection that sends nothing, and one that takes nothing of its answer (docs/clients.md).
 IDLE, FULL = 10, 30
+
+
+def take_checked():
+    """Has `./kds` run the program that is to be checked (help/checked), which is built first where that is due."""
+    done = subprocess.run([ROOT / 'help' / 'checked'], stdout=subprocess.PIPE, text=True, check=True)
+    os.environ['KDS'] = done.stdout.rstrip('\n')
 
 
 def free_port():
@@ -31,10 +35,12 @@ class Server:
     """A process of `kds serve`, and where it listens."""
 
     def __init__(self, members, port=None):
+        if 'KDS' not in os.environ:
+            take_checked()
         self.members = members
         self.port = port or free_port()
         self.process = subprocess.Popen(
-            [KDS, 'serve', str(self.port), str(members)],
+            [ROOT / 'kds', 'serve', str(self.port), str(members)],
             stdin=subprocess.DEVNULL,
             stdout=subprocess.PIPE,
             stderr=subprocess.PIPE,
