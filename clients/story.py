@@ -1,0 +1,498 @@
+"""A story by names: the words of the logs of consumers become lines of a schedule (docs/incidents.md, "Write the log down"). What no log has, the numbers of
+actors, workers, shards, tenures, counters, positions and records, is asked of a `./kds replay` that runs beside, line by line: a command that is refused
+changes nothing, so a guess costs nothing."""
+import json
+import pathlib
+import re
+import subprocess
+import tempfile
+
+ROOT = pathlib.Path(__file__).resolve().parent.parent
+KINDS = ('api', 'raw', 'worker', 'step', 'stop', 'hand')
+NAME, NUMBER, KEY = re.compile(r'[!-~]{1,200}'), re.compile(r'0|[1-9]\d{0,127}'), re.compile(r'(0|[1-9]\d*)/(0|[1-9]\d*)')
+# What a read asks for where the log doesn't say how many records came, as the Client Library does.
+READ_LIMIT, MOST_READ = 1000, 10_000
+# How many records one PutRecords takes, and how many a line of a story may stand for.
+MOST_PUT, MOST_RECORDS = 500, 100_000
+# The replay's own numbers are below 2^64. Those of the service have 56 digits.
+OWN = 2**64
+END = 'end'
+NO_KIND = f'behind the moment stands no {", ".join(KINDS[:-1])} or {KINDS[-1]}'
+FORMS = {
+    'create': 'HOST create SHARD [latest]', 'take': 'HOST take SHARD', 'open': 'HOST open SHARD', 'fetch': 'HOST fetch SHARD [N]',
+    'process': 'HOST process SHARD [N] [to NUMBER]', 'checkpoint': 'HOST checkpoint SHARD [at NUMBER | at end]', 'renew': 'HOST renew SHARD',
+    'release': 'HOST release SHARD', 'hand': 'HOST hand off SHARD', 'delete': 'HOST delete SHARD', 'restarts': 'HOST restarts',
+    'stream': 'stream NAME SHARD ..', 'split': 'split SHARD LOW HIGH [at HASHKEY]', 'merge': 'merge SHARD SHARD CHILD', 'records': 'records SHARD N [to NUMBER]',
+}
+OF_STREAMS = ('stream', 'split', 'merge', 'records')
+# How many words each raw command has behind its own name when it names a shard and leaves out what the replay knows.
+BY_SHARD = {'make': (1, 3), 'take': (1, 2), 'open': (1, 1), 'read': (1, 2), 'give': (1, 1), 'mark': (1, 2), 'renew': (1, 1), 'free': (1, 1), 'cut': (1, 1)}
+
+
+class Unreadable(Exception):
+    """A line that can't be, with the reason."""
+
+
+def shown(text):
+    """A piece of a file in a message: printable, and not long."""
+    kept = ''.join(one if ' ' <= one <= '~' else '?' for one in text)
+    return kept if len(kept) <= 80 else f'{kept[:80]} ..'
+
+
+def is_by_names(rest):
+    """Whether a line, behind its moment, is one of a story: it names what a replay has to number."""
+    words = rest.split()
+    if not words or words[0] not in KINDS:
+        return True
+    return words[0] == 'raw' and (len(words) > 1 and not words[1].isdigit() or len(words) > 3 and words[2] in BY_SHARD and is_shard(words[2], words[3:]))
+
+
+def is_shard(verb, words):
+    """Whether a raw command names a shard where it could leave numbers to the replay."""
+    if not NUMBER.fullmatch(words[0]) and not KEY.fullmatch(words[0]):
+        return True
+    return bool(KEY.fullmatch(words[0])) and (verb not in ('make', 'take', 'cut') or verb in ('take', 'cut') and not any(NUMBER.fullmatch(it) for it in words[1:]))
+
+
+class Replay:
+    """`./kds replay`, asked line by line."""
+
+    def __init__(self):
+        self.errors = tempfile.TemporaryFile()
+        self.child = subprocess.Popen([str(ROOT / 'kds'), 'replay'], stdin=subprocess.PIPE, stdout=subprocess.PIPE, stderr=self.errors)
+
+    def __enter__(self):
+        return self
+
+    def __exit__(self, *_):
+        try:
+            self.child.stdin.close()
+        except OSError:
+            pass
+        self.child.stdout.close()
+        self.child.wait()
+        self.errors.close()
+
+    def ask(self, line):
+        """The answer to one line."""
+        try:
+            self.child.stdin.write(line.encode('utf-8', 'surrogateescape') + b'\n')
+            self.child.stdin.flush()
+            answer = self.child.stdout.readline()
+        except OSError:
+            answer = b''
+        if not answer.endswith(b'\n'):
+            self.child.wait()
+            self.errors.seek(0)
+            said = self.errors.read(2000).decode('utf-8', 'replace').strip().splitlines()
+            raise Unreadable('the replay ended here: ' + shown('; '.join(re.sub(r'^line \d+: ', '', it) for it in said[:1]) or f'status {self.child.returncode}'))
+        return answer[:-1].decode('utf-8', 'surrogateescape')
+
+
+class Tenure:
+    """What a story knows of one: its counter is the last that its own process saw."""
+
+    def __init__(self, no, key, worker, counter, start):
+        self.no, self.key, self.worker, self.counter = no, key, worker, counter
+        self.start = int(start) if start.isdigit() else 0
+        self.reach = self.start + 1 if start.isdigit() else 0
+        self.waiting, self.delivered = [], []
+
+
+class Names:
+    """The numbers that stand for the names of a story."""
+
+    def __init__(self, taken):
+        # actors that raw lines name by number are their own
+        self.taken, self.hosts, self.actors, self.workers = set(taken), {}, {}, {}
+        self.streams, self.own, self.shards, self.used, self.bound = {}, set(), {}, {}, {}
+
+    def actor(self, host, anew=False):
+        """The process that a host is now."""
+        if anew or host not in self.hosts:
+            number = next((it for it in range(1, 1000) if it not in self.taken), None)
+            if number is None:
+                raise Unreadable('there are more than 999 processes in this story')
+            self.taken.add(number)
+            self.hosts[host] = number
+            self.actors[number] = host
+        return self.hosts[host]
+
+    def worker(self, host):
+        return f'w{self.workers.setdefault(host, len(self.workers) + 1)}'
+
+    def host_of(self, worker):
+        return next((host for host, number in self.workers.items() if f'w{number}' == worker), worker)
+
+    def declare(self, stream, name, no):
+        """A shard gets the name that the story has for it."""
+        if (stream, name) in self.shards:
+            raise Unreadable(f'the shard {name} is there already: expected a new name')
+        key = f'{self.streams[stream]}/{no}'
+        self.shards[stream, name] = self.used_as(key, name)
+        self.own.add(stream)
+
+    def used_as(self, key, name):
+        self.used[key] = name
+        return key
+
+    def key(self, word):
+        """The KEY of a shard, which is named with its stream or without it."""
+        if KEY.fullmatch(word):
+            return word
+        stream, _, name = word.rpartition('/')
+        found = [key for (of, one), key in self.shards.items() if one == name and stream in ('', of)]
+        plain = re.fullmatch(r'shardId-(\d{1,12})', name)
+        # a stream whose shards no line named has those of the replay itself
+        found += [f'{no}/{int(plain[1])}' for of, no in self.streams.items() if plain and of not in self.own and stream in ('', of)]
+        if len(found) > 1:
+            raise Unreadable(f'{name} is a shard of several streams: expected its stream too, as {next(iter(self.streams))}/{name}')
+        if not found:
+            raise Unreadable(f'there is no shard {shown(word)} at this line: expected one that a stream, split or merge line, or an api line, makes before it')
+        return self.used_as(found[0], name)
+
+    def stream_of(self, key):
+        return next(name for name, no in self.streams.items() if str(no) == key.split('/')[0])
+
+    def bind(self, key, number, record):
+        """A number of the log is that of a record."""
+        kept = self.bound.setdefault(key, {})
+        for other, at in kept.items():
+            if other != number and (at == record or (other < number) != (at < record)):
+                raise Unreadable(f'{number} would be record {record}, and {other} is record {at}: expected numbers of a shard to rise with its records')
+        kept[number] = record
+
+    def table(self):
+        """The table of names, which viewer/journal.html and examples/*.awk take."""
+        lines = ['names 1'] + [f'worker w{no} {host}' for host, no in self.workers.items()] + [f'actor {no} {host}' for no, host in self.actors.items()]
+        lines += [f'shard {key} {name}' for key, name in sorted(self.used.items(), key=lambda it: tuple(map(int, it[0].split('/'))))]
+        for key, kept in self.bound.items():
+            lines += [f'record {key.split("/")[0]}/{record} {number}' for number, record in sorted(kept.items()) if number >= OWN]
+        return '\n'.join(lines) + '\n'
+
+
+class Story:
+    """Makes a schedule, line by line. `told` has what was refused and what doesn't agree with the log, each with its line."""
+
+    def __init__(self, replay, taken):
+        self.replay, self.names = replay, Names(taken)
+        self.lines, self.answers, self.told, self.holds, self.tenures, self.counters, self.refused_takes = [], [], [], {}, {}, {}, {}
+        self.at, self.where, self.text = 0, '', ''
+
+    # ---- lines of the schedule
+
+    def keep(self, line, answer):
+        self.lines.append(line)
+        self.answers.append(answer)
+        if answer.startswith('refused') and is_by_names(self.text):
+            self.tell(f'{" ".join(self.text.split())}: {answer}{self.meaning(answer)}')
+        return answer
+
+    def tell(self, what):
+        self.told.append(f'{self.where}: {what}')
+
+    def meaning(self, answer):
+        """A refusal's value by its name."""
+        _, name, *value = answer.split(' ')
+        tenure = self.tenures.get(value[0]) if name == 'Lost' else None
+        if name == 'Lost' and value[0] == '0':
+            return ', nobody has the lease'
+        if tenure:
+            return f', {self.names.host_of(tenure.worker)} has the lease'
+        return f', {self.names.used[value[0]]}' if name == 'ParentsOpen' and value[0] in self.names.used else ''
+
+    def raw(self, by, form, *guesses):
+        """Keeps a raw line. What follows `form` are guesses, which a refusal corrects."""
+        answer = ''
+        for _ in range(3):
+            line = f'{self.at} raw {by} {form(*guesses)}'
+            answer = self.replay.ask(line)
+            found = re.fullmatch(r'refused (?:Moved|OutOfPlace) (\d+)', answer)
+            if not found or not guesses or guesses[0] == found[1]:
+                break
+            guesses = (found[1], *guesses[1:])
+        self.learn(by, form(*guesses), answer)
+        return self.keep(line, answer)
+
+    def learn(self, by, command, answer):
+        """What an accepted raw command changed."""
+        verb, first, *more = command.split(' ') + ['', '']
+        tenure = self.tenures.get(first)
+        if not answer.startswith('ok'):
+            if verb == 'take':
+                self.refused_takes[by, first] = f'its take, {self.where.rsplit(": ", 1)[-1]}, was {answer}'
+        elif verb == 'make':
+            self.counters[first] = '0'
+        elif verb == 'take':
+            _, _, no, _, counter, _, start = answer.split(' ')
+            self.counters[first] = counter
+            self.tenures[no] = self.holds[by, first] = Tenure(no, first, more[1], counter, start)
+        elif verb == 'read':
+            _, _, reach, _, *numbers = answer.split(' ')
+            tenure.reach = int(reach)
+            tenure.waiting.append([int(it) for it in numbers])
+        elif verb == 'give':
+            tenure.delivered += tenure.waiting.pop(0)
+        elif found := re.fullmatch(r'ok counter (\d+)', answer):
+            tenure.counter = self.counters[tenure.key] = found[1]
+
+    def api(self, operation, body):
+        """Keeps a request that the story needs, and gives its reply."""
+        line = f'{self.at} api {operation} {json.dumps(body, separators=(",", ":"))}'
+        answer = self.replay.ask(line)
+        if not answer.startswith('200'):
+            raise Unreadable(f'{operation} is answered {shown(answer)}')
+        self.keep(line, answer)
+        self.follow(operation, body)
+        return json.loads(answer[4:] or '{}')
+
+    def follow(self, operation, body):
+        """Streams count from 1 in the order of their creation."""
+        if operation == 'CreateStream':
+            self.names.streams[body['StreamName']] = self.made = getattr(self, 'made', 0) + 1
+
+    def listed(self, stream, after=None):
+        """The first shard behind one, with its range of hash keys, or all. It is asked, and no line of the schedule."""
+        body = {'StreamName': stream} | ({'ExclusiveStartShardId': f'shardId-{after:012}'} if after is not None else {})
+        answer = self.replay.ask(f'{self.at} api ListShards {json.dumps(body)}')
+        shards = json.loads(answer[4:])['Shards'] if answer.startswith('200 ') else []
+        return [(int(it['ShardId'][8:]), int(it['HashKeyRange']['StartingHashKey']), int(it['HashKeyRange']['EndingHashKey'])) for it in shards]
+
+    def range_of(self, key):
+        no = int(key.split('/')[1])
+        found = self.listed(self.names.stream_of(key), no - 1 if no else None)[:1]
+        if not found or found[0][0] != no:
+            raise Unreadable(f'the stream lists no shard {no} at this line')
+        return found[0][1:]
+
+    def newest(self, stream, count):
+        """The numbers of the newest shards of a stream."""
+        found = page = self.listed(stream)
+        while page:
+            found, page = page, self.listed(stream, page[-1][0])
+        return [no for no, _, _ in found[-count:]] if len(found) >= count else list(range(found[-1][0] - count + 1, found[-1][0] + 1))
+
+    # ---- words of streams
+
+    def stream(self, words):
+        if len(words) < 2 or len(set(words[1:])) < len(words) - 1:
+            self.expected('stream')
+        self.api('CreateStream', {'StreamName': words[0], 'ShardCount': len(words) - 1})
+        for no, name in enumerate(words[1:]):
+            self.names.declare(words[0], name, no)
+
+    def split(self, words):
+        if len(words) not in (3, 5) or len(words) == 5 and (words[3] != 'at' or not NUMBER.fullmatch(words[4])):
+            self.expected('split')
+        key = self.names.key(words[0])
+        low, high = self.range_of(key)
+        at = int(words[4]) if len(words) == 5 else (low + high + 1) // 2
+        if not low < at <= high:
+            self.tell(f'the hash key {at} lies outside of the shard as it is here: the middle, {(low + high + 1) // 2}, is taken')
+            at = (low + high + 1) // 2
+        stream = self.names.stream_of(key)
+        self.api('SplitShard', {'StreamName': stream, 'ShardToSplit': id_of(key), 'NewStartingHashKey': str(at)})
+        for name, no in zip(words[1:3], self.newest(stream, 2)):
+            self.names.declare(stream, name, no)
+
+    def merge(self, words):
+        if len(words) != 3:
+            self.expected('merge')
+        one, other = map(self.names.key, words[:2])
+        stream = self.names.stream_of(one)
+        self.api('MergeShards', {'StreamName': stream, 'ShardToMerge': id_of(one), 'AdjacentShardToMerge': id_of(other)})
+        self.names.declare(stream, words[2], self.newest(stream, 1)[0])
+
+    def records(self, words):
+        if len(words) not in (2, 4) or len(words) == 4 and (words[2] != 'to' or not NUMBER.fullmatch(words[3])):
+            self.expected('records')
+        key, count = self.names.key(words[0]), counted(words[1], 1, MOST_RECORDS)
+        low, record, last = self.range_of(key)[0], 'record', 0
+        for first in range(0, count, MOST_PUT):
+            some = [{'Data': '', 'PartitionKey': record, 'ExplicitHashKey': str(low)}] * min(MOST_PUT, count - first)
+            reply = self.api('PutRecords', {'StreamName': self.names.stream_of(key), 'Records': some})['Records'][-1]
+            if reply.get('ShardId') != id_of(key):
+                raise Unreadable(f'{words[0]} takes no records any more: expected this line before its split or merge' if 'ShardId' in reply else f'the records are refused: {shown(str(reply))}')
+            last = int(reply['SequenceNumber'])
+        if len(words) == 4:
+            self.names.bind(key, int(words[3]), last)
+
+    # ---- words of consumers
+
+    def held(self, by, host, key):
+        """The newest tenure of a lease that this process took."""
+        if (by, key) not in self.holds:
+            why = self.refused_takes.get((by, key), f'expected a line {host} take {self.names.used.get(key, key)} before it, by the same process')
+            raise Unreadable(f'{host} has no tenure of {self.names.used.get(key, key)}: {why}')
+        return self.holds[by, key]
+
+    def command(self, by, host, verb, key, more):
+        """A command on leases by its shard."""
+        if verb == 'make':
+            return self.raw(by, lambda: ' '.join(['make', key, *more]))
+        if verb == 'take':
+            return self.raw(by, lambda counter: f'take {key} {counter} {more[0] if more else self.names.worker(host)}', self.counters.get(key, '0'))
+        if verb == 'cut':
+            return self.raw(by, lambda counter: f'cut {key} {counter}', self.counters.get(key, '0'))
+        it = self.held(by, host, key)
+        if verb == 'read':
+            return self.raw(by, lambda reach: f'read {it.no} {reach} {more[0] if more else READ_LIMIT}', str(it.reach))
+        if verb == 'mark':
+            return self.raw(by, lambda counter: f'mark {it.no} {counter} {more[0] if more else last_of(it)}', it.counter)
+        if verb in ('renew', 'free'):
+            return self.raw(by, lambda counter: f'{verb} {it.no} {counter}', it.counter)
+        return self.raw(by, lambda: f'{verb} {it.no}')
+
+    def process(self, by, host, key, words):
+        """The processor returned from records: those that were fetched before, or that are fetched now."""
+        count = words.pop(0) if words and words[0] != 'to' else None
+        if count is not None:
+            counted(count, 0, MOST_READ)
+        if words and (len(words) != 2 or words[0] != 'to' or not NUMBER.fullmatch(words[1])):
+            self.expected('process')
+        it = self.held(by, host, key)
+        if not it.waiting:
+            self.command(by, host, 'read', key, [str(max(1, int(count)))] if count else [])
+        here = it.waiting[0] if it.waiting else []
+        given = self.command(by, host, 'give', key, []).startswith('ok')
+        if given and count is not None and int(count) != len(here):
+            self.tell(f'the log has {count} records, and here are {len(here)}')
+        if given and words and here:
+            self.number(key, int(words[1]), here[-1], 'the last record processed')
+        elif given and words:
+            self.tell('nothing was delivered here, so the number stands for no record')
+
+    def number(self, key, number, record, what):
+        """A number of the log stands for a record, or is checked if it is known."""
+        known = self.names.bound.get(key, {}).get(number, number if number < OWN else None)
+        if known is None:
+            self.names.bind(key, number, record)
+        elif known != record:
+            self.tell(f'the log has {number}, which is record {known} here, and {what} is {record}')
+
+    def checkpoint(self, by, host, key, words):
+        if words and (len(words) != 2 or words[0] != 'at' or words[1] not in (END, 'SHARD_END') and not NUMBER.fullmatch(words[1])):
+            self.expected('checkpoint')
+        it = self.held(by, host, key)
+        if not words:
+            return self.command(by, host, 'mark', key, [])
+        if words[1] in (END, 'SHARD_END'):
+            return self.command(by, host, 'mark', key, [END])
+        number = int(words[1])
+        record = self.names.bound.get(key, {}).get(number, number if number < OWN else None)
+        if record is None:
+            if not it.delivered:
+                raise Unreadable(f'no record has the number {number}: expected it behind to, in a records or process line of this shard before')
+            record = last_of(it)
+            self.names.bind(key, number, record)
+        return self.command(by, host, 'mark', key, [str(record)])
+
+    def hand_off(self, by, host, key, _):
+        """As the library does: what the processor has is given, its end is the checkpoint, and the row is freed."""
+        it = self.held(by, host, key)
+        if it.waiting:
+            self.command(by, host, 'give', key, [])
+        if it.delivered:
+            self.command(by, host, 'mark', key, [])
+        self.command(by, host, 'free', key, [])
+
+    def consumer(self, host, word, words):
+        if host in KINDS + OF_STREAMS or host.isdigit():
+            raise Unreadable(f'{shown(host)} is no name of a host')
+        if word == 'restarts':
+            return self.expected(word) if words else self.names.actor(host, anew=True)
+        if word == 'hand' and words[:1] == ['off']:
+            words = words[1:]
+        elif word == 'hand':
+            self.expected(word)
+        most = {'create': 2, 'fetch': 2, 'process': 4, 'checkpoint': 3}.get(word, 1)
+        if not 1 <= len(words) <= most or word == 'create' and words[1:] not in ([], ['latest']) or not all(map(NAME.fullmatch, [host, *words])):
+            self.expected(word)
+        by, key, more = self.names.actor(host), self.names.key(words[0]), words[1:]
+        self.names.worker(host)
+        if word == 'fetch' and more:
+            counted(more[0], 1, MOST_READ)
+        plain = {'create': 'make', 'take': 'take', 'open': 'open', 'fetch': 'read', 'renew': 'renew', 'release': 'free', 'delete': 'cut'}
+        if word in plain:
+            return self.command(by, host, plain[word], key, more)
+        return {'process': self.process, 'checkpoint': self.checkpoint, 'hand': self.hand_off}[word](by, host, key, more)
+
+    def raw_by_names(self, words):
+        """A raw line that names a host, or a shard where a tenure stands, with or without what the replay knows."""
+        if len(words) < 2:
+            raise Unreadable('behind raw stands no actor with a command')
+        host, verb, *rest = words
+        by = int(host) if host.isdigit() else self.names.actor(host)
+        if not 1 <= by <= 999:
+            raise Unreadable('an actor is 1 to 999')
+        if not rest or verb not in BY_SHARD or not is_shard(verb, rest):
+            return self.raw(by, lambda: ' '.join([verb, *rest]))
+        least, most = BY_SHARD[verb]
+        key = self.names.key(rest[0])
+        if verb == 'take' and host.isdigit() and len(rest) < 2:
+            raise Unreadable('expected raw BY take SHARD wN, for an actor that is a number')
+        if not least <= len(rest) <= most:
+            raise Unreadable(f'expected raw BY {verb} SHARD with at most {most - 1} words behind it: counter and position are the replay\'s')
+        return self.command(by, self.names.actors.get(by, f'actor {by}'), verb, key, rest[1:])
+
+    def expected(self, word):
+        raise Unreadable(f'expected {FORMS[word]}')
+
+    # ---- a line
+
+    def line(self, at, where, rest):
+        """One line of a story, behind its moment, or of a schedule."""
+        self.at, self.where, self.text = at, where, rest
+        words = rest.split()
+        if not is_by_names(rest):
+            return self.as_it_is(f'{at} {rest}')
+        if words and words[0] == 'raw':
+            return self.raw_by_names(words[1:])
+        if words and words[0] in OF_STREAMS:
+            if not all(map(NAME.fullmatch, words)):
+                self.expected(words[0])
+            return getattr(self, words[0])(words[1:])
+        if len(words) < 2 or words[1] not in FORMS or words[1] in OF_STREAMS:
+            what = f'{shown(words[1])} is no word of a story' if len(words) > 1 else 'there is no word of a story'
+            known = ', '.join(it for it in FORMS if it not in OF_STREAMS)
+            raise Unreadable(f'{NO_KIND}, and {what}: expected HOST and {known}, or {", ".join(OF_STREAMS)}')
+        return self.consumer(words[0], words[1], words[2:])
+
+    def as_it_is(self, line):
+        """A line of a schedule, whose changes are learnt."""
+        answer = self.replay.ask(line)
+        self.keep(line, answer)
+        _, kind, third, *rest = line.split(' ', 3)
+        if kind == 'raw' and rest:
+            self.learn(int(third), rest[0], answer)
+        elif kind == 'api' and third == 'CreateStream' and answer.startswith('200'):
+            self.follow(third, json.loads(rest[0]))
+
+
+def id_of(key):
+    return f'shardId-{int(key.split("/")[1]):012}'
+
+
+def last_of(tenure):
+    """The last record that a tenure was delivered, or the one at which it began."""
+    return max(tenure.delivered, default=tenure.start)
+
+
+def counted(word, least, most):
+    """A count in a story."""
+    if not NUMBER.fullmatch(word) or not least <= int(word) <= most:
+        raise Unreadable(f'expected a number of records from {least} to {most}, and here is {shown(word)}')
+    return int(word)
+
+
+def schedule_of(lines):
+    """The schedule, its answers, its names and what was told, of lines with their moment, their place and the rest."""
+    taken = {int(words[1]) for words in (rest.split() for _, _, rest in lines) if len(words) > 1 and words[0] == 'raw' and words[1].isdigit() and len(words[1]) < 4}
+    with Replay() as replay:
+        story = Story(replay, taken)
+        for at, where, rest in lines:
+            try:
+                story.line(at, where, rest)
+            except Unreadable as why:
+                raise Unreadable(f'{where}: {why}') from why
+    return story
