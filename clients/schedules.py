@@ -1,6 +1,9 @@
-"""What `clients/schedule` makes of texts that were written down. The moments of the dates were computed by `date -u -d DATE +%s`. The schedule of
-the incident in docs/incidents.md is what it makes of the session that was recorded and the story that was written down."""
+"""What `clients/schedule` makes of texts that were written down, and `clients/dump` of dumps of a lease table. The moments of the dates were computed by
+`date -u -d DATE +%s`. The schedule of the incident in docs/incidents.md is what it makes of the session that was recorded and the story that was written down."""
+import json
+import os
 import pathlib
+import random
 import subprocess
 import sys
 import tempfile
@@ -8,11 +11,22 @@ import unittest
 
 ROOT = pathlib.Path(__file__).resolve().parent.parent
 PROGRAM = ROOT / 'clients' / 'schedule'
+DUMP = ROOT / 'clients' / 'dump'
+EXAMPLES = ROOT / 'examples'
 
 
-def made(*words, text=b''):
-    done = subprocess.run([sys.executable, PROGRAM, *words], input=text, capture_output=True, check=False)
+def made(*words, text=b'', program=PROGRAM, **more):
+    done = subprocess.run([sys.executable, program, *words], input=text, capture_output=True, check=False, **more)
     return done.returncode, done.stdout, done.stderr.decode()
+
+
+def example(name):
+    return (EXAMPLES / name).read_bytes()
+
+
+def of_files(name, *words, program=DUMP):
+    """What a script says of files of the examples, from their folder, so that it names them alone."""
+    return made(*words, program=program, cwd=EXAMPLES)
 
 
 class Schedules(unittest.TestCase):
@@ -45,11 +59,12 @@ class Schedules(unittest.TestCase):
     def test_what_cannot_be_read_is_told(self):
         none, beyond = 'it begins with no moment and no date', 'the moment is below 0, or 2^62 or more'
         odd = 'behind the moment stands no api, raw, worker, step, stop or hand'
+        words = 'create, take, open, fetch, process, checkpoint, renew, release, hand, delete, restarts, or stream, split, merge, records'
         for line, why in [(b'2026-11-29T14:05:33 raw 1 rows', 'the date has no zone: write Z behind it for UTC, or call with --utc'),
                           (b'2026-02-30T14:05:33Z raw 1 rows', 'there is no such date'), (b'worker-a took a lease', none),
                           (b'1000', none), (b'01 raw 1 rows', none),
                           (b'4611686018427387904 raw 1 rows', beyond), (b'1969-12-31T23:59:59Z raw 1 rows', beyond),
-                          (b'1000 took 1/0', odd), (b'1000  raw 1 rows', odd)]:
+                          (b'1000 took 1/0', f'{odd}, and 1/0 is no word of a story: expected HOST and {words}'), (b'1000  raw 1 rows', odd)]:
             with self.subTest(line=line):
                 self.assertEqual((1, b'', f'schedule: the input: line 2: {why}\n'), made(text=b'1000 raw 1 rows\n' + line + b'\n'))
 
@@ -63,6 +78,220 @@ class Schedules(unittest.TestCase):
     def test_the_incident(self):
         names = [ROOT / 'examples' / name for name in ('incident-session.txt', 'incident-leases.txt')]
         self.assertEqual((0, (ROOT / 'examples' / 'incident.txt').read_bytes(), ''), made(*names))
+
+
+# A stream of two shards with one record each, and host-a that has both leases.
+START = """1000 stream orders a b
+1000 records a 1 to 49000000000000000000000000001
+1000 records b 1
+1001 host-a create a
+1001 host-a take a
+1001 host-a open a
+"""
+
+
+class Stories(unittest.TestCase):
+    def story(self, text, wanted, told=''):
+        """A story behind the start gives these lines of a schedule, and tells this."""
+        status, out, said = made(text=(START + text).encode())
+        self.assertEqual((0, told), (status, said))
+        lines = out.decode().splitlines()
+        self.assertEqual(wanted, lines[6:])
+        self.assertEqual(0, subprocess.run([ROOT / 'kds', 'replay'], input=out, capture_output=True, check=False).returncode)
+
+    def refused(self, text, why):
+        self.assertEqual((1, b'', f'schedule: the input: line 7: {why}\n'), made(text=(START + text + '\n').encode()))
+
+    def test_the_incident_by_names(self):
+        names, told = ['incident-session.txt', 'incident-story.txt'], ['line 22: host-a checkpoint shardId-000000000000: refused Lost 3, host-b has the lease']
+        told += [f'line {line}: host-c open shardId-00000000000{shard}: refused ParentsOpen 1/0, shardId-000000000000' for line, shard in ((30, 2), (31, 3), (35, 2))]
+        said = ''.join(f'schedule: incident-story.txt: {line}\n' for line in told)
+        self.assertEqual((0, example('incident.txt'), said), made(*names, cwd=EXAMPLES))
+        self.whole('incident', *names)
+
+    def whole(self, name, *files):
+        """The four files that the viewer takes are those of the examples."""
+        with tempfile.TemporaryDirectory() as folder:
+            self.assertEqual((0, b''), made('--to', folder, *files, cwd=EXAMPLES)[:2])
+            given = {path.name: path.read_bytes() for path in pathlib.Path(folder).iterdir()}
+        kinds = {'schedule.txt': 'txt', 'answers.txt': 'out', 'incident.journal': 'journal', 'names.txt': 'names'}
+        self.assertEqual({one: example(f'{name}.{kind}') for one, kind in kinds.items()}, given)
+
+    def test_the_middle_of_a_life(self):
+        status, out, said = made('--story', 'payments', '--at', '2026-11-29T14:04:00Z', 'examples/lease-table-1404.json', program=DUMP, cwd=ROOT)
+        open_line = b'# 2026-11-29T14:04:00Z records shardId-000000000017 N\n'
+        filled = b'2026-11-29T14:04:00Z records shardId-000000000017 5 to 49668412027348205713498722910348128273001529384756103411\n'
+        self.assertEqual((0, 1, ''), (status, out.count(open_line), said))
+        self.assertEqual(example('mid-life-beginning.txt'), out.replace(open_line, filled))
+        self.whole('mid-life', 'mid-life-beginning.txt', 'mid-life-story.txt')
+
+    def test_words_of_a_story(self):
+        first = '1002 raw 1 read 1 0 1000\n1002 raw 1 give 1'.splitlines()
+        mark = '1003 raw 1 mark 1 1 1'
+        for text, wanted in [
+                ('1002 host-a fetch a 7', ['1002 raw 1 read 1 0 7']), ('1002 host-a process a', first),
+                ('1002 host-a process a\n1003 host-a checkpoint a', [*first, mark]),
+                ('1002 host-a process a 1\n1003 host-a checkpoint a at 49000000000000000000000000001', ['1002 raw 1 read 1 0 1', first[1], mark]),
+                ('1002 host-a process a to 49000000000000000000000000001\n1003 host-a checkpoint a at 1', [*first, mark]),
+                ('1002 host-a renew a\n1003 host-a release a', ['1002 raw 1 renew 1 1', '1003 raw 1 free 1 2']),
+                ('1002 host-a process a\n1003 host-a hand off a', [*first, mark, '1003 raw 1 free 1 2']),
+                ('1002 host-b create b latest', ['1002 raw 2 make 1/1 latest']),
+                ('1002 host-a restarts\n1003 host-a take orders/a', ['1003 raw 2 take 1/0 1 w1']),
+                ('1002 merge a b c\n1003 records c 1', ['1002 api MergeShards {"StreamName":"orders","ShardToMerge":"shardId-000000000000","AdjacentShardToMerge":"shardId-000000000001"}',
+                                                      '1003 api PutRecords {"StreamName":"orders","Records":[{"Data":"","PartitionKey":"record","ExplicitHashKey":"0"}]}']),
+                ('1002 split a c d at 5', ['1002 api SplitShard {"StreamName":"orders","ShardToSplit":"shardId-000000000000","NewStartingHashKey":"5"}']),
+                ('1002  host-a   renew  a   # and so on', ['1002 raw 1 renew 1 1'])]:
+            with self.subTest(text=text):
+                self.story(text, wanted)
+
+    def test_raw_lines_between(self):
+        # an actor that a raw line names by its number is no host's
+        self.story('1002 raw 2 make 1/1\n1003 host-b take b\n1004 raw 2 take b w9\n1005 raw 2 open b\n1006 raw host-a read a 5\n1007 raw host-a rows\n1008 raw 2 mark 1/1 end',
+                   ['1002 raw 2 make 1/1', '1003 raw 3 take 1/1 0 w2', '1004 raw 2 take 1/1 1 w9', '1005 raw 2 open 3', '1006 raw 1 read 1 0 5', '1007 raw 1 rows',
+                    '1008 raw 2 mark 3 2 end'], 'schedule: the input: line 13: raw 2 mark 1/1 end: refused NotAtEnd\n')
+        # here host-a is the actor 2, and the tenure 1 is its own
+        self.story('1002 raw 1 read 1 0 1000\n1005 worker w7 tally\n1006 step 1000', ['1002 raw 1 read 1 0 1000', '1005 worker w7 tally', '1006 step 1000'],
+                   'schedule: the input: line 7: raw 1 read 1 0 1000: refused NotYours\n')
+
+    def test_what_a_log_says_otherwise(self):
+        self.story('1002 host-a process a 3', ['1002 raw 1 read 1 0 3', '1002 raw 1 give 1'], 'schedule: the input: line 7: the log has 3 records, and here are 1\n')
+        self.story('1002 host-a process a to 7', ['1002 raw 1 read 1 0 1000', '1002 raw 1 give 1'],
+                   'schedule: the input: line 7: the log has 7, which is record 7 here, and the last record processed is 1\n')
+        self.story('1002 host-a checkpoint a at 9', ['1002 raw 1 mark 1 1 9'], 'schedule: the input: line 7: host-a checkpoint a at 9: refused Beyond 0\n')
+        self.story('1002 records b 1 to 9', ['1002 api PutRecords {"StreamName":"orders","Records":[{"Data":"","PartitionKey":"record","ExplicitHashKey":'
+                                              '"170141183460469231731687303715884105728"}]}'],
+                   'schedule: the input: line 7: the log has 9, which is record 9 here, and the last record put is 3\n')
+        self.story('1002 host-b take b', ['1002 raw 2 take 1/1 0 w2'], 'schedule: the input: line 7: host-b take b: refused NoLease\n')
+
+    def test_a_line_that_cannot_be(self):
+        for text, why in [
+                ('1002 host-b open a', 'host-b has no tenure of a: expected a line host-b take a before it, by the same process'),
+                ('1002 host-a take c', 'there is no shard c at this line: expected one that a stream, split or merge line, or an api line, makes before it'),
+                ('1002 host-a take', 'expected HOST take SHARD'), ('1002 host-a take a b', 'expected HOST take SHARD'), ('1002 host-a hand a', 'expected HOST hand off SHARD'),
+                ('1002 host-a process a many', 'expected a number of records from 0 to 10000, and here is many'),
+                ('1002 host-a process a 3 up', 'expected HOST process SHARD [N] [to NUMBER]'),
+                ('1002 host-a checkpoint a 5', 'expected HOST checkpoint SHARD [at NUMBER | at end]'),
+                ('1002 host-a checkpoint a at 49000000000000000000000000002', 'no record has the number 49000000000000000000000000002: expected it behind to, in a records or '
+                 'process line of this shard before'),
+                ('1002 split a c', 'expected split SHARD LOW HIGH [at HASHKEY]'), ('1002 split a c b', 'the shard b is there already: expected a new name'),
+                ('1002 merge a a c', 'MergeShards is answered 400 '), ('1002 records a 0', 'expected a number of records from 1 to 100000, and here is 0'),
+                ('1002 stream orders x', 'CreateStream is answered 400 '), ('1002 host-a t\x1bake a', 'behind the moment stands no api'), ('1002 raw 1 mark a', 'actor 1 has no tenure of a: '),
+                ('1002 raw 1 rows 5', 'the replay ended here: '), ('1002 records a 2 to 4', '')]:
+            with self.subTest(text=text):
+                status, out, said = made(text=(START + text + '\n').encode())
+                if why:
+                    self.assertEqual((1, b'', True, 1), (status, out, said.startswith(f'schedule: the input: line 7: {why}'), said.count('\n')), said)
+                    self.assertNotIn('\x1b', said)
+                else:
+                    self.assertEqual(0, status)
+
+    def test_several_streams(self):
+        text = START + '1002 stream bills a\n'
+        self.assertEqual((1, b'', 'schedule: the input: line 8: a is a shard of several streams: expected its stream too, as orders/a\n'), made(text=(text + '1003 host-a create a').encode()))
+        status, out, said = made(text=(text + '1003 host-a create bills/a').encode())
+        self.assertEqual((0, '1003 raw 1 make 2/0', ''), (status, out.decode().splitlines()[-1], said))
+
+    def test_nothing_half_written(self):
+        with tempfile.TemporaryDirectory() as folder:
+            there = pathlib.Path(folder)
+            (there / 'names.txt').write_bytes(b'before')
+            self.assertEqual(1, made('--to', folder, text=(START + '1002 host-b open a').encode())[0])
+            self.assertEqual({'names.txt': b'before'}, {path.name: path.read_bytes() for path in there.iterdir()})
+            self.assertEqual(2, made('--to', folder, there / 'names.txt')[0])
+            self.assertEqual(1, made('--to', there / 'names.txt', text=START.encode())[0])
+            self.assertEqual(b'before', (there / 'names.txt').read_bytes())
+        self.assertEqual((2, b'', 'schedule: --to wants one folder; --help tells the rest\n'), made('--to'))
+
+    def test_outputs_that_take_nothing(self):
+        for program, words in ((PROGRAM, ['incident.txt']), (DUMP, ['lease-table-1404.json'])):
+            for way in ('> /dev/full', '>&-'):
+                if way != '> /dev/full' or os.path.exists('/dev/full'):
+                    done = subprocess.run(f'"{program}" {" ".join(words)} {way}', shell=True, cwd=EXAMPLES, capture_output=True, check=False)
+                    self.assertEqual((1, 1), (done.returncode, done.stderr.count(b'\n')), done.stderr)
+
+    def test_any_bytes(self):
+        # no text of a stranger ends in a traceback, and a line tells where
+        chance, texts = random.Random(7), [example('mid-life-story.txt'), START.encode(), example('lease-table-1404.json'), example('lease-table-1409.csv')]
+        for i in range(40):
+            text = bytearray(texts[i % 4])
+            for _ in range(chance.randrange(1, 6)):
+                at = chance.randrange(len(text))
+                text[at:at + chance.randrange(3)] = chance.choice([b'\xff', b'"', b'\0', b' ', b'\n', b'{', b'9' * 300, b'\x1b[2J', b'shardId-000000000017', b'raw', b'end'])
+            program = PROGRAM if i % 4 < 2 else DUMP
+            with self.subTest(text=bytes(text)), tempfile.NamedTemporaryFile() as file:
+                file.write(text)
+                file.flush()
+                status, out, said = made(file.name, program=program)
+                self.assertIn(status, (0, 1))
+                self.assertNotIn('Traceback', said)
+                self.assertNotIn('\x1b', said)
+                self.assertTrue(status == 0 or (out, said.count('\n')) == (b'', 1), said)
+
+
+class Dumps(unittest.TestCase):
+    def test_what_a_dump_says(self):
+        self.assertEqual((0, example('lease-table-1404.out'), ''), of_files(DUMP, 'lease-table-1404.json'))
+        self.assertEqual((0, example('lease-table-1409.out'), ''), of_files(DUMP, 'lease-table-1404.json', 'lease-table-1409.csv'))
+
+    def test_the_same_from_each_form(self):
+        lines = [json.loads(line)['Item'] for line in example('lease-table-1404.json').splitlines()]
+        simple = [{name: next(iter(value.values())) for name, value in item.items()} for item in lines]
+        names = ['leaseKey', 'leaseOwner', 'leaseCounter', 'checkpoint', 'parentShardId', 'ownerSwitchesSinceCheckpoint']
+        table = '\ufeff' + ','.join(names) + '\r\n' + ''.join(','.join(it.get(name, '') if name != 'parentShardId' else ' '.join(it.get(name, [])) for name in names) + '\r\n' for it in simple)
+        for text in (json.dumps({'Items': lines, 'Count': 4}), json.dumps(lines), '\n'.join(map(json.dumps, lines)), json.dumps(simple), table):
+            with self.subTest(text=text[:30]), tempfile.NamedTemporaryFile('w') as file:
+                file.write(text)
+                file.flush()
+                self.assertEqual((0, example('lease-table-1404.out'), ''), made(file.name, program=DUMP))
+
+    def beginning(self, rows, *more):
+        with tempfile.TemporaryDirectory() as folder:
+            pathlib.Path(folder, 'table').write_text('\n'.join(json.dumps(it) for it in rows))
+            pathlib.Path(folder, 'shards').write_text(json.dumps({'Shards': [{'ShardId': f's{i}', 'HashKeyRange': {'StartingHashKey': str(at), 'EndingHashKey': str(end)}}
+                                                                             for i, (at, end) in enumerate(((9, 12), (5, 8), (9, 10), (11, 12)))]}))
+            status, out, said = made('--story', 'orders', '--at', '5', *more, 'table', program=DUMP, cwd=folder)
+        self.assertEqual((0, ''), (status, said))
+        status, _, said = made(text=out)
+        self.assertEqual((0, ''), (status, said), out.decode())
+        return [line[2:] for line in out.decode().splitlines() if not line.startswith('#')]
+
+    def test_beginnings(self):
+        # a split parent at its end, a merge, a child that has begun, a shard that ended without children, parents that are gone
+        ended, first = {'checkpoint': 'SHARD_END'}, {'checkpoint': 'TRIM_HORIZON', 'leaseOwner': 'h'}
+        child = {'leaseKey': 's2', 'parentShardId': ['s0'], 'checkpoint': '49668412027348205713498722', 'leaseOwner': 'h'}
+        lines = self.beginning([{'leaseKey': 's0', **ended}, child, {'leaseKey': 's3', 'parentShardId': ['s0'], **first}])
+        self.assertEqual(['stream orders s0', 'split s0 s2 s3', 'before checkpoint s0 at end', 'h checkpoint s2 at 49668412027348205713498722', 'h open s3'],
+                         [it for it in lines if it.split()[0] in ('stream', 'split') or 'at' in it.split() or it == 'h open s3'])
+        lines = self.beginning([{'leaseKey': 's0', **ended}, {'leaseKey': 's1', **ended}, {'leaseKey': 's2', 'parentShardId': ['s0', 's1'], **first}], '--shards', 'shards')
+        self.assertEqual(['stream orders s1 s0', 'merge s1 s0 s2', 'h open s2'], [it for it in lines if it.split()[0] in ('stream', 'merge') or it == 'h open s2'])
+        self.assertIn('split s0 s0-low s0-high', self.beginning([{'leaseKey': 's0', **ended}]))
+        self.assertEqual('stream orders s2', self.beginning([child])[0])
+        self.assertIn('split s0 s2 other-of-s2', self.beginning([{'leaseKey': 's0', 'checkpoint': 'SHARD_END'}, child]))
+        self.assertIn('before release s0', self.beginning([{'leaseKey': 's0', 'checkpoint': '77777777777777777777777'}]))
+        self.assertIn('before create s0 latest', self.beginning([{'leaseKey': 's0', 'checkpoint': 'AT_TIMESTAMP'}]))
+        self.assertIn('merge s0 s1 s2', self.beginning([{'leaseKey': 's0', **ended}, {'leaseKey': 's2', 'parentShardId': ['s0', 's1'], **first}]))
+
+    def test_what_cannot_be_read_is_told(self):
+        for text, why in [(b'', "line 1: expected JSON, or CSV whose first line names leaseKey and checkpoint"), (b'\x1f\x8bx', 'it is packed: gunzip it first'),
+                          (b'\xff\xfe', 'it is no text: expected JSON or CSV'), (b'{"a":1}\n{', 'line 1: leaseKey is missing: expected a name without spaces, of ASCII'),
+                          (b'{"Items":[]}', 'there is no lease in it'), (b'{"leaseKey":"a","checkpoint":"5"}\nx', 'line 2: it is no JSON'),
+                          (b'{"leaseKey":"a","checkpoint":"x"}', 'line 1: the checkpoint x: expected a sequence number, TRIM_HORIZON, LATEST, AT_TIMESTAMP or SHARD_END'),
+                          (b'leaseKey,checkpoint\na,5\na,5\n', 'line 3: the lease a stands here twice'), (b'[' * 100_000, 'line 1: it is no JSON'),
+                          (b'leaseKey,checkpoint,leaseCounter\na,5,x\n', 'line 2: leaseCounter is x: expected a number')]:
+            with self.subTest(text=text[:40]), tempfile.NamedTemporaryFile() as file:
+                file.write(text)
+                file.flush()
+                status, out, said = made(file.name, program=DUMP)
+                self.assertEqual((1, b'', f'dump: {file.name}: {why}\n'), (status, out, said.replace('item 1: ', 'line 1: ')))
+
+    def test_words(self):
+        self.assertEqual(1, made('no such file', program=DUMP)[0])
+        for words in ([], ['--zone', 'a'], ['a', 'b', 'c'], ['--story', 's', 'a'], ['--at', '5', 'a'], ['--story'], ['--story', 'a b', '--at', '5', 'a'], ['--story', 'a', '--at', 'noon', 'a']):
+            with self.subTest(words=words):
+                status, out, said = made(*words, program=DUMP)
+                self.assertEqual((2, b'', 1), (status, out, said.count('\n')))
+        status, out, _ = made('--help', program=DUMP)
+        self.assertEqual((0, True), (status, b'clients/dump EARLIER LATER' in out))
 
 
 if __name__ == '__main__':

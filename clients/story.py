@@ -184,7 +184,7 @@ class Story:
     def keep(self, line, answer):
         self.lines.append(line)
         self.answers.append(answer)
-        if answer.startswith('refused') and is_by_names(self.text):
+        if answer.startswith('refused'):
             self.tell(f'{" ".join(self.text.split())}: {answer}{self.meaning(answer)}')
         return answer
 
@@ -315,7 +315,7 @@ class Story:
                 raise Unreadable(f'{words[0]} takes no records any more: expected this line before its split or merge' if 'ShardId' in reply else f'the records are refused: {shown(str(reply))}')
             last = int(reply['SequenceNumber'])
         if len(words) == 4:
-            self.names.bind(key, int(words[3]), last)
+            self.number(key, int(words[3]), last, 'the last record put')
 
     # ---- words of consumers
 
@@ -397,7 +397,7 @@ class Story:
         self.command(by, host, 'free', key, [])
 
     def consumer(self, host, word, words):
-        if host in KINDS + OF_STREAMS or host.isdigit():
+        if host in KINDS + OF_STREAMS:
             raise Unreadable(f'{shown(host)} is no name of a host')
         if word == 'restarts':
             return self.expected(word) if words else self.names.actor(host, anew=True)

@@ -24,7 +24,7 @@ function tell(   many) {
     run = 0
 }
 $1 == "worker" || $1 == "shard" { name[$2] = $3; gsub(/[^!-~]/, "?", name[$2]) }
-$1 == "record" { split($2, of_record, "/"); number[of_record[1], of_record[2]] = $3; gsub(/[^0-9]/, "?", number[of_record[1], of_record[2]]) }
+$1 == "record" { split($2, part, "/"); number[part[1], part[2]] = $3; gsub(/[^0-9]/, "?", number[part[1], part[2]]) }
 $3 == "taken"  { split($4, part, "/"); stream[$5] = part[1]; key[$5] = $4; who[$5] = $7 }
 $3 == "read"   { reads[$4, ++read[$4]] = $0 }
 $3 == "given"  {

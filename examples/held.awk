@@ -12,15 +12,18 @@ function date(ms,   days, rest, era, day, year, month) {
     return year "-" two(month) "-" two(day) "T" two(int(rest / 3600000)) ":" two(int(rest / 60000) % 60) ":" two(int(rest / 1000) % 60) "." substr(1000 + rest % 1000, 2) "Z"
 }
 function named(word) { return word in name ? name[word] : word }
+function record(of, n) { return (of, n) in number ? n " (" number[of, n] ")" : n }
 # A tenure ends once: what it does after that is told by its last delivery.
 function over(t, at, why) { if (t != "" && !(t in end)) { end[t] = at; how[t] = why } }
 $1 == "worker" || $1 == "shard" { name[$2] = $3; gsub(/[^!-~]/, "?", name[$2]) }
+$1 == "record" { split($2, part, "/"); number[part[1], part[2]] = $3; gsub(/[^0-9]/, "?", number[part[1], part[2]]) }
+$3 == "taken"  { split($4, part, "/"); stream[$5] = part[1] }
 $3 == "taken"  { over(holder[$4], $1, who[holder[$4]] == $7 ? "taken by itself" : "taken by " named($7)); key[$5] = $4; who[$5] = $7; begun[$5] = $1; holder[$4] = $5; order[++n] = $5 }
 $3 == "freed"  { over($4, $1, "freed"); holder[key[$4]] = "" }
 $3 == "cut"    { over(holder[$4], $1, "the row was removed"); holder[$4] = "" }
 $3 == "opened" { opened[$4] = $1 }
 $3 == "given"  { last[$4] = $1 }
-$3 == "marked" { mark[$4] = $6 == "end" ? "SHARD_END" : $6 }
+$3 == "marked" { mark[$4] = $6 == "end" ? "SHARD_END" : record(stream[$4], $6) }
 $1 == "end"    { clock = $2 }
 END {
     for (i = 1; i <= n; i++) {
