@@ -273,7 +273,7 @@ class Dumps(unittest.TestCase):
 
     def test_what_cannot_be_read_is_told(self):
         for text, why in [(b'', "line 1: expected JSON, or CSV whose first line names leaseKey and checkpoint"), (b'\x1f\x8bx', 'it is packed: gunzip it first'),
-                          (b'\xff\xfe', 'it is no text: expected JSON or CSV'), (b'{"a":1}\n{', 'line 1: leaseKey is missing: expected a name without spaces, of ASCII'),
+                          (b'\xff\xfe', 'it is no text: expected JSON or CSV'), (b'{"a":1}', 'line 1: leaseKey is missing: expected a name without spaces, of ASCII'),
                           (b'{"Items":[]}', 'there is no lease in it'), (b'{"leaseKey":"a","checkpoint":"5"}\nx', 'line 2: it is no JSON'),
                           (b'{"leaseKey":"a","checkpoint":"x"}', 'line 1: the checkpoint x: expected a sequence number, TRIM_HORIZON, LATEST, AT_TIMESTAMP or SHARD_END'),
                           (b'leaseKey,checkpoint\na,5\na,5\n', 'line 3: the lease a stands here twice'), (b'[' * 100_000, 'line 1: it is no JSON'),
