@@ -129,7 +129,7 @@ class Stories(unittest.TestCase):
         first = '1002 raw 1 read 1 0 1000\n1002 raw 1 give 1'.splitlines()
         mark = '1003 raw 1 mark 1 1 1'
         for text, wanted in [
-                ('1002 host-a fetch a 7', ['1002 raw 1 read 1 0 7']), ('1002 host-a process a', first),
+                ('1002 host-a fetch a 1', ['1002 raw 1 read 1 0 1']), ('1002 host-a process a', first),
                 ('1002 host-a process a\n1003 host-a checkpoint a', [*first, mark]),
                 ('1002 host-a process a 1\n1003 host-a checkpoint a at 49000000000000000000000000001', ['1002 raw 1 read 1 0 1', first[1], mark]),
                 ('1002 host-a process a to 49000000000000000000000000001\n1003 host-a checkpoint a at 1', [*first, mark]),
@@ -154,7 +154,13 @@ class Stories(unittest.TestCase):
                    'schedule: the input: line 7: raw 1 read 1 0 1000: refused NotYours\n')
 
     def test_what_a_log_says_otherwise(self):
-        self.story('1002 host-a process a 3', ['1002 raw 1 read 1 0 3', '1002 raw 1 give 1'], 'schedule: the input: line 7: the log has 3 records, and here are 1\n')
+        put = '1002 api PutRecords {"StreamName":"orders","Records":[' + ','.join(['{"Data":"","PartitionKey":"record","ExplicitHashKey":"0"}'] * 2) + ']}'
+        self.story('1002 host-a process a 3', [put, '1002 raw 1 read 1 0 3', '1002 raw 1 give 1'],
+                   'schedule: a: 2 of the records that the log has stood in no records line, and were put where the log has them first\n')
+        split = '1002 api SplitShard {"StreamName":"orders","ShardToSplit":"shardId-000000000000","NewStartingHashKey":"85070591730234615865843651857942052864"}'
+        self.story('1002 split a c d\n1003 host-a process a 3', [split, '1003 raw 1 read 1 0 3', '1003 raw 1 give 1'],
+                   'schedule: the input: line 8: the log has 3 records, and here are 1: a closed shard takes no more, so a records line of it stands before its split or merge\n')
+        self.story('1002 host-a process a\n1003 host-a process a 0', ['1002 raw 1 read 1 0 1000', '1002 raw 1 give 1', '1003 raw 1 read 1 2 1000', '1003 raw 1 give 1'])
         self.story('1002 host-a process a to 7', ['1002 raw 1 read 1 0 1000', '1002 raw 1 give 1'],
                    'schedule: the input: line 7: the log has 7, which is record 7 here, and the last record processed is 1\n')
         self.story('1002 host-a checkpoint a at 9', ['1002 raw 1 mark 1 1 9'], 'schedule: the input: line 7: host-a checkpoint a at 9: refused Beyond 0\n')
@@ -267,6 +273,10 @@ class Dumps(unittest.TestCase):
         self.assertIn('split s0 s0-low s0-high', self.beginning([{'leaseKey': 's0', **ended}]))
         self.assertEqual('stream orders s2', self.beginning([child])[0])
         self.assertIn('split s0 s2 other-of-s2', self.beginning([{'leaseKey': 's0', 'checkpoint': 'SHARD_END'}, child]))
+        one = 'ip-1:4c1f0d2e-8a11-4b0e-9a70-2f6f5c7f1b01'
+        for owners, hosts in (([one], ['ip-1']), ([one, one[:-1] + '2'], [one, one[:-1] + '2']), ([one, 'ip-1'], [one, 'ip-1']), (['host:7'], ['host:7'])):
+            lines = self.beginning([{'leaseKey': f's{i}', 'checkpoint': '77777777777777777777777', 'leaseOwner': it} for i, it in enumerate(owners)])
+            self.assertEqual(hosts, [line.split()[0] for line in lines if ' take ' in line])
         self.assertIn('before release s0', self.beginning([{'leaseKey': 's0', 'checkpoint': '77777777777777777777777'}]))
         self.assertIn('before create s0 latest', self.beginning([{'leaseKey': 's0', 'checkpoint': 'AT_TIMESTAMP'}]))
         self.assertIn('merge s0 s1 s2', self.beginning([{'leaseKey': 's0', **ended}, {'leaseKey': 's2', 'parentShardId': ['s0', 's1'], **first}]))

@@ -96,7 +96,7 @@ class Tenure:
         self.no, self.key, self.worker, self.counter = no, key, worker, counter
         self.start = int(start) if start.isdigit() else 0
         self.reach = self.start + 1 if start.isdigit() else 0
-        self.waiting, self.delivered = [], []
+        self.waiting, self.delivered, self.opened = [], [], False
 
 
 class Names:
@@ -178,6 +178,8 @@ class Story:
         self.replay, self.names = replay, Names(taken)
         self.lines, self.answers, self.told, self.holds, self.tenures, self.counters, self.refused_takes = [], [], [], {}, {}, {}, {}
         self.at, self.where, self.text = 0, '', ''
+        # the records of each shard that lines of the story put, those that no line put, and the shards that take none any more
+        self.there, self.added, self.closed = {}, {}, set()
 
     # ---- lines of the schedule
 
@@ -231,6 +233,8 @@ class Story:
             _, _, reach, _, *numbers = answer.split(' ')
             tenure.reach = int(reach)
             tenure.waiting.append([int(it) for it in numbers])
+        elif verb == 'open':
+            tenure.opened = True
         elif verb == 'give':
             tenure.delivered += tenure.waiting.pop(0)
         elif found := re.fullmatch(r'ok counter (\d+)', answer):
@@ -292,6 +296,7 @@ class Story:
             at = (low + high + 1) // 2
         stream = self.names.stream_of(key)
         self.api('SplitShard', {'StreamName': stream, 'ShardToSplit': id_of(key), 'NewStartingHashKey': str(at)})
+        self.closed.add(key)
         for name, no in zip(words[1:3], self.newest(stream, 2)):
             self.names.declare(stream, name, no)
 
@@ -301,21 +306,34 @@ class Story:
         one, other = map(self.names.key, words[:2])
         stream = self.names.stream_of(one)
         self.api('MergeShards', {'StreamName': stream, 'ShardToMerge': id_of(one), 'AdjacentShardToMerge': id_of(other)})
+        self.closed |= {one, other}
         self.names.declare(stream, words[2], self.newest(stream, 1)[0])
 
     def records(self, words):
         if len(words) not in (2, 4) or len(words) == 4 and (words[2] != 'to' or not NUMBER.fullmatch(words[3])):
             self.expected('records')
         key, count = self.names.key(words[0]), counted(words[1], 1, MOST_RECORDS)
-        low, record, last = self.range_of(key)[0], 'record', 0
-        for first in range(0, count, MOST_PUT):
-            some = [{'Data': '', 'PartitionKey': record, 'ExplicitHashKey': str(low)}] * min(MOST_PUT, count - first)
-            reply = self.api('PutRecords', {'StreamName': self.names.stream_of(key), 'Records': some})['Records'][-1]
-            if reply.get('ShardId') != id_of(key):
-                raise Unreadable(f'{words[0]} takes no records any more: expected this line before its split or merge' if 'ShardId' in reply else f'the records are refused: {shown(str(reply))}')
-            last = int(reply['SequenceNumber'])
+        self.put(key, count)
         if len(words) == 4:
-            self.number(key, int(words[3]), last, 'the last record put')
+            self.number(key, int(words[3]), self.there[key][-1], 'the last record put')
+
+    def put(self, key, count):
+        """Records come to a shard, by its own lowest hash key."""
+        low, name = self.range_of(key)[0], self.names.used.get(key, key)
+        for first in range(0, count, MOST_PUT):
+            some = [{'Data': '', 'PartitionKey': 'record', 'ExplicitHashKey': str(low)}] * min(MOST_PUT, count - first)
+            replies = self.api('PutRecords', {'StreamName': self.names.stream_of(key), 'Records': some})['Records']
+            odd = next((it for it in replies if it.get('ShardId') != id_of(key)), None)
+            if odd:
+                raise Unreadable(f'{name} takes no records any more: expected this line before its split or merge' if 'ShardId' in odd else f'a record is refused: {shown(str(odd))}')
+            self.there.setdefault(key, []).extend(int(it['SequenceNumber']) for it in replies)
+
+    def put_missing(self, key, reach, count):
+        """What a log has of a shard of the story's own, and no line put, is put where the log first has it."""
+        missing = count - sum(it >= reach for it in self.there.get(key, []))
+        if missing > 0 and key not in self.closed and self.names.stream_of(key) in self.names.own:
+            self.put(key, missing)
+            self.added[key] = self.added.get(key, 0) + missing
 
     # ---- words of consumers
 
@@ -343,6 +361,13 @@ class Story:
             return self.raw(by, lambda counter: f'{verb} {it.no} {counter}', it.counter)
         return self.raw(by, lambda: f'{verb} {it.no}')
 
+    def fetch(self, by, host, key, words):
+        """A read of as many records as the log has."""
+        count = counted(words[0], 1, MOST_READ) if words else 0
+        if count and self.held(by, host, key).opened:
+            self.put_missing(key, self.held(by, host, key).reach, count)
+        return self.command(by, host, 'read', key, words)
+
     def process(self, by, host, key, words):
         """The processor returned from records: those that were fetched before, or that are fetched now."""
         count = words.pop(0) if words and words[0] != 'to' else None
@@ -352,11 +377,12 @@ class Story:
             self.expected('process')
         it = self.held(by, host, key)
         if not it.waiting:
-            self.command(by, host, 'read', key, [str(max(1, int(count)))] if count else [])
+            self.fetch(by, host, key, [count] if count and int(count) else [])
         here = it.waiting[0] if it.waiting else []
         given = self.command(by, host, 'give', key, []).startswith('ok')
         if given and count is not None and int(count) != len(here):
-            self.tell(f'the log has {count} records, and here are {len(here)}')
+            late = ': a closed shard takes no more, so a records line of it stands before its split or merge' if key in self.closed else ''
+            self.tell(f'the log has {count} records, and here are {len(here)}{late if len(here) < int(count) else ""}')
         if given and words and here:
             self.number(key, int(words[1]), here[-1], 'the last record processed')
         elif given and words:
@@ -410,12 +436,10 @@ class Story:
             self.expected(word)
         by, key, more = self.names.actor(host), self.names.key(words[0]), words[1:]
         self.names.worker(host)
-        if word == 'fetch' and more:
-            counted(more[0], 1, MOST_READ)
-        plain = {'create': 'make', 'take': 'take', 'open': 'open', 'fetch': 'read', 'renew': 'renew', 'release': 'free', 'delete': 'cut'}
+        plain = {'create': 'make', 'take': 'take', 'open': 'open', 'renew': 'renew', 'release': 'free', 'delete': 'cut'}
         if word in plain:
             return self.command(by, host, plain[word], key, more)
-        return {'process': self.process, 'checkpoint': self.checkpoint, 'hand': self.hand_off}[word](by, host, key, more)
+        return {'fetch': self.fetch, 'process': self.process, 'checkpoint': self.checkpoint, 'hand': self.hand_off}[word](by, host, key, more)
 
     def raw_by_names(self, words):
         """A raw line that names a host, or a shard where a tenure stands, with or without what the replay knows."""
@@ -495,4 +519,6 @@ def schedule_of(lines):
                 story.line(at, where, rest)
             except Unreadable as why:
                 raise Unreadable(f'{where}: {why}') from why
+    for key, count in story.added.items():
+        story.told.append(f'{story.names.used[key]}: {count} of the records that the log has stood in no records line, and were put where the log has them first')
     return story
