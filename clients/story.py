@@ -58,6 +58,10 @@ class Replay:
     """`./kds replay`, asked line by line."""
 
     def __init__(self):
+        # where the program has to be built first, that says so for itself
+        ready = subprocess.run([str(ROOT / 'kds'), 'replay'], stdin=subprocess.DEVNULL, stdout=subprocess.DEVNULL, check=False)
+        if ready.returncode:
+            raise Unreadable(f"./kds replay can't run: status {ready.returncode}")
         self.errors = tempfile.TemporaryFile()
         self.child = subprocess.Popen([str(ROOT / 'kds'), 'replay'], stdin=subprocess.PIPE, stdout=subprocess.PIPE, stderr=self.errors)
 
