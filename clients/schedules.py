@@ -4,6 +4,7 @@ import json
 import os
 import pathlib
 import random
+import shutil
 import subprocess
 import sys
 import tempfile
@@ -232,6 +233,20 @@ class Stories(unittest.TestCase):
                 self.assertNotIn('Traceback', said)
                 self.assertNotIn('\x1b', said)
                 self.assertTrue(status == 0 or (out, said.count('\n')) == (b'', 1), said)
+
+    @unittest.skipUnless(shutil.which('awk'), 'there is no awk')
+    def test_files_of_a_stranger_on_a_terminal(self):
+        for script in ('held.awk', 'delivered-twice.awk'):
+            plain = [subprocess.run(['awk', '-f', script, *names, 'mid-life.journal'], cwd=EXAMPLES, capture_output=True, check=True).stdout for names in ([], ['mid-life.names'])]
+            self.assertEqual([(True, False), (False, True)], [(b'w1' in text, b'host-a' in text) for text in plain])
+            for name in ('mid-life.names', 'mid-life.journal'):
+                odd = example(name).replace(b'host', b'\x1b[31m').replace(b' w2', b' w\x1b2').replace(b'1/0', b'1/\x07').replace(b'1795961', b'\x1b795961')
+                with tempfile.NamedTemporaryFile() as file:
+                    file.write(odd)
+                    file.flush()
+                    words = [file.name, 'mid-life.journal'] if name == 'mid-life.names' else ['mid-life.names', file.name]
+                    out = subprocess.run(['awk', '-f', script, *words], cwd=EXAMPLES, capture_output=True, check=True).stdout
+                self.assertEqual([], [byte for byte in out if byte < 32 and byte != 10 or byte > 126])
 
 
 class Dumps(unittest.TestCase):

@@ -23,8 +23,10 @@ function tell(   many) {
     print date(at) " " named(key[now]) ": " many ": " tenure(before) " at " date(when) ", again " tenure(now)
     run = 0
 }
-$1 == "worker" || $1 == "shard" { name[$2] = $3; gsub(/[^!-~]/, "?", name[$2]) }
-$1 == "record" { split($2, part, "/"); number[part[1], part[2]] = $3; gsub(/[^0-9]/, "?", number[part[1], part[2]]) }
+# What a terminal would take for a command is no word of a file.
+/[^ -~]/ { gsub(/[^ -~]/, "?") }
+$1 == "worker" || $1 == "shard" { name[$2] = $3 }
+$1 == "record" { split($2, part, "/"); number[part[1], part[2]] = $3 }
 $3 == "taken"  { split($4, part, "/"); stream[$5] = part[1]; key[$5] = $4; who[$5] = $7 }
 $3 == "read"   { reads[$4, ++read[$4]] = $0 }
 $3 == "given"  {

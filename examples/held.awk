@@ -15,8 +15,10 @@ function named(word) { return word in name ? name[word] : word }
 function record(of, n) { return (of, n) in number ? n " (" number[of, n] ")" : n }
 # A tenure ends once: what it does after that is told by its last delivery.
 function over(t, at, why) { if (t != "" && !(t in end)) { end[t] = at; how[t] = why } }
-$1 == "worker" || $1 == "shard" { name[$2] = $3; gsub(/[^!-~]/, "?", name[$2]) }
-$1 == "record" { split($2, part, "/"); number[part[1], part[2]] = $3; gsub(/[^0-9]/, "?", number[part[1], part[2]]) }
+# What a terminal would take for a command is no word of a file.
+/[^ -~]/ { gsub(/[^ -~]/, "?") }
+$1 == "worker" || $1 == "shard" { name[$2] = $3 }
+$1 == "record" { split($2, part, "/"); number[part[1], part[2]] = $3 }
 $3 == "taken"  { split($4, part, "/"); stream[$5] = part[1] }
 $3 == "taken"  { over(holder[$4], $1, who[holder[$4]] == $7 ? "taken by itself" : "taken by " named($7)); key[$5] = $4; who[$5] = $7; begun[$5] = $1; holder[$4] = $5; order[++n] = $5 }
 $3 == "freed"  { over($4, $1, "freed"); holder[key[$4]] = "" }
