@@ -1,0 +1,141 @@
+"""The blocks of README.md and docs/clients.md that people copy, run as they stand there but for the port: the first one of README and its boto3 program,
+the script for CI with and without `bash -e`, and the Python that sends a file of requests and turns a stream's limits on."""
+import importlib.util
+import json
+import os
+import pathlib
+import re
+import shutil
+import socket
+import subprocess
+import sys
+import tempfile
+import time
+import unittest
+import urllib.request
+
+from server import JSON, ROOT, free_port, serving, take_checked
+
+PORT = '4567'
+PYTEST = '''#!/usr/bin/env bash
+echo "tests at $AWS_ENDPOINT_URL_KINESIS"
+curl -s "$AWS_ENDPOINT_URL_KINESIS" -H 'X-Amz-Target: Kinesis_20131202.ListStreams' -H 'Content-Type: %s' -d '{}'
+exit "$TESTS_END_WITH"
+''' % JSON
+
+
+def block(page, begin):
+    """The indented block of a page whose text begins so, with its blank lines."""
+    text = (ROOT / page).read_text()
+    found = [part for part in re.findall(r'((?:^    .*\n|^\n(?=    ))+)', text, re.M) if re.match(rf'\s*{re.escape(begin)}', part)]
+    assert len(found) == 1, f'{page}: {len(found)} blocks begin with {begin}'
+    lines = found[0].strip('\n').splitlines()
+    margin = min(len(line) - len(line.lstrip()) for line in lines if line.strip())
+    return '\n'.join(line[margin:] for line in lines) + '\n'
+
+
+def listens(port):
+    with socket.socket() as probe:
+        return probe.connect_ex(('127.0.0.1', port)) == 0
+
+
+class Script(unittest.TestCase):
+    """The script for CI, in a folder that has nothing but a stub of `pytest`."""
+
+    def setUp(self):
+        if shutil.which('curl') is None:
+            self.skipTest('there is no curl on this machine')
+        if 'KDS' not in os.environ:
+            take_checked()
+        self.port = free_port()
+        self.room = pathlib.Path(tempfile.mkdtemp())
+        self.addCleanup(shutil.rmtree, self.room)
+        for name in ('kept', 'bin', 'work'):
+            (self.room / name).mkdir()
+        shutil.copy(os.environ['KDS'], self.room / 'kept' / 'kds_cli')
+        (self.room / 'bin' / 'pytest').write_text(PYTEST)
+        (self.room / 'bin' / 'pytest').chmod(0o755)
+        (self.room / 'script').write_text(block('docs/clients.md', 'export AWS_ENDPOINT_URL_KINESIS').replace(PORT, str(self.port)))
+
+    def run_script(self, flags, tests_end_with):
+        words = {'PATH': f'{self.room}/bin:{os.environ["PATH"]}', 'KEPT': str(self.room / 'kept'), 'TESTS_END_WITH': str(tests_end_with)}
+        return subprocess.run(['bash', *flags, self.room / 'script'], cwd=self.room / 'work', env=os.environ | words, capture_output=True, text=True, timeout=60, check=False)
+
+    def assert_nothing_left(self):
+        self.assertEqual([], list((self.room / 'work').iterdir()))
+        self.assertFalse(listens(self.port))
+        self.assertEqual('', subprocess.run(['pgrep', '-f', self.room / 'kept'], stdout=subprocess.PIPE, text=True, check=False).stdout)
+
+    def test_its_status_is_that_of_the_tests_and_nothing_is_left(self):
+        for flags in ([], ['-e'], ['-e', '-o', 'pipefail']):
+            for status in (0, 3):
+                with self.subTest(flags=flags, status=status):
+                    done = self.run_script(flags, status)
+                    self.assertEqual((status, ''), (done.returncode, done.stderr))
+                    self.assertEqual(f'tests at http://127.0.0.1:{self.port}\n{{"HasMoreStreams":false,"StreamNames":[]}}', done.stdout)
+                    self.assert_nothing_left()
+
+    def test_a_fifo_of_an_earlier_run_is_no_matter(self):
+        os.mkfifo(self.room / 'work' / 'ready')
+        self.assertEqual(0, self.run_script(['-e'], 0).returncode)
+        self.assert_nothing_left()
+
+    def test_a_port_in_use_is_named(self):
+        with socket.socket() as other:
+            other.bind(('127.0.0.1', self.port))
+            other.listen()
+            for flags in ([], ['-e']):
+                done = self.run_script(flags, 0)
+                self.assertEqual((1, 'kds ended with status 8\n'), (done.returncode, done.stdout))
+                self.assertEqual([], list((self.room / 'work').iterdir()))
+
+    def test_the_page_has_the_tunables_of_the_script(self):
+        wanted = re.search(r'^tunables=(\S+)$', (ROOT / 'help' / 'programs').read_text(), re.M)[0]
+        self.assertIn(wanted, (self.room / 'script').read_text().splitlines())
+
+
+class Blocks(unittest.TestCase):
+    """The other ones."""
+
+    def python(self, text, server, cwd=None):
+        done = subprocess.run([sys.executable, '-c', text.replace(PORT, str(server.port))], cwd=cwd, capture_output=True, text=True, timeout=60, check=False)
+        self.assertEqual((0, ''), (done.returncode, done.stderr))
+        return done.stdout
+
+    def ask(self, server, operation, body):
+        head = {'X-Amz-Target': f'Kinesis_20131202.{operation}', 'Content-Type': JSON}
+        with urllib.request.urlopen(urllib.request.Request(server.endpoint + '/', json.dumps(body).encode(), head)) as answer:
+            return json.loads(answer.read() or b'{}')
+
+    @unittest.skipIf(shutil.which('aws') is None, 'there is no AWS CLI on this machine')
+    def test_the_first_block_of_readme(self):
+        port, text = free_port(), block('README.md', '$ ./kds serve')
+        commands, shown = [], []
+        for line in text.replace(PORT, str(port)).splitlines():
+            (commands if line.startswith('$ ') else shown).append(line.removeprefix('$ '))
+        ready = f'until (exec 3<> /dev/tcp/127.0.0.1/{port}) 2> /dev/null; do sleep 0.05; done'
+        script = '\n'.join([commands[0], ready, *commands[1:], 'kill %1; wait %1'])
+        done = subprocess.run(['bash', '-c', script], cwd=ROOT, capture_output=True, text=True, timeout=60, check=False)
+        self.assertEqual((143, shown), (done.returncode, done.stdout.splitlines()), done.stderr)
+
+    @unittest.skipIf(importlib.util.find_spec('boto3') is None, 'there is no boto3 on this machine')
+    def test_the_boto3_program_of_readme(self):
+        with serving(members=2) as server:
+            self.assertEqual('1\n', self.python(block('README.md', 'import boto3'), server))
+
+    def test_the_requests_of_a_file(self):
+        with serving(members=2) as server, tempfile.TemporaryDirectory() as room:
+            shutil.copy(ROOT / 'examples' / 'first.txt', pathlib.Path(room) / 'puts.txt')
+            self.python(block('docs/clients.md', 'import urllib.request'), server, room)
+            self.assertEqual({'StreamNames': ['s'], 'HasMoreStreams': False}, self.ask(server, 'ListStreams', {}))
+
+    def test_limits_on_writing_are_turned_on(self):
+        """More records than a second takes are sent in one request after another, until some are refused."""
+        with serving(members=2) as server:
+            self.ask(server, 'CreateStream', {'StreamName': 's', 'ShardCount': 1})
+            self.python(block('docs/clients.md', 'import json, urllib.request'), server)
+            many = {'StreamName': 's', 'Records': [{'PartitionKey': 'a', 'Data': 'aGk='}] * 500}
+            end, refused = time.monotonic() + 20, 0
+            while not refused and time.monotonic() < end:
+                refused = self.ask(server, 'PutRecords', many)['FailedRecordCount']
+            self.assertGreater(refused, 0)
