@@ -43,12 +43,12 @@ function check_worker() {
 {
     text = $0
     if (text ~ /^journal [0-9]+$/) say("this looks like a journal: use audit")
-    if (text ~ /\r$/) say("it ends with CR LF: take the CR out by tr -d '\\r'")
+    if (text ~ /\r$/) say("it ends with CR LF: take the CR out with tr -d '\\r'")
+    if (text ~ /^[0-9]+\t/ || text ~ /^[0-9]+ [a-z]+\t/) say("fields are separated by one space, and here is a tab")
     if (text ~ /^[ \t]*$/) say("it is empty; clients/schedule takes blank lines out")
     if (text ~ /^[ \t]*#/) say("it is a comment; clients/schedule takes comments out")
     if (text ~ /^[0-9]+-[0-9]+-[0-9]+/) say("a moment is a number of milliseconds; clients/schedule makes moments of dates")
     if (text ~ /^ /) say("it begins with a space")
-    count = split(text, field, " ")
     # split by one space, so that two are seen
     count = split(text, field, /[ ]/)
     if (!is_number(field[1])) say("the first field is a moment, milliseconds without a needless zero, and here it is \"" substr(field[1], 1, 80) "\"")
