@@ -1,5 +1,5 @@
-"""The blocks of README.md and docs/clients.md that people copy, run as they stand there but for the port: the first one of README and its boto3 program,
-the script for CI with and without `bash -e`, and the Python that sends a file of requests and turns a stream's limits on."""
+"""The blocks of README.md and docs/clients.md that people copy, run as they stand there except for the port: the first block of README and its boto3 program,
+the script for CI with and without `bash -e`, the fixture of pytest, and the Python that sends a file of requests and turns a stream's limits on."""
 import importlib.util
 import json
 import os
@@ -122,6 +122,22 @@ class Blocks(unittest.TestCase):
     def test_the_boto3_program_of_readme(self):
         with serving(members=2) as server:
             self.assertEqual('1\n', self.python(block('README.md', 'import boto3'), server))
+
+    @unittest.skipIf(importlib.util.find_spec('boto3') is None, 'there is no boto3 on this machine')
+    def test_the_fixture(self):
+        """With a stub of `pytest` whose fixtures are the functions: it gives a client of a new server, and ends that."""
+        if 'KDS' not in os.environ:
+            take_checked()
+        use = "made = kinesis()\nclient = next(made)\nprint(client.list_streams()['StreamNames'], client.meta.endpoint_url)\nnext(made, None)\n"
+        with tempfile.TemporaryDirectory() as room:
+            shutil.copy(os.environ['KDS'], pathlib.Path(room) / 'kds_cli')
+            (pathlib.Path(room) / 'pytest.py').write_text('def fixture(function):\n    return function\n')
+            text = block('docs/clients.md', 'import socket, subprocess, boto3, pytest') + use
+            done = subprocess.run([sys.executable, '-c', text], cwd=room, capture_output=True, text=True, timeout=60, check=False)
+        self.assertEqual(0, done.returncode, done.stderr)
+        found = re.fullmatch(r'\[\] http://127\.0\.0\.1:(\d+)\n', done.stdout)
+        self.assertTrue(found, done.stdout)
+        self.assertFalse(listens(int(found[1])))
 
     def test_the_requests_of_a_file(self):
         with serving(members=2) as server, tempfile.TemporaryDirectory() as room:
