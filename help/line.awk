@@ -1,4 +1,4 @@
-# Tells what is wrong with a line that is none of a schedule (docs/formats.md, "Schedule"), as far as its form shows. `number` is the line's.
+# Says what is wrong with a line that isn't a schedule line (docs/formats.md, "Schedule"), as far as its form shows. `number` is the line's.
 
 function say(text) { printf "kds: line %d: %s\n", number, text; told = 1; exit }
 function is_number(text) { return text ~ /^(0|[1-9][0-9]*)$/ }
