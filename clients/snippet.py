@@ -86,7 +86,7 @@ class Script(unittest.TestCase):
             other.listen()
             for flags in ([], ['-e']):
                 done = self.run_script(flags, 0)
-                self.assertEqual((1, 'kds ended with status 8\n'), (done.returncode, done.stdout))
+                self.assertEqual((1, 'kds ended with status 8\n', 'door fault\n'), (done.returncode, done.stdout, done.stderr))
                 self.assertEqual([], list((self.room / 'work').iterdir()))
 
     def test_the_page_has_the_tunables_of_the_script(self):
@@ -132,8 +132,8 @@ class Blocks(unittest.TestCase):
         with tempfile.TemporaryDirectory() as room:
             shutil.copy(os.environ['KDS'], pathlib.Path(room) / 'kds_cli')
             (pathlib.Path(room) / 'pytest.py').write_text('def fixture(function):\n    return function\n')
-            text = block('docs/clients.md', 'import socket, subprocess, boto3, pytest') + use
-            done = subprocess.run([sys.executable, '-c', text], cwd=room, capture_output=True, text=True, timeout=60, check=False)
+            text = block('docs/clients.md', 'import os, socket, subprocess, boto3, pytest') + use
+            done = subprocess.run([sys.executable, '-c', text], cwd=room, env=os.environ | {'KEPT': room}, capture_output=True, text=True, timeout=60, check=False)
         self.assertEqual(0, done.returncode, done.stderr)
         found = re.fullmatch(r'\[\] http://127\.0\.0\.1:(\d+)\n', done.stdout)
         self.assertTrue(found, done.stdout)
