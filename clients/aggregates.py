@@ -7,15 +7,15 @@ Each payload is put behind another record, and a worker `users` steps until it h
 one user record to be done, so its checkpoint tells whether the payload has no user records, one, or more: where it is no
 aggregate it is one, and so no aggregate that is written here has exactly one."""
 import base64
-import pathlib
 import random
+import shutil
 import subprocess
-import sys
 import unittest
 
 import aggregate
+from server import ROOT
+from checks import asked, is_number
 
-ROOT = pathlib.Path(__file__).resolve().parent.parent
 NUMBER = 10_000
 STEPS = 12
 EMPTY = aggregate.pack([])
@@ -240,11 +240,16 @@ class Aggregates(unittest.TestCase):
         self.assertTrue(NUMBER // 10 < none < NUMBER * 9 // 10)
 
 
-def main(words):
+def are_words(words):
+    return not words or is_number(words[0], 2, 10**9) and all(shutil.which(it) for it in words[1:2])
+
+
+def main():
+    words = asked(__doc__, 'clients/aggregates.py [NUMBER [PROGRAM ..]], 2 payloads or more', are_words)
     number = int(words[0]) if words else NUMBER
     none = compare(words[1:] or [ROOT / 'kds'], number // 2)
     print(f'{number // 2 * 2} payloads, of which {none} are no aggregates: read alike')
 
 
 if __name__ == '__main__':
-    main(sys.argv[1:])
+    main()

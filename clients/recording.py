@@ -28,7 +28,6 @@ def program(name):
     """A program of this folder, as a module."""
     loader = importlib.machinery.SourceFileLoader(name, str(pathlib.Path(__file__).with_name(name)))
     module = importlib.util.module_from_spec(importlib.util.spec_from_loader(name, loader))
-    sys.dont_write_bytecode = True
     loader.exec_module(module)
     return module
 

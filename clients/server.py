@@ -6,18 +6,21 @@ import select
 import signal
 import socket
 import subprocess
+import sys
 import time
 
 ROOT = pathlib.Path(__file__).resolve().parent.parent
+sys.path.insert(0, str(ROOT / '.ci'))
+from checks import program  # noqa: E402
+
 JSON = 'application/x-amz-json-1.1'
 # The seconds after which the server ends a connection that sends nothing, and one that takes nothing of its answer (docs/clients.md).
 IDLE, FULL = 10, 30
 
 
 def take_checked():
-    """Has `./kds` run the program that is to be checked (help/checked), which is built first where that is due."""
-    done = subprocess.run([ROOT / 'help' / 'checked'], stdout=subprocess.PIPE, text=True, check=True)
-    os.environ['KDS'] = done.stdout.rstrip('\n')
+    """Has `./kds` run the program that is to be checked, which is built first where that is due."""
+    os.environ['KDS'] = program()
 
 
 def free_port():

@@ -3,7 +3,6 @@ lengths, thousands of requests at once, resets in mid-answer, readers that stop,
 clients that stay. After each a normal client is served, and the memory of the server stays bounded."""
 import contextlib
 import json
-import os
 import random
 import resource
 import select

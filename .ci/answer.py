@@ -5,24 +5,22 @@ isn't there, this says so and checks nothing."""
 import base64
 import json
 import os
-import pathlib
 import random
 import socketserver
 import subprocess
 import sys
+import tempfile
 import threading
 import time
+
+from checks import SECONDS, Tally, asked, fail, program
 
 try:
     import boto3
     from botocore.config import Config
 except ImportError:
-    print('skipped: there is no boto3 on this machine')
-    sys.exit(0)
+    boto3 = None
 
-ROOT = pathlib.Path(__file__).resolve().parent.parent
-# the program to be checked, built first where that is due
-KDS = pathlib.Path(subprocess.run([ROOT / 'help' / 'checked'], stdout=subprocess.PIPE, text=True, check=True).stdout.rstrip('\n'))
 SEEDS = range(1, 6)
 JSON = 'application/x-amz-json-1.1'
 CANNED = f'HTTP/1.1 200 OK\r\nContent-Type: {JSON}\r\nContent-Length: 2\r\n\r\n{{}}'.encode()
@@ -77,25 +75,31 @@ def record():
 
 
 def answer(data, seed):
-    """The status and the output of the program on these bytes, cut at random places."""
+    """The status, the output and the error output of the program on these bytes, cut at random places."""
     chance = random.Random(seed)
-    program = subprocess.Popen([str(KDS), 'answer'], stdin=subprocess.PIPE, stdout=subprocess.PIPE,
-                               stderr=subprocess.DEVNULL)
+    errors = tempfile.TemporaryFile()
+    asking = subprocess.Popen([KDS, 'answer'], stdin=subprocess.PIPE, stdout=subprocess.PIPE, stderr=errors)
+    limit = threading.Timer(SECONDS, asking.kill)
+    limit.daemon = True
+    limit.start()
     output = []
-    reader = threading.Thread(target=lambda: output.append(program.stdout.read()))
+    reader = threading.Thread(target=lambda: output.append(asking.stdout.read()))
     reader.start()
     place = 0
     while place < len(data):
         size = chance.choice([1, 2, chance.randint(1, 40), chance.randint(1, 400)])
         try:
-            os.write(program.stdin.fileno(), data[place:place + size])
+            os.write(asking.stdin.fileno(), data[place:place + size])
         except BrokenPipeError:
             break
         place += size
         time.sleep(0.001)
-    program.stdin.close()
+    asking.stdin.close()
     reader.join()
-    return program.wait(), output[0]
+    limit.cancel()
+    with errors:
+        errors.seek(0)
+        return asking.wait(), output[0], errors.read().decode(errors='replace')
 
 
 def responses(data):
@@ -116,34 +120,39 @@ def responses(data):
     return found
 
 
-def check(requests):
-    """What is wrong, one line each."""
+def check(tally, requests):
     wanted = [200, 200, 200, 200, 200, 200, 200, 400]
     data = b''.join(requests)
     for seed in SEEDS:
-        status, output = answer(data, seed)
+        status, output, errors = answer(data, seed)
+        tally.check(f'seed {seed}: status and errors', (0, ''), (status, errors))
         found = responses(output)
-        if status != 0 or [code for code, _ in found] != wanted:
-            yield f'seed {seed}: status {status}, responses {found}'
-            continue
-        if found[0][1] is not None or found[1][1] != {'SequenceNumber': '1', 'ShardId': 'shardId-000000000000'}:
-            yield f'seed {seed}: responses {found[:2]}'
-        if [record['Data'] for record in found[3][1]['Records']] != ['aGk=']:
-            yield f'seed {seed}: records {found[3]}'
-        if found[7][1]['__type'] != 'ResourceNotFoundException':
-            yield f'seed {seed}: refusal {found[7]}'
-    status, output = answer(data[:-1], 0)
-    if status != 7 or len(responses(output)) != len(requests) - 1:
-        yield f'cut: status {status}, responses {responses(output)}'
+        codes = [code for code, _ in found]
+        tally.check(f'seed {seed}: responses', wanted, codes)
+        if codes == wanted:
+            tally.check(f'seed {seed}: the first ones', [None, {'SequenceNumber': '1', 'ShardId': 'shardId-000000000000'}], [body for _, body in found[:2]])
+            tally.check(f'seed {seed}: records', ['aGk='], [record['Data'] for record in found[3][1]['Records']])
+            tally.check(f'seed {seed}: the refusal', 'ResourceNotFoundException', found[7][1]['__type'])
+    status, output, errors = answer(data[:-1], 0)
+    tally.check('cut: status and errors', (7, 'input ended inside a message\n'), (status, errors))
+    tally.check('cut: responses', len(requests) - 1, len(responses(output)))
 
 
-recorded = record()
-others = [request for request in recorded if f'Content-Type: {JSON}\r\n'.encode() not in request]
-if others:
-    print(f'FAILED boto3 {boto3.__version__} sent another content type: {others[0]}')
-    sys.exit(1)
-failures = list(check(recorded))
-for failure in failures:
-    print(f'FAILED {failure}')
-print(f'boto3 {boto3.__version__}: {len(recorded)} requests, {len(SEEDS)} cuttings, {len(failures)} failed')
-sys.exit(1 if failures else 0)
+def main():
+    global KDS  # the program to be checked
+    asked(__doc__, '.ci/answer.py')
+    if not boto3:
+        print('skipped: there is no boto3 on this machine')
+        return 0
+    KDS = program()
+    recorded = record()
+    others = [request for request in recorded if f'Content-Type: {JSON}\r\n'.encode() not in request]
+    if others:
+        fail(f'boto3 {boto3.__version__} sent another content type: {others[0]}')
+    tally = Tally()
+    check(tally, recorded)
+    return tally.end(f'boto3 {boto3.__version__}: {len(recorded)} requests, {len(SEEDS)} cuttings: ')
+
+
+if __name__ == '__main__':
+    sys.exit(main())

@@ -1,15 +1,14 @@
 #!/usr/bin/env python3
 """The definitions that the contract of `run` reaches, in an order to read: file by file, lowest first, each file's in its own order. It
 starts at the names in the clauses of `run`, and follows the imports of the specs (`use`) down, definition by definition. It prints the
-table that docs/proved.md has; `.ci/names` compares the two.
+table that docs/proved.md has; `.ci/names.py` compares the two.
 
-    .ci/reached              the table
-    .ci/reached contract     the contract itself, as a block of Markdown"""
-import pathlib
+    .ci/reached.py              the table
+    .ci/reached.py contract     the contract itself, as a block of Markdown"""
 import re
-import sys
 
-ROOT = pathlib.Path(__file__).resolve().parent.parent
+from checks import ROOT, asked
+
 TOP = 'crates/kds_cli_runs/src/program.rt'
 TOP_FUNCTION = 'run'
 # a definition begins at the head of a line, or in a module with parameters by two spaces
@@ -166,4 +165,5 @@ def table():
 
 
 if __name__ == '__main__':
-    print('\n'.join('    ' + line for line in contract().splitlines()) if sys.argv[1:] == ['contract'] else '\n'.join(table()))
+    wanted = asked(__doc__, '.ci/reached.py [contract]', lambda words: words in ([], ['contract']))
+    print('\n'.join('    ' + line for line in contract().splitlines()) if wanted else '\n'.join(table()))

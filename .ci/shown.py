@@ -2,12 +2,12 @@
 """Prints functions as they stand, for docs/calling.md: with their comments, attributes and contracts. They are those of the crate that the page is about
 (docs/calling), and else of the crates of tests.
 
-    .ci/shown NAME     the function of this name; `head` is what stands before the first one of docs/calling, `invariants` its proof"""
-import pathlib
+    .ci/shown.py NAME     the function of this name; `head` is what stands before the first one of docs/calling, `invariants` its proof"""
 import re
 import sys
 
-ROOT = pathlib.Path(__file__).resolve().parent.parent
+from checks import ROOT, asked
+
 CRATE = ROOT / 'docs/calling/lib.rt.txt'
 PROOF = ROOT / 'docs/calling/Invariants.antt.txt'
 
@@ -36,18 +36,16 @@ def of_tests(name):
     return [lines for path in sorted(ROOT.glob('crates/test_*/src/*.rt')) for lines in functions(path).get(name, [])]
 
 
-def main(words):
-    if len(words) != 1 or words[0].startswith('-'):
-        print(__doc__)
-        return 0 if words in (['--help'], ['-h']) else 2
+def main():
+    name, = asked(__doc__, '.ci/shown.py NAME', lambda words: len(words) == 1 and not words[0].startswith('-'))
     parts = {'head': head(), 'invariants': PROOF.read_text().splitlines()}
-    found = [parts[words[0]]] if words[0] in parts else functions(CRATE).get(words[0]) or of_tests(words[0])
+    found = [parts[name]] if name in parts else functions(CRATE).get(name) or of_tests(name)
     if len(found) != 1:
-        print(f'{len(found)} functions of the crates of tests are named {words[0]}', file=sys.stderr)
+        print(f'{len(found)} functions of the crates of tests are named {name}', file=sys.stderr)
         return 1
     print('\n'.join(f'    {line}'.rstrip() for line in found[0]))
     return 0
 
 
 if __name__ == '__main__':
-    sys.exit(main(sys.argv[1:]))
+    sys.exit(main())

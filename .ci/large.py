@@ -2,11 +2,10 @@
 """The built program at its limits on bytes, records, batches, lines of a schedule and bodies of requests, a worker that reads ahead, and many
 shards, rows, tenures, workers and user records. The texts are too long to be kept, so they are made here."""
 import base64
-import pathlib
-import subprocess
 import sys
 
-ROOT = pathlib.Path(__file__).resolve().parent.parent
+from checks import ROOT, Tally, asked, program, run as limited
+
 sys.path.insert(0, str(ROOT / 'clients'))
 import aggregate as aggregates  # noqa: E402
 
@@ -14,21 +13,13 @@ RECORD = 10_485_760
 LINE = 16_777_216
 BODY = 16_777_216
 
-passed = failed = 0
-
-
-def check(name, wanted, given):
-    global passed, failed
-    if wanted == given:
-        passed += 1
-    else:
-        failed += 1
-        print(f'FAILED {name}: wanted {wanted[:200]!r}, given {given[:200]!r}')
+tally = Tally()
+check = tally.check
 
 
 def run(word, data):
     """The status, the output and the error output of the program by this word."""
-    done = subprocess.run([str(KDS), word], input=data, capture_output=True, check=False)
+    done = limited([KDS, word], word, input=data, capture_output=True)
     return done.returncode, done.stdout, done.stderr
 
 
@@ -190,8 +181,9 @@ def replayed(name, lines):
 
 
 def main():
-    global KDS  # the program to be checked, built first where that is due
-    KDS = pathlib.Path(subprocess.run([ROOT / 'help' / 'checked'], stdout=subprocess.PIPE, text=True, check=True).stdout.rstrip('\n'))
+    global KDS  # the program to be checked
+    asked(__doc__, '.ci/large.py')
+    KDS = program()
     replayed('records', records())
     replayed('limits on throughput', enforced())
     replayed('records read ahead', read_ahead())
@@ -210,8 +202,7 @@ def main():
     check('longest body', (0, listed, b''), run('answer', request(body)))
     check('too long a body', (10, refused, b'message refused\n'), run('answer', request(b'{}', BODY + 1)))
 
-    print(f'{passed} passed, {failed} failed')
-    return 1 if failed else 0
+    return tally.end()
 
 
 if __name__ == '__main__':

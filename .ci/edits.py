@@ -1,11 +1,10 @@
 #!/usr/bin/env python3
 """The wrong bodies that the proofs must refuse, crate by crate: the file that each edit changes and the edits' names. The gate tries those of
-crates/*/must-fail/; those of crates/*/more-edits/ are tried by `./dev edits` alone. It prints the tables that docs/wrong-bodies.md has; `.ci/names`
+crates/*/must-fail/; those of crates/*/more-edits/ are tried by `./dev edits` alone. It prints the tables that docs/wrong-bodies.md has; `.ci/names.py`
 compares the two."""
-import pathlib
 import re
 
-ROOT = pathlib.Path(__file__).resolve().parent.parent
+from checks import ROOT, asked
 
 
 def edits(folder):
@@ -40,4 +39,5 @@ def tables():
 
 
 if __name__ == '__main__':
+    asked(__doc__, '.ci/edits.py')
     print('\n'.join(tables()))

@@ -1,13 +1,13 @@
 #!/usr/bin/env bash
 # Makes the crate of docs/calling.md in a copy of this repository, by the commands that the page gives, and runs its test.
 #
-#     .ci/calling [--prove]     without a proof, which takes some minutes; or proved, which takes more
+#     .ci/calling.sh [--prove]     without a proof, which takes some minutes; or proved, which takes more
 set -u
 cd "$(dirname "$0")/.." || exit 1
 case $*,$# in
     ,0) last='rt try --test' ;;
     --prove,1) last='rt test' ;;
-    *) echo 'usage: .ci/calling [--prove]' >&2; exit 2 ;;
+    *) echo 'usage: .ci/calling.sh [--prove]' >&2; exit 2 ;;
 esac
 room=$(mktemp -d) || exit 1
 trap 'rm -rf "$room"' EXIT

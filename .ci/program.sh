@@ -2,16 +2,18 @@
 # The built program from outside: each example gives its stored output, its journal and its audit, an input that can't be read is a
 # read fault and a full output a write fault, and words that ask for no task are usage.
 #
-#     .ci/program [--quick]     the program to be checked (help/checked), or the quick one, built where that is due
+#     .ci/program.sh [--quick]     the program to be checked (help/checked), or the quick one, built where that is due
 set -u
 cd "$(dirname "$0")/.." || exit 1
 
-# The program itself, without what `./kds` adds to its words (.ci/help).
-case ${1-} in
-    '') kds=$(help/checked) || exit ;;
-    --quick) kds=$(help/try --name) || exit ;;
-    *) echo 'usage: .ci/program [--quick]' >&2; exit 2 ;;
+# The program itself, without what `./kds` adds to its words (.ci/help.sh). One that doesn't end is ended, with the status 124.
+case $* in
+    '') program=$(help/checked) || exit ;;
+    --quick) program=$(help/try --name) || exit ;;
+    --help | -h) sed -n '/^#!/d; /^#/!q; s/^# \{0,1\}//p' .ci/program.sh; exit ;;
+    *) echo 'usage: .ci/program.sh [--quick]; --help says more' >&2; exit 2 ;;
 esac
+kds=(timeout 60 "$program")
 
 failed=0
 passed=0
@@ -42,14 +44,14 @@ work=$(mktemp -d) || exit 1
 trap 'rm -rf "$work"' EXIT
 
 for name in first leases early-mark workers aggregates rolling-restart rolling-restart-by-stops every-entry incident mid-life late-delivery stuck-child scaling request-faults requests-at-the-edges hostile-requests; do
-    "$kds" replay < "examples/$name.txt" > "$work/out" 2> "$work/err"
+    "${kds[@]}" replay < "examples/$name.txt" > "$work/out" 2> "$work/err"
     check "$name.txt: status" 0 $?
     same "$name.txt: output" "examples/$name.out" "$work/out"
     holds "$name.txt: errors" '' "$work/err"
 done
 
 for name in leases workers every-entry incident mid-life late-delivery stuck-child scaling; do
-    "$kds" replay --journal < "examples/$name.txt" > "$work/out" 2> "$work/err"
+    "${kds[@]}" replay --journal < "examples/$name.txt" > "$work/out" 2> "$work/err"
     check "$name.txt, journal: status" 0 $?
     same "$name.txt, journal: output" "examples/$name.journal" "$work/out"
     holds "$name.txt, journal: errors" '' "$work/err"
@@ -58,14 +60,14 @@ done
 # A rolling restart delivers nothing twice where each worker hands its leases on; where they are only stopped, it does, and so does a worker
 # that has lost its lease.
 for name in rolling-restart:0 rolling-restart-by-stops:5 incident:3 mid-life:8 late-delivery:2; do
-    "$kds" replay --journal < "examples/${name%:*}.txt" > "$work/out" 2> "$work/err"
+    "${kds[@]}" replay --journal < "examples/${name%:*}.txt" > "$work/out" 2> "$work/err"
     check "${name%:*}.txt, journal: status" 0 $?
     names=examples/${name%:*}.names
     [ "${name%:*}" = mid-life ] || names=
     awk -f examples/delivered-twice.awk ${names:+"$names"} "$work/out" > "$work/twice" 2>&1
     same "${name%:*}.txt: which were delivered twice" "examples/${name%:*}.twice" "$work/twice"
     check "${name%:*}.txt: delivered twice" "${name#*:}" "$(tail -n 1 "$work/twice")"
-    "$kds" audit < "$work/out" > "$work/verdict" 2> "$work/err"
+    "${kds[@]}" audit < "$work/out" > "$work/verdict" 2> "$work/err"
     check "${name%:*}.txt, audit: status" 0 $?
     # each line of a journal but its first and its last is an entry
     holds "${name%:*}.txt, audit: verdict" "sound $(($(wc -l < "$work/out") - 2))"$'\n' "$work/verdict"
@@ -79,68 +81,68 @@ for name in incident mid-life; do
 done
 
 for name in leases:0 workers:0 every-entry:0 stale-mark:1; do
-    "$kds" audit < "examples/${name%:*}.journal" > "$work/out" 2> "$work/err"
+    "${kds[@]}" audit < "examples/${name%:*}.journal" > "$work/out" 2> "$work/err"
     check "${name%:*}.journal: status" "${name#*:}" $?
     same "${name%:*}.journal: output" "examples/${name%:*}.audit" "$work/out"
     holds "${name%:*}.journal: errors" '' "$work/err"
 done
 
-"$kds" audit < /dev/null > "$work/out" 2> "$work/err"
+"${kds[@]}" audit < /dev/null > "$work/out" 2> "$work/err"
 check 'no journal: status' 1 $?
 holds 'no journal: output' $'entry 1 Form\n' "$work/out"
 
-"$kds" replay --journal < examples/bad-line.txt > "$work/out" 2> "$work/err"
+"${kds[@]}" replay --journal < examples/bad-line.txt > "$work/out" 2> "$work/err"
 check 'bad-line.txt, journal: status' 3 $?
 check 'bad-line.txt, journal: last line' '1000 0 put 1 0 1 16955237001963240173058271559858726497 2 1' "$(tail -n 1 "$work/out")"
 holds 'bad-line.txt, journal: errors' $'line 3: not a schedule line\n' "$work/err"
 
-"$kds" replay < /dev/null > "$work/out" 2> "$work/err"
+"${kds[@]}" replay < /dev/null > "$work/out" 2> "$work/err"
 check 'empty schedule: status' 0 $?
 holds 'empty schedule: output' '' "$work/out"
 
-"$kds" replay < examples/bad-line.txt > "$work/out" 2> "$work/err"
+"${kds[@]}" replay < examples/bad-line.txt > "$work/out" 2> "$work/err"
 check 'bad-line.txt: status' 3 $?
 same 'bad-line.txt: output' examples/first.out "$work/out"
 holds 'bad-line.txt: errors' $'line 3: not a schedule line\n' "$work/err"
 
 if [ -e /dev/full ]; then
-    "$kds" replay < examples/first.txt > /dev/full 2> "$work/err"
+    "${kds[@]}" replay < examples/first.txt > /dev/full 2> "$work/err"
     check 'full output: status' 5 $?
     holds 'full output: errors' $'write fault\n' "$work/err"
-    "$kds" audit < examples/workers.journal > /dev/full 2> "$work/err"
+    "${kds[@]}" audit < examples/workers.journal > /dev/full 2> "$work/err"
     check 'full output of an audit: status' 5 $?
     holds 'full output of an audit: errors' $'write fault\n' "$work/err"
 else
     echo 'skipped: there is no /dev/full on this machine'
 fi
 
-"$kds" answer < examples/requests.http > "$work/out" 2> "$work/err"
+"${kds[@]}" answer < examples/requests.http > "$work/out" 2> "$work/err"
 check 'requests.http: status' 0 $?
 same 'requests.http: output' examples/responses.http "$work/out"
 holds 'requests.http: errors' '' "$work/err"
 
-head -c 100 examples/requests.http | "$kds" answer > "$work/out" 2> "$work/err"
+head -c 100 examples/requests.http | "${kds[@]}" answer > "$work/out" 2> "$work/err"
 check 'cut request: status' 7 $?
 holds 'cut request: output' '' "$work/out"
 holds 'cut request: errors' $'input ended inside a message\n' "$work/err"
 
-printf 'GET / HTTP/1.1\r\n\r\n' | "$kds" answer > "$work/out" 2> "$work/err"
+printf 'GET / HTTP/1.1\r\n\r\n' | "${kds[@]}" answer > "$work/out" 2> "$work/err"
 check 'refused request: status' 10 $?
 holds 'refused request: output' $'HTTP/1.1 411 Length Required\r\nContent-Length: 0\r\nConnection: close\r\n\r\n' "$work/out"
 holds 'refused request: errors' $'message refused\n' "$work/err"
 
 printf '1000 api ListStreams {}\n' > "$work/schedule"
-"$kds" replay < "$work" > "$work/out" 2> "$work/err"
+"${kds[@]}" replay < "$work" > "$work/out" 2> "$work/err"
 check 'read fault: status' 4 $?
 holds 'read fault: output' '' "$work/out"
 holds 'read fault: errors' $'read fault\n' "$work/err"
 
-"$kds" replay --journal < "$work/schedule" > "$work/out" 2> "$work/err"
+"${kds[@]}" replay --journal < "$work/schedule" > "$work/out" 2> "$work/err"
 check 'replay --journal: status' 0 $?
 holds 'replay --journal: output' $'journal 2\nend 1000\n' "$work/out"
 holds 'replay --journal: errors' '' "$work/err"
 
-"$kds" drill 1 2 0 > "$work/out" 2> "$work/err"
+"${kds[@]}" drill 1 2 0 > "$work/out" 2> "$work/err"
 check 'drill 1 2 0: status' 0 $?
 holds 'drill 1 2 0: output' "$(printf 'shardId-00000000000%d 0 TRIM_HORIZON\n' 0 1 2 3)"$'\ntotal 0 0\n' "$work/out"
 holds 'drill 1 2 0: errors' '' "$work/err"
@@ -158,7 +160,7 @@ while IFS= read -r line; do
             *) rest='' ;;
         esac
     done
-    left=$({ "$kds" "${words[@]}" > "$work/out" 2> "$work/err"; echo $? > "$work/status"; cat; } < "$work/schedule")
+    left=$({ "${kds[@]}" "${words[@]}" > "$work/out" 2> "$work/err"; echo $? > "$work/status"; cat; } < "$work/schedule")
     check "words '$line': status" 2 "$(cat "$work/status")"
     holds "words '$line': errors" "$usage"$'\n' "$work/err"
     holds "words '$line': output" '' "$work/out"
@@ -212,7 +214,7 @@ END
 # So is a word that isn't UTF-8, alone or behind a task's words.
 for words in $'\xff' $'replay\xff' $'answer \xc3\x28' $'replay \xed\xa0\x80' $'drill 1 2 \xff'; do
     # shellcheck disable=SC2086
-    "$kds" $words < "$work/schedule" > "$work/out" 2> "$work/err"
+    "${kds[@]}" $words < "$work/schedule" > "$work/out" 2> "$work/err"
     status=$?
     shown=$(printf '%q' "$words")
     check "words $shown: status" 2 "$status"

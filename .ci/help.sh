@@ -3,6 +3,11 @@
 # exit status is the program's.
 set -u
 cd "$(dirname "$0")/.." || exit 1
+case $* in
+    '') ;;
+    --help | -h) sed -n '/^#!/d; /^#/!q; s/^# \{0,1\}//p' .ci/help.sh; exit ;;
+    *) echo 'usage: .ci/help.sh; --help says more' >&2; exit 2 ;;
+esac
 
 failed=0
 passed=0
@@ -21,7 +26,7 @@ tell() { # HOLDS NAME WHAT
 slip() { # STATUS OWN-LINE PART WORD..
     local status=$1 own=$2 part=$3
     shift 3
-    "$@" > "$work/out" 2> "$work/err"
+    timeout 60 "$@" > "$work/out" 2> "$work/err"
     local given=$?
     [ "$given" -eq "$status" ] && [ "$(head -n 1 "$work/err")" = "$own" ] && [[ "$(sed 1d "$work/err")" == *"$part"* ]]
     tell $? "$*" "status $given, $(cat "$work/err")"
@@ -31,7 +36,7 @@ slip() { # STATUS OWN-LINE PART WORD..
 answers() { # PART WORD..
     local part=$1
     shift
-    "$@" < /dev/null > "$work/out" 2> "$work/err"
+    timeout 60 "$@" < /dev/null > "$work/out" 2> "$work/err"
     local given=$?
     [ "$given" -eq 0 ] && [[ "$(cat "$work/out")" == *"$part"* ]] && [ ! -s "$work/err" ]
     tell $? "$*" "status $given, $(head -n 2 "$work/out" "$work/err")"
@@ -148,14 +153,14 @@ tell $? 'an audit of a pipe' "$(cat "$work/err")"
 slip 4 'read fault' 'is a directory' ./kds replay < "$work"
 slip 4 'read fault' 'is closed' ./kds replay <&-
 if [ -e /dev/full ]; then
-    ./kds replay < examples/first.txt > /dev/full 2> "$work/err"
+    timeout 60 ./kds replay < examples/first.txt > /dev/full 2> "$work/err"
     [ $? -eq 5 ] && [ "$(head -n 1 "$work/err")" = 'write fault' ] && grep -q 'disk is full' "$work/err"
     tell $? 'a full disk' "$(cat "$work/err")"
 fi
 mkfifo "$work/said"
 ./kds serve 4591 2 > "$work/said" &
-read -r listening < "$work/said"
-[ "$listening" = listening ] && slip 8 'door fault' 'port 4591 is in use' ./kds serve 4591 2
+read -r -t 60 listening < "$work/said"
+[ "${listening:-}" = listening ] && slip 8 'door fault' 'port 4591 is in use' ./kds serve 4591 2
 kill %1 && wait %1 2> /dev/null
 
 # Words of `./dev` and of the scripts behind it that are none: usage, and nothing starts.
@@ -164,7 +169,7 @@ slip 2 'usage: ./dev check CRATE' 'lists them' ./dev check nosuch
 slip 2 'usage: ./dev edits CRATE' 'lists them' ./dev edits
 slip 2 'usage: ./dev try WORD..' 'the words are those of ./kds' ./dev try
 slip 2 'usage: ./dev faults WORD..' 'the words are those of ./kds' ./dev faults
-for words in './dev names --wirte' './dev crates --x' './dev calling --x' '.ci/together nosuch' '.ci/program --slow'; do
+for words in './dev nosuch' './dev names --wirte' './dev crates --x' './dev calling --x' '.ci/together.py nosuch' '.ci/program.sh --slow'; do
     # shellcheck disable=SC2086
     $words > "$work/out" 2>&1
     tell $(($? != 2)) "$words" "$(head -n 2 "$work/out")"
@@ -178,9 +183,9 @@ done
 for words in build test clients check gate; do
     answers './dev build' timeout 20 ./dev $words --help
 done
-for script in bench/* clients/viewer clients/record clients/schedule clients/dump .ci/names .ci/crates; do
+for script in .ci/* bench/* clients/*; do
     if [ -x "$script" ] && [ -f "$script" ]; then
-        answers '' timeout 20 "$script" --help
+        answers '' "$script" --help
         [ -s "$work/out" ]
         tell $? "$script --help" 'nothing on the output'
     fi
@@ -456,6 +461,65 @@ if unshare -rm mount -t tmpfs none "$fakes/tmp" 2> /dev/null; then
 else
     echo 'skipped: this user can mount no disk to fill'
 fi
+
+# Words of the scripts that none of them has: one line on the error output, at once, and nothing starts.
+odd() { # SCRIPT WORD..
+    timeout 20 "$@" < /dev/null > "$work/out" 2> "$work/err"
+    local given=$?
+    [ "$given" -eq 2 ] && [ ! -s "$work/out" ] && [ "$(wc -l < "$work/err")" -eq 1 ]
+    tell $? "$*" "status $given, $(head -n 3 "$work/out" "$work/err")"
+}
+for script in .ci/* bench/* clients/*; do
+    if [ ! -x "$script" ] || [ ! -f "$script" ]; then continue; fi
+    odd "$script" --no-such
+    # a schedule's words are names of files
+    [ "$script" = clients/schedule ] || [ "$script" = .ci/shown.py ] || odd "$script" nosuch
+done
+while read -ra words; do
+    odd "${words[@]}"
+done << 'END'
+.ci/run --help more
+.ci/crates.py --check --count
+.ci/names.py --write more
+.ci/program.sh --quick more
+.ci/reached.py contract more
+.ci/together.py kds_head nosuch
+bench/audit 0
+bench/audit -1
+bench/audit 1000 2000
+bench/fuzz --inputs -1
+bench/fuzz --inputs 0
+bench/fuzz --seed
+bench/fuzz --seconds 1.5x
+bench/profile --names nosuch
+bench/refused 0
+bench/refused 1 2
+bench/refused_serve 1
+bench/refused_serve --boto3 2 1
+bench/replay puts nosuch
+bench/replay --beside
+bench/replay --beside nosuch
+bench/serve 0
+bench/serve -1
+bench/serve 1 2
+bench/soak 0
+bench/soak 999999
+bench/soak 10 x
+clients/aggregates.py 10 nosuch
+clients/record 4568 nosuch out/record
+clients/record 4568 70000 out/record
+clients/run suite nosuch
+clients/run suite.Nosuch
+clients/run unfriendly.Places.test_nosuch
+clients/viewer --page
+clients/viewer --page nosuch.html
+clients/viewer --pictures nosuch
+END
+for words in './dev test nosuch' './dev build nosuch' './dev clients nosuch' './dev bench serve nosuch' './dev bench nosuch'; do
+    # shellcheck disable=SC2086
+    timeout 20 $words > "$work/out" 2>&1
+    tell $(($? != 2)) "$words" "$(head -n 2 "$work/out")"
+done
 
 printf '%d passed, %d failed\n' "$passed" "$failed"
 [ "$failed" -eq 0 ]

@@ -2,27 +2,18 @@
 """The journal of a long schedule of workers, and lies in it. A schedule of some 20,000 lines has three workers, a restart, a
 split, a merge and leases that are taken away. Its journal must be sound; and each lie must be found at its line, by the rule
 that a person would name. The schedule is made along the program's own answers, the lies along the journal."""
-import pathlib
 import random
 import subprocess
 import sys
 import threading
 
-ROOT = pathlib.Path(__file__).resolve().parent.parent
+from checks import SECONDS, Tally, asked, fail, program, run as limited
+
 ROUNDS = 6_500
-SECONDS = 60  # in which the program answers a line, or ends
 MIDDLE = 2**127
 
-passed = failed = 0
-
-
-def check(name, wanted, given):
-    global passed, failed
-    if wanted == given:
-        passed += 1
-    else:
-        failed += 1
-        print(f'FAILED {name}: wanted {wanted!r}, given {given!r}')
+tally = Tally()
+check = tally.check
 
 
 class Schedule:
@@ -32,7 +23,7 @@ class Schedule:
         self.lines = []
         self.program = subprocess.Popen([KDS, 'replay'], stdin=subprocess.PIPE, stdout=subprocess.PIPE, stderr=subprocess.PIPE, text=True)
         # A program that holds an answer back is ended, and then gives the end of its output in place of a line.
-        self.limit = threading.Timer(SECONDS * 5, self.program.kill)
+        self.limit = threading.Timer(3 * SECONDS, self.program.kill)
         self.limit.daemon = True
         self.limit.start()
 
@@ -43,7 +34,7 @@ class Schedule:
         answer = self.program.stdout.readline()
         if not answer.endswith('\n'):
             self.program.kill()
-            sys.exit(f'FAILED the schedule: no answer to line {len(self.lines)}: {line}')
+            fail(f'the schedule: no answer to line {len(self.lines)}: {line}')
         return answer.rstrip('\n')
 
     def end(self):
@@ -95,7 +86,7 @@ def made():
 def run(words, lines):
     """The status, the output and the error output of the program by these words on these lines."""
     text = ''.join(line + '\n' for line in lines)
-    done = subprocess.run([KDS, *words], input=text, capture_output=True, text=True, check=False, timeout=SECONDS)
+    done = limited([KDS, *words], ' '.join(words), input=text, capture_output=True, text=True)
     return done.returncode, done.stdout, done.stderr
 
 
@@ -244,8 +235,9 @@ LIES = [put_elsewhere, put_left_out, clock_falls, stale_mark, mark_beyond, mark_
 
 
 def main():
-    global KDS  # the program to be checked, built first where that is due
-    KDS = pathlib.Path(subprocess.run([ROOT / 'help' / 'checked'], stdout=subprocess.PIPE, text=True, check=True).stdout.rstrip('\n'))
+    global KDS  # the program to be checked
+    asked(__doc__, '.ci/audit.py')
+    KDS = program()
     schedule = made()
     status, text, errors = run(['replay', '--journal'], schedule)
     check('the journal: status and errors', (0, ''), (status, errors))
@@ -257,8 +249,7 @@ def main():
         check(lie.__name__.replace('_', ' '), (1, f'entry {place + 1} {rule}\n', ''), run(['audit'], told))
     without = lines[:-1]
     check('no last line', (1, f'entry {len(journal.entries) + 1} Form\n', ''), run(['audit'], without))
-    print(f'a schedule of {len(schedule):,} lines, a journal of {len(journal.entries):,} entries: {passed} passed, {failed} failed')
-    return 1 if failed else 0
+    return tally.end(f'a schedule of {len(schedule):,} lines, a journal of {len(journal.entries):,} entries: ')
 
 
 if __name__ == '__main__':

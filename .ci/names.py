@@ -9,8 +9,6 @@ no built program.
 import base64
 import functools
 import hashlib
-import importlib.machinery
-import importlib.util
 import itertools
 import os
 import pathlib
@@ -19,7 +17,10 @@ import shlex
 import subprocess
 import sys
 
-ROOT = pathlib.Path(__file__).resolve().parent.parent
+import shown
+from checks import ROOT, Tally, asked
+from drill import drilled
+
 PAGES = [ROOT / 'README.md', ROOT / 'CONTRIBUTING.md', ROOT / 'examples/README.md', *sorted((ROOT / 'docs').glob('*.md'))]
 PLACE = re.compile(r'^k[a-z]+_[a-z_]+/specs(/\w+)?$')
 # at the head of a line; or below a module with parameters, where a plain `pub` would be a record's field
@@ -55,18 +56,6 @@ KINDS = ['A command', 'An entry of the journal', 'A state of a stream', 'A refus
 SEARCH = re.compile(r"^    git grep -lwE '([^']+)' -- 'crates/k\*\.rt' 'crates/k\*\.antt'$", re.M)
 # words that are no name of this repository: of the toolchain, of Rust, of Kinesis and of other clients
 FOREIGN = set('''AWS_ENDPOINT_URL AWS_ENDPOINT_URL_KINESIS AWS_CBOR_DISABLE MaxRecordSizeInKiB StreamId Authorization Builder EndpointConfiguration endpointOverride endpoint_url WAITING_ON_PARENT_SHARDS LEASE_LOST ZOMBIE'''.split())
-
-
-class Tally:
-    def __init__(self):
-        self.passed = self.failed = 0
-
-    def check(self, holds, fault):
-        if holds:
-            self.passed += 1
-        else:
-            self.failed += 1
-            print(f'FAILED {fault}')
 
 
 def defined_in(files):
@@ -106,7 +95,7 @@ def check_definitions(tally):
         missing = [place for place in places if not all(file.exists() for file in files_of(place))]
         known = everywhere | laws if not places or missing else defined_in(f for p in places for f in files_of(p))
         for name in re.findall(r'`([^`]+)`', cells[0]):
-            tally.check(name in known and not missing, f'docs/definitions.md: {name} is not in {", ".join(places) or "the crates"}')
+            tally.holds(name in known and not missing, f'docs/definitions.md: {name} is not in {", ".join(places) or "the crates"}')
 
 
 # ---- names, places and links of every page
@@ -171,26 +160,26 @@ def check_names(tally, page, known):
         if re.search(r'[A-Z]{2,}', name) and '/' in name:
             continue  # a form, as crates/NAME/must-fail
         if is_path(name) and not re.match(r'^\d|^application/|^1/|^arn', name):
-            tally.check(stands(name, page), f'{where}: there is no {name}')
+            tally.holds(stands(name, page), f'{where}: there is no {name}')
         elif re.match(r'^[A-Za-z_]\w*(::\w+)*(\(\))?$', name):
-            tally.check(of_crate(name, known), f'{where}: nothing is named {name}')
+            tally.holds(of_crate(name, known), f'{where}: nothing is named {name}')
     for target in re.findall(r'\]\(([^)#\s]+)\)', text):
         if '://' not in target:
-            tally.check((page.parent / target).exists(), f'{where}: there is no {target}')
+            tally.holds((page.parent / target).exists(), f'{where}: there is no {target}')
 
 
 def check_listed(tally):
     """README names each page, so that none is lost."""
     readme = (ROOT / 'README.md').read_text()
     for page in PAGES[1:]:
-        tally.check(str(page.relative_to(ROOT)) in readme, f'README.md: it names no {page.relative_to(ROOT)}')
+        tally.holds(str(page.relative_to(ROOT)) in readme, f'README.md: it names no {page.relative_to(ROOT)}')
 
 
 def check_examples(tally, page):
     """The page has each file of the examples, and no other."""
     listed = {cells[0].strip('`') + kind for cells in rows(page.read_text()) for kind in re.findall(r'`(\.\w+)`', cells[2])}
     there = {path.name for path in page.parent.iterdir() if path != page}
-    tally.check(listed == there, f'{page.relative_to(ROOT)}: the page or the folder has what the other has not: {sorted(listed ^ there)}')
+    tally.holds(listed == there, f'{page.relative_to(ROOT)}: the page or the folder has what the other has not: {sorted(listed ^ there)}')
 
 
 def check_sections(tally):
@@ -201,7 +190,7 @@ def check_sections(tally):
         named += [(path, title) for title in re.findall(r'"([^"]+)"\)?,? (?:below|above)', text)]
         for page, title in named:
             titles = re.findall(r'^#+ (.*)$', page.read_text(), re.M) if page.exists() else []
-            tally.check(title in [found.replace('`', '') for found in titles] or title in titles, f'{where}: {page.name} has no section {title}')
+            tally.holds(title in [found.replace('`', '') for found in titles] or title in titles, f'{where}: {page.name} has no section {title}')
 
 
 def check_members(tally):
@@ -209,32 +198,22 @@ def check_members(tally):
     replies = (ROOT / 'docs/formats.md').read_text().partition('\n## Replies\n')[2]
     for path in sorted(ROOT.glob('crates/kds_reply*/specs/*.antt')):
         for name in sorted(set(re.findall(r'codes "([A-Z]\w*)"', path.read_text()))):
-            tally.check(re.search(rf'\b{name}\b', replies), f'docs/formats.md: its replies have no {name}, which {path.relative_to(ROOT)} writes')
+            tally.holds(re.search(rf'\b{name}\b', replies), f'docs/formats.md: its replies have no {name}, which {path.relative_to(ROOT)} writes')
     explained = (ROOT / 'help/line.awk').read_text()
     for place in ('kcl_script/src/read.rt', 'kcl_script/src/workers.rt', 'kcl_script_fields/src/raw.rt'):
         for word in sorted(set(re.findall(r'b"([a-z]+)"', (ROOT / 'crates' / place).read_text()))):
-            tally.check(re.search(rf'\b{word}\b', explained), f'help/line.awk: it has no {word}, which crates/{place} reads')
-
-
-def script(name):
-    """A script of this folder as a module."""
-    loader = importlib.machinery.SourceFileLoader(name, str(ROOT / '.ci' / name))
-    module = importlib.util.module_from_spec(importlib.util.spec_from_loader(name, loader))
-    sys.dont_write_bytecode = True
-    loader.exec_module(module)
-    return module
+            tally.holds(re.search(rf'\b{word}\b', explained), f'help/line.awk: it has no {word}, which crates/{place} reads')
 
 
 def check_calling(tally, page):
     """The page shows each function of its crate; each but `request` is one that the gate proves and runs; and the proof is the same but for its place."""
-    shown = script('shown')
     text = page.read_text()
     for name, found in shown.functions(shown.CRATE).items():
-        tally.check(f'<!-- begin .ci/shown {name} -->' in text, f'{page.relative_to(ROOT)}: it does not show {name} of docs/calling')
-        tally.check(name == 'request' or found[0] in shown.of_tests(name), f'docs/calling: {name} is not the function of the crates of tests')
+        tally.holds(f'<!-- begin .ci/shown.py {name} -->' in text, f'{page.relative_to(ROOT)}: it does not show {name} of docs/calling')
+        tally.holds(name == 'request' or found[0] in shown.of_tests(name), f'docs/calling: {name} is not the function of the crates of tests')
     proof = ROOT / 'crates/test_workers/proofs/hands/a_lease_is_handed_off/Invariants.antt'
     same = proof.read_text().replace('Rattle.test_workers.proofs.hands.', 'Rattle.mine.proofs.') == shown.PROOF.read_text()
-    tally.check(same, f'docs/calling: its proof is not {proof.relative_to(ROOT)}')
+    tally.holds(same, f'docs/calling: its proof is not {proof.relative_to(ROOT)}')
 
 
 # ---- outputs that are stored
@@ -245,11 +224,6 @@ def filtered(text, commands):
     for name, _, count in commands:
         lines = lines[:int(count)] if name == 'head' else lines[-int(count):]
     return lines
-
-
-def drilled(number, records):
-    """What a drill prints, by the plain reading of `.ci/drill`."""
-    return script('drill').drilled(number, records)
 
 
 def output_of(command):
@@ -269,8 +243,8 @@ def output_of(command):
 
 
 def twice():
-    """How often records are delivered twice, by the name of an example: the counts that `.ci/program` compares with the program's."""
-    line = re.search(r'^for name in ((?:[\w-]+:\d+ ?)+); do\n.*--journal', (ROOT / '.ci' / 'program').read_text(), re.M)
+    """How often records are delivered twice, by the name of an example: the counts that `.ci/program.sh` compares with the program's."""
+    line = re.search(r'^for name in ((?:[\w-]+:\d+ ?)+); do\n.*--journal', (ROOT / '.ci' / 'program.sh').read_text(), re.M)
     return dict(word.split(':') for word in line[1].split())
 
 
@@ -279,7 +253,7 @@ def check_outputs(tally, page):
     where = page.relative_to(ROOT)
     blocks = re.findall(r'((?:^    .*\n|^\n(?=    ))+)', page.read_text(), flags=re.M)
     for name in sorted(set(re.findall(r'\b(?:examples|bench|clients|viewer|docs)/[\w./-]*\w', ''.join(blocks)))):
-        tally.check((ROOT / name).exists(), f'{where}: there is no {name}')
+        tally.holds((ROOT / name).exists(), f'{where}: there is no {name}')
     for block in blocks:
         lines = [line[4:].rstrip() for line in block.splitlines()]
         starts = [at for at, line in enumerate(lines) if line.startswith('$ ')] + [len(lines)]
@@ -288,19 +262,19 @@ def check_outputs(tally, page):
             counted = re.match(r'^\$ \./kds replay --journal < examples/([\w-]+)\.txt \| awk -f examples/delivered-twice\.awk$', lines[at])
             if counted:
                 told = (ROOT / 'examples' / f'{counted[1]}.twice').read_text().splitlines()
-                tally.check(shown == told and told[-1] == twice().get(counted[1]), f'{where}: {lines[at][2:]} writes something else')
+                tally.holds(shown == told and told[-1] == twice().get(counted[1]), f'{where}: {lines[at][2:]} writes something else')
             dumped = re.match(r'^\$ clients/dump (?:examples/\S+ )?examples/([\w-]+)\.\w+$', lines[at])
             if dumped:
                 told = (ROOT / 'examples' / f'{dumped[1]}.out').read_text().splitlines()
-                tally.check(shown == [line for line in told if line], f'{where}: {lines[at][2:]} writes something else')
+                tally.holds(shown == [line for line in told if line], f'{where}: {lines[at][2:]} writes something else')
             found = re.match(r'^\$ \./kds ([^|&]+?)((?: \| (?:head|tail) -n \d+)*)$', lines[at])
             if not found or not shown:
                 continue
             text = output_of(found[1])
-            tally.check(text is not None, f'{where}: {lines[at][2:]} has no stored output')
+            tally.holds(text is not None, f'{where}: {lines[at][2:]} has no stored output')
             if text:
                 commands = [shlex.split(part) for part in found[2].split(' | ') if part]
-                tally.check([line for line in filtered(text, commands) if line] == shown, f'{where}: {lines[at][2:]} writes something else')
+                tally.holds([line for line in filtered(text, commands) if line] == shown, f'{where}: {lines[at][2:]} writes something else')
 
 
 def check_steps(tally, page):
@@ -313,7 +287,7 @@ def check_steps(tally, page):
     blocks = re.findall(r'((?:^    .*\n)+)', text, re.M)
     shown = [line.strip() for block in blocks if not block.startswith('    $ ') for line in block.splitlines()]
     for step in steps + [line for line in shown if line != '..']:
-        tally.check(any(line.startswith(step) for line in examples), f'{page.relative_to(ROOT)}: no example has the line {step}')
+        tally.holds(any(line.startswith(step) for line in examples), f'{page.relative_to(ROOT)}: no example has the line {step}')
 
 
 def check_decisions(tally, page):
@@ -321,14 +295,14 @@ def check_decisions(tally, page):
     text = page.read_text()
     listed = [int(n) for cell in re.findall(r'^\| [A-Z][^|]*\| ([\d, ]+) \|$', text, re.M) for n in cell.split(', ')]
     numbered = [int(n) for n in re.findall(r'^(\d+)\. \*\*', text, re.M)]
-    tally.check(sorted(listed) == numbered, f'{page.relative_to(ROOT)}: by subject or by number: {sorted(set(listed) ^ set(numbered))}')
+    tally.holds(sorted(listed) == numbered, f'{page.relative_to(ROOT)}: by subject or by number: {sorted(set(listed) ^ set(numbered))}')
     decided = dict(re.findall(r'^(\d+)\. (.*?)(?=^\d+\. |\Z)', text, re.S | re.M))
     later = {(old, new) for old, decision in decided.items() for new in re.findall(r'\bsee (\d+)\)', decision)}
     earlier = {(old, new) for new, decision in decided.items() for said in re.findall(r'\(Goes on from ([^)]*)\.\)', decision) for old in re.findall(r'\d+', said)}
-    tally.check(later == earlier, f'{page.relative_to(ROOT)}: "(see N)" at a decision and "(Goes on from N.)" at the later one: {sorted(later ^ earlier)}')
+    tally.holds(later == earlier, f'{page.relative_to(ROOT)}: "(see N)" at a decision and "(Goes on from N.)" at the later one: {sorted(later ^ earlier)}')
     for other in PAGES:
         for number in re.findall(r'\bdecision (\d+)', other.read_text()):
-            tally.check(int(number) in numbered, f'{other.relative_to(ROOT)}: there is no decision {number}')
+            tally.holds(int(number) in numbered, f'{other.relative_to(ROOT)}: there is no decision {number}')
 
 
 def check_operations(tally):
@@ -338,7 +312,7 @@ def check_operations(tally):
         text = (ROOT / page).read_text()
         table = '\n'.join(re.findall(r'^\| ([A-Z][\w, ]*) \|', text, re.M))
         for name in sorted(known):
-            tally.check(name in re.findall(r'\w+', table), f'{page}: no row has the operation {name}')
+            tally.holds(name in re.findall(r'\w+', table), f'{page}: no row has the operation {name}')
 
 
 # ---- the lists of CONTRIBUTING.md: which files each kind of change touches
@@ -372,13 +346,13 @@ def check_recipes(tally, page):
     sections = dict(re.findall(r'^##+ (.*?)\n(.*?)(?=^#|\Z)', page.read_text(), re.S | re.M))
     for kind in KINDS:
         search = SEARCH.findall(sections.get(kind, ''))
-        tally.check(len(search) == 1, f'{where}: there is no section "{kind}" with one search')
+        tally.holds(len(search) == 1, f'{where}: there is no section "{kind}" with one search')
         if len(search) != 1:
             continue
         found, listed = found_by(search[0]), listed_in(sections[kind])
         for name in sorted(found | listed):
-            tally.check(name in listed, f'{where}, "{kind}": the list leaves out {name}')
-            tally.check(name in found, f'{where}, "{kind}": the list has {name}, which the search does not find')
+            tally.holds(name in listed, f'{where}, "{kind}": the list leaves out {name}')
+            tally.holds(name in found, f'{where}, "{kind}": the list has {name}, which the search does not find')
 
 
 # ---- the rules of the code
@@ -413,7 +387,7 @@ def check_lengths(tally, where, lines):
         end = end_of(lines, start, begins[1]) if begins else None
         if end is not None:
             count = end - start + 1
-            tally.check(count <= LINES, f'{where}:{start + 1}: {begins[2]} has {count} lines, contract included; {LINES} are allowed')
+            tally.holds(count <= LINES, f'{where}:{start + 1}: {begins[2]} has {count} lines, contract included; {LINES} are allowed')
 
 
 def check_clauses(tally, where, lines):
@@ -424,7 +398,7 @@ def check_clauses(tally, where, lines):
             depth = 0
         if depth is not None:
             width = len(line.strip())
-            tally.check(width <= CLAUSE, f'{where}:{at}: this line of a clause has {width} characters, and {CLAUSE} are allowed: name its relation')
+            tally.holds(width <= CLAUSE, f'{where}:{at}: this line of a clause has {width} characters, and {CLAUSE} are allowed: name its relation')
             depth += opened(line)
             depth = None if depth == 0 and '}' in line else depth
 
@@ -444,7 +418,7 @@ def check_sentences(tally, where, lines):
     for at, line in enumerate(lines):
         item = PUBLIC.match(line)
         if item:
-            tally.check(is_told(lines, at), f'{where}:{at + 1}: {item[0].strip()} has no sentence above it')
+            tally.holds(is_told(lines, at), f'{where}:{at + 1}: {item[0].strip()} has no sentence above it')
 
 
 def check_rules(tally):
@@ -461,8 +435,8 @@ def check_width(tally):
         files = ROOT.glob(f'crates/*/{part}/**/*.antt')
         now = sum(len(line) > WIDTH for file in files for line in file.read_text().splitlines())
         says = f'lines of {part} above {WIDTH} characters: {now} now, {allowed} allowed'
-        tally.check(now <= allowed, f'{says}: break the new ones')
-        tally.check(now >= allowed, f'{says}: set WIDE in .ci/names to {now}, so that it can only fall')
+        tally.holds(now <= allowed, f'{says}: break the new ones')
+        tally.holds(now >= allowed, f'{says}: set WIDE in .ci/names.py to {now}, so that it can only fall')
 
 
 def check_turns(tally):
@@ -474,11 +448,11 @@ def check_turns(tally):
             text = MADE.sub('', page.read_text()) if page.suffix == '.md' else page.read_text()
             for found in re.finditer(turn, text):
                 at = text.count('\n', 0, found.start()) + 1
-                tally.check(False, f'{page.relative_to(ROOT)}, about line {at}: "{found[0]}"; write: {better}')
+                tally.holds(False, f'{page.relative_to(ROOT)}, about line {at}: "{found[0]}"; write: {better}')
         now, allowed = sum(len(re.findall(turn, line)) for line in comments), TURNED[better]
         says = f'comments of the code with {turn} (write: {better}): {now} now, {allowed} allowed'
-        tally.check(now <= allowed, f'{says}: reword the new ones')
-        tally.check(now >= allowed, f'{says}: set TURNED in .ci/names to {now}, so that it can only fall')
+        tally.holds(now <= allowed, f'{says}: reword the new ones')
+        tally.holds(now >= allowed, f'{says}: set TURNED in .ci/names.py to {now}, so that it can only fall')
 
 
 # ---- counts
@@ -487,8 +461,9 @@ def counts():
     """What is counted: its name to its number."""
     edits = list(ROOT.glob('crates/*/must-fail/*.edit'))
     bodies = edits + list(ROOT.glob('crates/*/more-edits/*.edit'))
-    listed = subprocess.run([ROOT / '.ci' / 'crates', '--count'], stdout=subprocess.PIPE, text=True, check=True).stdout.split()
-    of_one = [len(list(folder.glob('*.edit'))) for folder in ROOT.glob('crates/*/must-fail')]
+    listed = subprocess.run([ROOT / '.ci' / 'crates.py', '--count'], stdout=subprocess.PIPE, text=True, check=True).stdout.split()
+    # a folder may be left where the edits of a crate went
+    of_one = [count for count in (len(list(folder.glob('*.edit'))) for folder in ROOT.glob('crates/*/must-fail')) if count]
     gate = [[cell.strip() for cell in line.strip('|').split('|')]
             for line in (ROOT / 'docs/gate.md').read_text().splitlines() if line.startswith('| `')]
     operation = (ROOT / 'crates/kds_json/src/operation.rt').read_text()
@@ -523,12 +498,12 @@ def check_counts(tally, write):
         text = (ROOT / page).read_text()
         found = re.search(sentence, text)
         if not found:
-            tally.check(False, f'{page}: nothing reads "{sentence}"')
+            tally.holds(False, f'{page}: nothing reads "{sentence}"')
             continue
         new = text
         for place, name in reversed(list(enumerate(names, 1))):
             same = int(found[place]) == numbers[name]
-            tally.check(same or write, f'{page}: {found[0]}: {name} are {numbers[name]}')
+            tally.holds(same or write, f'{page}: {found[0]}: {name} are {numbers[name]}')
             new = new[:found.start(place)] + str(numbers[name]) + new[found.end(place):]
         if write and new != text:
             (ROOT / page).write_text(new)
@@ -544,7 +519,7 @@ def made(page, write, tally):
         script, *rest = found[2].split()
         wanted = subprocess.run([ROOT / script, *rest], stdout=subprocess.PIPE, text=True, check=True).stdout
         same = found[3].strip() == wanted.strip()
-        tally.check(same or write, f'{page.relative_to(ROOT)}: the part by {found[2]} is another; run ./dev names --write')
+        tally.holds(same or write, f'{page.relative_to(ROOT)}: the part by {found[2]} is another; run ./dev names --write')
         return f'{found[1]}\n{wanted}\n{found[4]}' if write and not same else found[0]
 
     new = MADE.sub(part, text)
@@ -563,20 +538,18 @@ def check_policy(tally, page, write):
         if write and wanted and len(found) == 1:
             text = text.replace(found[0], wanted)
         else:
-            tally.check(found == [wanted], f'{page.relative_to(ROOT)}: the policy has {found}, and the one {name} has {wanted}; run ./dev names --write')
+            tally.holds(found == [wanted], f'{page.relative_to(ROOT)}: the policy has {found}, and the one {name} has {wanted}; run ./dev names --write')
     sinks = re.findall(r'innerHTML|outerHTML|insertAdjacentHTML|document\.write|DOMParser|srcdoc|createContextualFragment|\beval\b|unsafe-', text)
-    tally.check(not sinks, f'{page.relative_to(ROOT)}: words of a file come into the page as text alone, and there is {sinks}')
+    tally.holds(not sinks, f'{page.relative_to(ROOT)}: words of a file come into the page as text alone, and there is {sinks}')
     if write and text != page.read_text():
         page.write_text(text)
         print(f'written: {page.relative_to(ROOT)}')
 
 
 def main():
-    if sys.argv[1:] not in ([], ['--write']):
-        print(__doc__)
-        return 0 if sys.argv[1:] in (['--help'], ['-h']) else 2
-    tally, write = Tally(), '--write' in sys.argv[1:]
-    tally.check(subprocess.run([ROOT / '.ci' / 'crates', '--check']).returncode == 0, 'crates.txt and docs/crates.md by docs/crates.list')
+    write = asked(__doc__, './dev names [--write]', lambda words: words in ([], ['--write'])) != []
+    tally = Tally()
+    tally.holds(subprocess.run([ROOT / '.ci' / 'crates.py', '--check']).returncode == 0, 'crates.txt and docs/crates.md by docs/crates.list')
     known = words()
     check_definitions(tally)
     for page in PAGES:
@@ -597,8 +570,7 @@ def main():
     check_rules(tally)
     check_width(tally)
     check_turns(tally)
-    print(f'{tally.passed} passed, {tally.failed} failed')
-    return 1 if tally.failed else 0
+    return tally.end()
 
 
 if __name__ == '__main__':

@@ -5,6 +5,7 @@ drops what is trimmed in one shard of one stream. No record is put into a closed
 memory that the program took in five rounds is at most a little above that of one. A program that drops nothing, or that of one stream
 or of one shard alone, takes some megabytes more with each round."""
 import base64
+import contextlib
 import itertools
 import pathlib
 import re
@@ -12,7 +13,8 @@ import subprocess
 import sys
 import threading
 
-ROOT = pathlib.Path(__file__).resolve().parent.parent
+from checks import SECONDS, Tally, asked, fail, program
+
 PAYLOAD = base64.b64encode(bytes(100_000)).decode()
 PUTS = 40  # of a stream in a round: 4 MB
 TURNS = 200
@@ -49,17 +51,22 @@ def most(rounds):
     """The most memory that a replay of so many rounds took, in bytes. The system tells it while the program stands: what it keeps of a program that
     ended counts what this script had taken itself."""
     lines = list(schedule(rounds))
-    program = subprocess.Popen([KDS, 'replay'], stdin=subprocess.PIPE, stdout=subprocess.PIPE)
-    writer = threading.Thread(target=put_all, args=(program.stdin, lines), daemon=True)
+    replay = subprocess.Popen([KDS, 'replay'], stdin=subprocess.PIPE, stdout=subprocess.PIPE)
+    limit = threading.Timer(SECONDS, replay.kill)
+    limit.daemon = True
+    limit.start()
+    writer = threading.Thread(target=put_all, args=(replay.stdin, lines), daemon=True)
     writer.start()
-    answers = list(itertools.islice(program.stdout, len(lines)))
+    answers = list(itertools.islice(replay.stdout, len(lines)))
     writer.join()
-    status = pathlib.Path(f'/proc/{program.pid}/status').read_text()
-    program.stdin.close()
-    answers += program.stdout
+    status = pathlib.Path(f'/proc/{replay.pid}/status').read_text()
+    with contextlib.suppress(BrokenPipeError):
+        replay.stdin.close()
+    answers += replay.stdout
+    limit.cancel()
     refused = [answer for answer in answers if not answer.startswith(b'200')]
-    if program.wait() != 0 or len(answers) != len(lines) or refused:
-        sys.exit(f'FAILED {rounds} rounds: status {program.returncode}, {len(answers)} answers of {len(lines)}, refused: {refused[:1]}')
+    if replay.wait() != 0 or len(answers) != len(lines) or refused:
+        fail(f'{rounds} rounds: status {replay.returncode}, {len(answers)} answers of {len(lines)}, refused: {refused[:1]}')
     return int(re.search(r'^VmHWM:\s*(\d+) kB$', status, re.M).group(1)) * 1024
 
 
@@ -73,13 +80,14 @@ def put_all(to, lines):
 
 
 def main():
-    global KDS  # the program to be checked, built first where that is due
-    KDS = pathlib.Path(subprocess.run([ROOT / 'help' / 'checked'], stdout=subprocess.PIPE, text=True, check=True).stdout.rstrip('\n'))
+    global KDS  # the program to be checked
+    asked(__doc__, '.ci/memory.py')
+    KDS = program()
     one, five = most(1), most(5)
-    held = five <= one + ROOM
-    print(f'{"" if held else "FAILED "}memory: {one:,} bytes at most in one round, {five:,} in five')
-    print(f'{int(held)} passed, {int(not held)} failed')
-    return 0 if held else 1
+    told = f'{one:,} bytes at most in one round, {five:,} in five'
+    tally = Tally()
+    tally.holds(five <= one + ROOM, f'what is trimmed leaves the memory: {told}')
+    return tally.end(f'{told}: ')
 
 
 if __name__ == '__main__':

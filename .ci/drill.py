@@ -2,11 +2,11 @@
 """Drills beside a plain reading of what they should print. Each number and count of records is run with several counts of
 workers, and prints the same each time: the shards that the generator's commands make, their records, and their ends."""
 import hashlib
-import pathlib
 import subprocess
 import sys
 
-ROOT = pathlib.Path(__file__).resolve().parent.parent
+from checks import Tally, asked, program, run as limited
+
 KEYS = 2**128
 # A drill's number, its records, and the counts of workers that it is run with.
 DRILLS = [
@@ -27,16 +27,8 @@ OTHERS = [
 ]
 USAGE = 'usage: kds replay [--journal] | answer | audit | serve PORT MEMBERS | drill NUMBER WORKERS RECORDS\n'
 
-passed = failed = 0
-
-
-def check(name, wanted, given):
-    global passed, failed
-    if wanted == given:
-        passed += 1
-    else:
-        failed += 1
-        print(f'FAILED {name}: wanted {wanted!r}, given {given!r}')
+tally = Tally()
+check = tally.check
 
 
 class Stream:
@@ -100,12 +92,14 @@ def drilled(number, records):
 
 
 def run(*words, output=subprocess.PIPE):
-    return subprocess.run([KDS, 'drill', *map(str, words)], stdout=output, stderr=subprocess.PIPE, text=True)
+    words = ['drill', *map(str, words)]
+    return limited([KDS, *words], ' '.join(words), stdout=output, stderr=subprocess.PIPE, text=True)
 
 
 def main():
-    global KDS  # the program to be checked, built first where that is due
-    KDS = pathlib.Path(subprocess.run([ROOT / 'help' / 'checked'], stdout=subprocess.PIPE, text=True, check=True).stdout.rstrip('\n'))
+    global KDS  # the program to be checked
+    asked(__doc__, '.ci/drill.py')
+    KDS = program()
     for number, records, counts in DRILLS:
         wanted = drilled(number, records)
         for workers in counts:
@@ -119,8 +113,7 @@ def main():
     with open('/dev/full', 'w') as full:
         given = run(1, 2, 0, output=full)
     check('a drill whose output takes nothing', (5, 'write fault\n'), (given.returncode, given.stderr))
-    print(f'{passed} passed, {failed} failed')
-    return 1 if failed else 0
+    return tally.end()
 
 
 if __name__ == '__main__':

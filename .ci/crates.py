@@ -5,12 +5,12 @@
     ./dev crates --check   writes nothing, and fails where they differ
     ./dev crates --count   prints how many crates there are, and on how many the program stands
     ./dev crates --adopt   first takes the lines of crates.txt over into the list, as after a merge that changed them"""
-import pathlib
 import re
 import sys
 import textwrap
 
-ROOT = pathlib.Path(__file__).resolve().parent.parent
+from checks import ROOT, asked
+
 LIST, TEXT, PAGE = ROOT / 'docs' / 'crates.list', ROOT / 'crates.txt', ROOT / 'docs' / 'crates.md'
 PROGRAM = 'kds_cli'
 FIELDS = ['group', 'does', 'used for', 'proved']
@@ -120,20 +120,18 @@ def page(crates):
 
 
 def main():
-    if not set(sys.argv[1:]) <= {'--check', '--count', '--adopt'}:
-        print(__doc__)
-        return 0 if sys.argv[1:] in (['--help'], ['-h']) else 2
+    words = asked(__doc__, './dev crates [--check | --count | --adopt]', lambda words: words[1:] == [] and set(words) <= {'--check', '--count', '--adopt'})
     comment, crates = read()
-    if '--count' in sys.argv[1:]:
+    if '--count' in words:
         print(len(crates), len(of_program(crates)))
         return 0
-    if '--adopt' in sys.argv[1:]:
+    if '--adopt' in words:
         crates = adopt(comment, crates)
     failed = list(faults(crates))
     wanted = {TEXT: HEAD + ''.join(crate.line() + '\n' for crate in crates), PAGE: page(crates)}
     for path, text in wanted.items():
         if not path.exists() or path.read_text() != text:
-            if '--check' in sys.argv[1:]:
+            if '--check' in words:
                 failed.append(f'{path.relative_to(ROOT)}: differs from docs/crates.list; run ./dev crates')
             else:
                 path.write_text(text)

@@ -4,8 +4,11 @@ crate's edits take a third of the time that they take one by one. The check must
 edit whose function isn't known, of a definition or in a generic implementation, is tried alone, by a check of the whole copy; so is one that edits
 several functions, one after another. An edit that is refused only since a proof file names what the edit took away shows nothing of the contract:
 it is reported as STALE, and fails. `rt ci` tries the edits of must-fail/ one by one, and it decides; this is for the work on a crate.
-usage: .ci/together CRATE [EDIT..]"""
+
+    .ci/together.py CRATE [EDIT..]     these edits, or all of the crate"""
 import os, pathlib, re, shutil, subprocess, sys, tempfile
+
+from checks import asked
 
 root = os.path.dirname(os.path.dirname(os.path.realpath(__file__)))
 
@@ -114,12 +117,9 @@ def is_stale(printed, function, file, lines):
 
 
 def main():
-    if len(sys.argv) < 2 or sys.argv[1].startswith('-'):
-        print(__doc__)
-        return 2
-    crate, wanted = sys.argv[1], sys.argv[2:]
+    crate, *wanted = asked(__doc__, '.ci/together.py CRATE [EDIT..]', lambda words: words and not words[0].startswith('-'))
     if not os.path.isdir(f'{root}/crates/{crate}/src'):
-        print(f'there is no crate {crate}')
+        print(f'there is no crate {crate}', file=sys.stderr)
         return 2
     edits = {path.stem: path for folder in ('must-fail', 'more-edits') for path in pathlib.Path(f'{root}/crates/{crate}/{folder}').glob('*.edit')}
     if not edits:
@@ -127,7 +127,7 @@ def main():
         return 0
     unknown = [it for it in wanted if it not in edits]
     if unknown:
-        print(f'{crate} has no edit {", ".join(unknown)}')
+        print(f'{crate} has no edit {", ".join(unknown)}', file=sys.stderr)
         return 2
     left = [read(edits[it]) for it in sorted(edits) if not wanted or it in wanted]
     # What lies below is proved in the checkout, where it stays, and not in the copy.
