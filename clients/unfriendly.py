@@ -210,6 +210,13 @@ class Places(unittest.TestCase):
             self.assertEqual([status for status, _ in responses(connection, 1)], [200])
         return made
 
+    def much(self, connection):
+        """Puts a record whose text has 8 MB, and returns an iterator that reads it."""
+        connection.sendall(request('CreateStream', b'{"StreamName":"s","ShardCount":1}'))
+        connection.sendall(request('PutRecord', b'{"StreamName":"s","PartitionKey":"a","Data":"%s"}' % (b'QUFB' * 2_000_000)))
+        connection.sendall(request('GetShardIterator', b'{"StreamName":"s","ShardId":"shardId-000000000000","ShardIteratorType":"TRIM_HORIZON"}'))
+        return json.loads(responses(connection, 3)[-1][1])['ShardIterator']
+
     def assert_given_up(self, held):
         """After the time that an idle client has, another one is served, and these connections are ended."""
         self.assert_served_within(IDLE + 1)
@@ -271,14 +278,30 @@ class Places(unittest.TestCase):
     def test_readers_that_read_nothing(self):
         self.serve(2)
         held = self.clients(2)
-        held[0].sendall(request('CreateStream', b'{"StreamName":"s","ShardCount":1}'))
-        held[0].sendall(request('PutRecord', b'{"StreamName":"s","PartitionKey":"a","Data":"%s"}' % (b'QUFB' * 2_000_000)))
-        held[0].sendall(request('GetShardIterator',
-                        b'{"StreamName":"s","ShardId":"shardId-000000000000","ShardIteratorType":"TRIM_HORIZON"}'))
-        iterator = json.loads(responses(held[0], 3)[-1][1])['ShardIterator']
+        iterator = self.much(held[0])
         for connection in held:
             connection.sendall(request('GetRecords', json.dumps({'ShardIterator': iterator}).encode()) * 4)
         self.assert_served_within(FULL + 2)
+
+    def test_a_pause_below_the_limit(self):
+        """In the middle of a head, and between two requests: both are answered."""
+        self.serve(3)
+        inside, between = self.clients(2)
+        inside.sendall(LIST[:40])
+        time.sleep(IDLE - 2)
+        inside.sendall(LIST[40:])
+        between.sendall(LIST)
+        self.assertEqual([[status for status, _ in responses(it, 1)] for it in (inside, between)], [[200], [200]])
+
+    def test_a_reader_that_pauses(self):
+        """It asks for two answers of 8 MB, reads nothing for 6 seconds, and gets both whole."""
+        self.serve(2)
+        connection, = self.clients(1)
+        iterator = self.much(connection)
+        connection.sendall(request('GetRecords', json.dumps({'ShardIterator': iterator}).encode()) * 2)
+        time.sleep(6)
+        found = responses(connection, 2)
+        self.assertEqual([(status, len(body) > 8_000_000 and bool(json.loads(body)['Records'])) for status, body in found], [(200, True), (200, True)])
 
     def test_closed_ones_that_stay(self):
         """A client that was told `Connection: close`, or whose head was refused, and doesn't close."""
