@@ -35,9 +35,9 @@ def heed_interrupts():
 
 
 class Server:
-    """A process of `kds serve`, and where it listens."""
+    """A process of `kds serve`, and where it listens. `./kds` sets what its allocator of memory is told, where it isn't set here or by the caller."""
 
-    def __init__(self, members, port=None):
+    def __init__(self, members, port=None, tunables=None):
         if 'KDS' not in os.environ:
             take_checked()
         self.members = members
@@ -47,6 +47,7 @@ class Server:
             stdin=subprocess.DEVNULL,
             stdout=subprocess.PIPE,
             stderr=subprocess.PIPE,
+            env=os.environ if tunables is None else os.environ | {'GLIBC_TUNABLES': tunables},
             preexec_fn=heed_interrupts,
         )
         ready, _, _ = select.select([self.process.stdout], [], [], 1200)
@@ -89,8 +90,8 @@ class Server:
 
 
 @contextlib.contextmanager
-def serving(members, port=None):
-    server = Server(members, port)
+def serving(members, port=None, tunables=None):
+    server = Server(members, port, tunables)
     try:
         yield server
     finally:
