@@ -1,5 +1,5 @@
 #!/usr/bin/env python3
-"""The built program at its limits on bytes, records, batches, lines of a schedule and bodies of requests, a worker that reads ahead, and many
+"""The built program at its limits on bytes, records, batches put and read, lines of a schedule and bodies of requests, a worker that reads ahead, and many
 shards, rows, tenures, workers and user records. The texts are too long to be kept, so they are made here."""
 import base64
 import sys
@@ -86,6 +86,25 @@ def enforced():
         (put(8999, 't'), '400 ' + fault),
         (put(9000, 't'), '200 ' + place(1001)),
     ]
+
+
+def usual_batch():
+    """GetRecords without a limit: of 10,001 records it gives 10,000, and the next one gives the last."""
+    place = '{{"SequenceNumber":"{}","ShardId":"shardId-000000000000"}}'.format
+    record = '{{"ApproximateArrivalTimestamp":1,"Data":"eA==","PartitionKey":"a","SequenceNumber":"{}"}}'.format
+    item = '{"Data":"eA==","PartitionKey":"a"}'
+    lines = [('1000 api CreateStream {"StreamName":"s","ShardCount":1}', '200')]
+    for first in range(1, 10_002, 500):
+        count = min(500, 10_002 - first)
+        lines.append((
+            '1000 api PutRecords {"StreamName":"s","Records":[' + ','.join([item] * count) + ']}',
+            '200 {"FailedRecordCount":0,"Records":[' + ','.join(map(place, range(first, first + count))) + ']}',
+        ))
+    for first, behind in ((0, 10_001), (10_001, 10_002)):
+        given = ','.join(map(record, range(max(first, 1), behind)))
+        lines.append((f'1000 api GetRecords {{"ShardIterator":"{iterator(first)}"}}',
+                      f'200 {{"MillisBehindLatest":0,"NextShardIterator":"{iterator(behind)}","Records":[{given}]}}'))
+    return lines
 
 
 def read_ahead():
@@ -186,6 +205,7 @@ def main():
     KDS = program()
     replayed('records', records())
     replayed('limits on throughput', enforced())
+    replayed('10,001 records', usual_batch())
     replayed('records read ahead', read_ahead())
     replayed('an aggregate of 9 MB', aggregate())
     replayed('11,000 tenures', tenures())
