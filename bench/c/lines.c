@@ -23,6 +23,7 @@ struct stream {
     size_t count, room;
     size_t *open; /* the open shards, in the order of their starts */
     size_t open_count, open_room;
+    size_t gone; /* how many of the first shards have expired, for good: the retention stays as it is here */
     uint64_t next;
 };
 
@@ -371,7 +372,8 @@ static void list(const char *body, const char *end) {
     struct stream *s = named(&f, body, end);
     if (!s || (f.after.kind != NONE && !shard_id(f.after, &after)) || (f.most.kind != NONE && !number_in(f.most, 1, 10000, &most))) exit(1);
     static size_t page[10000];
-    size_t count = 0, i = next_listed(s, f.after.kind == NONE ? 0 : after + 1);
+    s->gone = next_listed(s, s->gone);
+    size_t count = 0, i = f.after.kind == NONE || after < s->gone ? s->gone : next_listed(s, after + 1);
     for (; i < s->count && count < most; i = next_listed(s, i + 1)) page[count++] = i;
     to = PRINT(to, "200 {");
     if (i < s->count) {
