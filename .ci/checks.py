@@ -6,7 +6,7 @@ import sys
 
 ROOT = pathlib.Path(__file__).resolve().parent.parent
 # The seconds after which a run of the program is ended. The longest one takes two where nothing else runs.
-SECONDS = 120
+SECONDS = 300
 # how much of a value is shown where another was wanted
 SHOWN = 400
 

@@ -464,7 +464,7 @@ fi
 
 # Words of the scripts that none of them has: one line on the error output, at once, and nothing starts.
 odd() { # SCRIPT WORD..
-    timeout 20 "$@" < /dev/null > "$work/out" 2> "$work/err"
+    timeout 60 "$@" < /dev/null > "$work/out" 2> "$work/err"
     local given=$?
     [ "$given" -eq 2 ] && [ ! -s "$work/out" ] && [ "$(wc -l < "$work/err")" -eq 1 ]
     tell $? "$*" "status $given, $(head -n 3 "$work/out" "$work/err")"
@@ -517,7 +517,7 @@ clients/viewer --pictures nosuch
 END
 for words in './dev test nosuch' './dev build nosuch' './dev clients nosuch' './dev bench serve nosuch' './dev bench nosuch'; do
     # shellcheck disable=SC2086
-    timeout 20 $words > "$work/out" 2>&1
+    timeout 60 $words > "$work/out" 2>&1
     tell $(($? != 2)) "$words" "$(head -n 2 "$work/out")"
 done
 
