@@ -1,6 +1,7 @@
 """What the checks share, and the clients and benchmarks too: the tally of what passed and what failed, the place of the program that they look at, how long
 a run of it may take, and how a script refuses words that are none of its own."""
 import pathlib
+import re
 import subprocess
 import sys
 
@@ -45,6 +46,11 @@ def program():
     if done.returncode != 0:
         sys.exit(done.returncode)
     return done.stdout.rstrip('\n')
+
+
+def tunables():
+    """What `./kds serve` tells its allocator of memory where the caller doesn't: the value of GLIBC_TUNABLES."""
+    return re.search(r'^tunables=(.*)$', (ROOT / 'help' / 'programs').read_text(), re.M)[1]
 
 
 def fail(what):
