@@ -6,6 +6,7 @@ import base64
 import json
 import os
 import random
+import signal
 import socketserver
 import subprocess
 import sys
@@ -97,9 +98,11 @@ def answer(data, seed):
     asking.stdin.close()
     reader.join()
     limit.cancel()
+    if asking.wait() == -signal.SIGKILL:
+        fail(f'seed {seed}: it has not ended within {SECONDS} seconds')
     with errors:
         errors.seek(0)
-        return asking.wait(), output[0], errors.read().decode(errors='replace')
+        return asking.returncode, output[0], errors.read().decode(errors='replace')
 
 
 def responses(data):
