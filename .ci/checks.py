@@ -2,6 +2,7 @@
 a run of it may take, and how a script refuses words that are none of its own."""
 import pathlib
 import re
+import signal
 import subprocess
 import sys
 
@@ -77,6 +78,11 @@ def asked(doc, usage, fits=lambda words: not words):
         print(f'usage: {usage}; --help says more', file=sys.stderr)
         sys.exit(2)
     return words
+
+
+def heed_signals():
+    """Lets whoever ends the script end what it started: it ends as by an error."""
+    signal.signal(signal.SIGTERM, lambda *_: sys.exit(143))
 
 
 def is_number(word, least, most):
