@@ -7,7 +7,8 @@ cd "$(dirname "$0")/.." || exit 1
 case $*,$# in
     ,0) last='rt try --test' ;;
     --prove,1) last='rt test' ;;
-    *) echo 'usage: .ci/calling.sh [--prove]' >&2; exit 2 ;;
+    --help,1 | -h,1) sed -n '/^#!/d; /^#/!q; s/^# \{0,1\}//p' .ci/calling.sh; exit ;;
+    *) echo 'usage: .ci/calling.sh [--prove]; --help says more' >&2; exit 2 ;;
 esac
 room=$(mktemp -d) || exit 1
 trap 'rm -rf "$room"' EXIT

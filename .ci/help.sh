@@ -472,8 +472,8 @@ odd() { # SCRIPT WORD..
 for script in .ci/* bench/* clients/*; do
     if [ ! -x "$script" ] || [ ! -f "$script" ]; then continue; fi
     odd "$script" --no-such
-    # a schedule's words are names of files
-    [ "$script" = clients/schedule ] || [ "$script" = .ci/shown.py ] || odd "$script" nosuch
+    # words of these are names of files, or of functions
+    case $script in clients/schedule | clients/dump | .ci/shown.py) ;; *) odd "$script" nosuch ;; esac
 done
 while read -ra words; do
     odd "${words[@]}"
