@@ -1,4 +1,5 @@
 pub mod Checkpoints
+pub mod Circle
 pub mod Hashes
 pub mod Held
 pub mod Names

@@ -1,11 +1,11 @@
-//! Lists that contracts see as lists.
+//! Lists of items.
 ghost use Rattle.std.specs.Prelude.{◌≡◌, ◌++◌, ◌∷◌, [], OnOk, OnErr};
 
 use crate::memory::Memory;
 use std::alloc::Global;
 use std::marker::Model;
 
-/// A list that contracts see as a list.
+/// A list of items. Contracts see it as a mathematical list.
 #[derive(Drop)]
 pub struct Items<T> {
     items: Vec<T>,
@@ -20,7 +20,7 @@ impl<T> Model for Items<T> {
 }
 
 impl<T> Items<T> {
-    /// An empty list, which takes no memory.
+    /// An empty list. It allocates no memory.
     pub fn new(alloc: Global) -> Items<T>
         ensures { result ≡ [] }
     {
@@ -29,21 +29,21 @@ impl<T> Items<T> {
         }
     }
 
-    /// The list of a vector's items, moved and not copied.
+    /// A list with the vector's items, which are moved and not copied.
     pub fn from_vec(items: Vec<T>) -> Items<T>
         ensures { result ≡ items.items }
     {
         Items { items }
     }
 
-    /// The items in their order.
+    /// The list's items, in order.
     pub fn as_slice(&self) -> &[T]
         ensures { result.now ≡ self.now }
     {
         self.items.as_slice()
     }
 
-    /// The items in a vector, moved and not copied.
+    /// A vector with the list's items, which are moved and not copied.
     pub fn into_vec(self) -> Vec<T>
         ensures { result.items ≡ self }
     {
@@ -52,7 +52,7 @@ impl<T> Items<T> {
 }
 
 impl<T: Drop> Items<T> {
-    /// Adds an item at the end. After `Memory` the list is as before.
+    /// Adds an item at the end. After `Memory` the list is unchanged.
     pub fn push(&mut self, item: T) -> Result<(), Memory>
         ensures ok { OnOk result (self.new ≡ self.old ++ item ∷ []) }
         ensures err { OnErr result (self.new ≡ self.old) }

@@ -1,26 +1,18 @@
 //! Keys and checkpoints of leases.
-ghost use Rattle.std.specs.Prelude.{◌≡◌, ◌==◌, ◌&&◌};
+ghost use Rattle.std.specs.Prelude.{◌≡◌};
 ghost use Rattle.kds_base.specs.Checkpoints.{is_end};
 
 use crate::numbers::{Seq, ShardNo, StreamNo};
 
-/// A shard of a stream, which is the key of its lease (Kinesis Client Library, lease key).
+/// A shard, given by the number of its stream and its own number. It is the key of the shard's lease (Kinesis Client
+/// Library, lease key).
 #[derive(Clone, Copy, Debug, PartialEq, Eq)]
 pub struct ShardRef {
     pub stream: StreamNo,
     pub shard: ShardNo,
 }
 
-impl ShardRef {
-    /// Whether both name the same shard of the same stream.
-    pub fn is(&self, other: &ShardRef) -> bool
-        ensures { result ≡ ((self.now.stream == other.now.stream) && (self.now.shard == other.now.shard)) }
-    {
-        self.stream == other.stream && self.shard == other.shard
-    }
-}
-
-/// How far a lease's shard is processed: nothing of it, all records up to this number, or the whole shard
+/// How far a shard has been processed: not at all, up to and including the record with this number, or completely
 /// (Kinesis Client Library, checkpoint).
 #[derive(Clone, Copy, Debug, PartialEq, Eq)]
 pub enum Checkpoint {
@@ -30,7 +22,7 @@ pub enum Checkpoint {
 }
 
 impl Checkpoint {
-    /// Whether the whole shard is processed.
+    /// Whether the checkpoint says that the whole shard has been processed.
     pub fn is_end(self) -> bool
         ensures { result ≡ is_end self }
     {

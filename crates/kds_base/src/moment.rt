@@ -1,12 +1,12 @@
-//! Moments.
+//! Moments, in milliseconds.
 ghost use Rattle.std.specs.Prelude.{◌≡◌, ◌<◌, ◌^◌, max, SomeIff};
 
 use std::marker::Model;
 
-/// The first number of milliseconds that is no moment.
+/// The least number of milliseconds that is too great for a moment.
 pub const MOMENT_END: u64 = 1 << 62;
 
-/// A moment in milliseconds, below `MOMENT_END`. Contracts see the number.
+/// A moment as a number of milliseconds, which is below `MOMENT_END`. Contracts see the number.
 #[derive(Clone, Copy, Debug, PartialEq, Eq, PartialOrd, Ord)]
 pub struct Moment {
     ms: u64,
@@ -25,7 +25,7 @@ impl Model for Moment {
 }
 
 impl Moment {
-    /// The moment of so many milliseconds. `None` exactly from `MOMENT_END` on.
+    /// The moment `ms` milliseconds after moment 0. `None` exactly if `ms` is `MOMENT_END` or more.
     pub fn new(ms: u64) -> Option<Moment>
         ensures { SomeIff result (ms < 2 ^ 62) ms }
     {
@@ -36,21 +36,21 @@ impl Moment {
         }
     }
 
-    /// The moment 0, at which a clock begins.
+    /// Moment 0, at which a clock begins.
     pub fn start() -> Moment
         ensures { result ≡ 0 }
     {
         Moment { ms: 0 }
     }
 
-    /// The later of the two.
+    /// The later of the two moments.
     pub fn later(self, other: Moment) -> Moment
         ensures { result ≡ max self other }
     {
         if self.ms < other.ms { other } else { self }
     }
 
-    /// The milliseconds.
+    /// The moment's number of milliseconds.
     pub fn ms(self) -> u64
         ensures value { result ≡ self }
         ensures range { self < 2 ^ 62 }

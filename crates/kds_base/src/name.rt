@@ -14,10 +14,10 @@ use std::alloc::Global;
 use std::hash::{Hash, Hasher};
 use std::marker::Model;
 
-/// The most bytes of a name.
+/// The greatest number of bytes in a stream's name.
 pub const NAME_BYTES: usize = 128;
 
-/// A stream's name: 1 to 128 letters, digits, `_`, `.` and `-`. Contracts see its bytes.
+/// A stream's name: 1 to 128 characters, each a letter, a digit, `_`, `.` or `-`. Contracts see the name's bytes.
 #[derive(Drop)]
 pub struct Name {
     text: Octets,
@@ -53,7 +53,7 @@ fn names(text: &[u8]) -> bool
 }
 
 impl Name {
-    /// The name that the text is, if it is one.
+    /// The name with this text, or `None` if the text isn't a valid name.
     pub fn read(alloc: Global, text: &[u8]) -> Result<Option<Name>, Memory>
         ensures { IfOk result (λ o. o ≡ name_of text.now) }
     {
@@ -65,20 +65,7 @@ impl Name {
         }
     }
 
-    /// The name that the bytes of a vector are, if they are one: moved, unless they are few.
-    pub fn from_vec(text: Vec<u8>) -> Option<Name>
-        ensures { result ≡ name_of text.items }
-    {
-        if names(text.as_slice()) {
-            Some(Name {
-                text: Octets::from_vec(text),
-            })
-        } else {
-            None
-        }
-    }
-
-    /// Its bytes.
+    /// The name's bytes.
     pub fn bytes(&self) -> &[u8]
         ensures value { result.now ≡ self.now }
         ensures name { is_name self.now ≡ true }
@@ -86,7 +73,7 @@ impl Name {
         self.text.as_slice()
     }
 
-    /// An equal name.
+    /// An equal copy of the name.
     pub fn copy(&self, alloc: Global) -> Result<Name, Memory>
         ensures { IfOk result (λ n. n ≡ self.now) }
     {
@@ -96,7 +83,7 @@ impl Name {
     }
 }
 
-/// Two names are equal where their bytes are.
+/// Two names are equal if their bytes are equal.
 impl PartialEq for Name {
     ghost eq = { pointwise nat_eq };
 

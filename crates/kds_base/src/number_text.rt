@@ -1,4 +1,4 @@
-//! The texts of numbers, in decimal: each number has one, and it is written without memory of its own.
+//! Numbers as decimal text. Each number has exactly one text, and writing it makes no temporary allocation.
 ghost use Rattle.std.specs.Prelude.{◌≡◌, ◌++◌, ◌+◌, ◌-◌, ◌*◌, ◌<◌, ◌≤◌, ◌^◌, ◌==◌, ◌&&◌, ℕ, length, nat_lt, slice_index, true, decimal, OnOk, OnErr, IfSome, IfNone};
 ghost use Rattle.std.specs.Char.{is_ascii_digit};
 ghost use Rattle.kds_base.specs.NumberText.{digits_of, number_of};
@@ -8,17 +8,17 @@ use crate::octets::Octets;
 use itoa::Buffer;
 use std::alloc::Global;
 
-/// Whether a 0 stands before another byte.
+/// Whether the text starts with the digit 0 and has more than one byte.
 fn has_needless_zero(text: &[u8]) -> bool
     ensures { result ≡ (nat_lt 1 (length text.now) && slice_index text.now 0 == 48) }
 {
     text.len() > 1 && text[0] == b'0'
 }
 
-/// A number below this one has room for any digit behind it.
+/// Appending a digit to a number below this bound never overflows a u64.
 const ROOM_FOR_A_DIGIT: u64 = 1_844_674_407_370_955_161;
 
-/// The number with one more digit behind it, below 2 ^ 64.
+/// `number` with the ASCII digit `digit` appended. `None` exactly if the result is 2^64 or more.
 fn with_digit(number: u64, digit: u8) -> Option<u64>
     requires { is_ascii_digit digit ≡ true }
     ensures some { IfSome result (λ more. more ≡ number * 10 + (digit - 48)) }
@@ -33,7 +33,8 @@ fn with_digit(number: u64, digit: u8) -> Option<u64>
     }
 }
 
-/// The number that decimal digits write, whatever zeros stand in front, below 2 ^ 64.
+/// The number that the decimal digits of a text spell; leading zeros are allowed. `None` exactly if the text is empty,
+/// if one of its bytes isn't a digit, or if the number is 2^64 or more.
 pub fn read_digits(text: &[u8]) -> Option<u64>
     ensures { result ≡ digits_of 64 text.now }
 {
@@ -50,7 +51,8 @@ pub fn read_digits(text: &[u8]) -> Option<u64>
     Some(number)
 }
 
-/// The number of a text of decimal digits with no needless zero in front, below 2 ^ 64.
+/// The number that a text of decimal digits without needless leading zeros spells. `None` for every other text, and if
+/// the number is 2^64 or more.
 pub fn read_u64(text: &[u8]) -> Option<u64>
     ensures { result ≡ number_of 64 text.now }
 {
@@ -61,7 +63,7 @@ pub fn read_u64(text: &[u8]) -> Option<u64>
     }
 }
 
-/// Adds the one text of the number. After `Memory` nothing was added.
+/// Appends the number `n` to `to` as decimal text. After `Memory`, `to` is unchanged.
 pub fn write_u64(_alloc: Global, n: u64, to: &mut Octets) -> Result<(), Memory>
     ensures ok { OnOk result (to.new ≡ to.old ++ decimal n) }
     ensures err { OnErr result (to.new ≡ to.old) }
@@ -70,16 +72,16 @@ pub fn write_u64(_alloc: Global, n: u64, to: &mut Octets) -> Result<(), Memory>
     to.extend(digits.format(n).as_bytes())
 }
 
-/// How many digits a block has: as many as are below 2 ^ 64, whichever they are.
+/// The number of digits in a block: 19, the greatest number of digits for which every number fits in a u64.
 const BLOCK_DIGITS: usize = 19;
 
-/// The first number that a block can't have.
+/// The least number that has more digits than a block: 10 to the power of `BLOCK_DIGITS`.
 const BLOCK_END: u128 = 10_000_000_000_000_000_000;
 
-/// The most digits of a number below 2 ^ 128.
+/// The most digits that a number below 2^128 can have.
 const MOST_DIGITS: usize = 39;
 
-/// The number with one more block of digits behind it, below 2 ^ 128.
+/// `number` with the 19 digits of `block` appended. `None` exactly if the result is 2^128 or more.
 fn with_block(number: u128, block: u64) -> Option<u128>
     ensures some { IfSome result (λ more. more ≡ number * 10 ^ 19 + block) }
     ensures small { IfSome result (λ more. more < 2 ^ 128) }
@@ -90,8 +92,9 @@ fn with_block(number: u128, block: u64) -> Option<u128>
         .checked_add(u128::from(block))
 }
 
-/// The number that decimal digits write, whatever zeros stand in front, below 2 ^ 128. They are read by blocks, since a
-/// step on 128 bits costs many times one on 64.
+/// The number that the decimal digits of a text spell; leading zeros are allowed. `None` exactly if the text is empty,
+/// if one of its bytes isn't a digit, or if the number is 2^128 or more. The digits are read in blocks, because
+/// arithmetic on 128 bits costs many times as much as on 64 bits.
 fn read_wide(text: &[u8]) -> Option<u128>
     ensures { result ≡ digits_of 128 text.now }
 {
@@ -107,7 +110,8 @@ fn read_wide(text: &[u8]) -> Option<u128>
     with_block(number, block)
 }
 
-/// The number of a text of decimal digits with no needless zero in front, below 2 ^ 128.
+/// The number that a text of decimal digits without needless leading zeros spells. `None` for every other text, and if
+/// the number is 2^128 or more.
 pub fn read_u128(text: &[u8]) -> Option<u128>
     ensures { result ≡ number_of 128 text.now }
 {
@@ -121,7 +125,7 @@ pub fn read_u128(text: &[u8]) -> Option<u128>
     }
 }
 
-/// Adds the one text of the number. After `Memory` nothing was added.
+/// Appends the number `n` to `to` as decimal text. After `Memory`, `to` is unchanged.
 pub fn write_u128(_alloc: Global, n: u128, to: &mut Octets) -> Result<(), Memory>
     ensures ok { OnOk result (to.new ≡ to.old ++ decimal n) }
     ensures err { OnErr result (to.new ≡ to.old) }

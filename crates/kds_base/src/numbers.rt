@@ -1,9 +1,9 @@
-//! Numbers with a name. Contracts see the number.
+//! A type for each kind of number. Contracts see the number itself.
 
 use std::marker::Model;
 
-/// The sequence number of a record, a split or a merge. The numbers of one stream begin with 1
-/// (Kinesis API Reference, SequenceNumber).
+/// The sequence number of a record, a split or a merge. Each stream counts its sequence numbers from 1 (Kinesis API
+/// Reference, SequenceNumber).
 #[derive(Clone, Copy, Debug, PartialEq, Eq, PartialOrd, Ord)]
 pub struct Seq(pub u64);
 
@@ -17,7 +17,7 @@ impl Model for Seq {
     ghost inverse = { λ n. record { 0 = n } };
 }
 
-/// The number of a stream, from 1 in the order of their making.
+/// The number of a stream. Streams are numbered from 1, in the order of creation.
 #[derive(Clone, Copy, Debug, PartialEq, Eq, PartialOrd, Ord)]
 pub struct StreamNo(pub u64);
 
@@ -31,7 +31,7 @@ impl Model for StreamNo {
     ghost inverse = { λ n. record { 0 = n } };
 }
 
-/// The number of a shard within its stream, from 0 (Kinesis API Reference, ShardId).
+/// The number of a shard within its stream, counted from 0 (Kinesis API Reference, ShardId).
 #[derive(Clone, Copy, Debug, PartialEq, Eq, PartialOrd, Ord)]
 pub struct ShardNo(pub u64);
 
@@ -45,7 +45,7 @@ impl Model for ShardNo {
     ghost inverse = { λ n. record { 0 = n } };
 }
 
-/// The number of a tenure of a lease, from 1 in the order of their beginnings.
+/// The number of a tenure of a lease. Tenures are numbered from 1, in the order in which they began.
 #[derive(Clone, Copy, Debug, PartialEq, Eq, PartialOrd, Ord)]
 pub struct TenureNo(pub u64);
 
@@ -59,7 +59,7 @@ impl Model for TenureNo {
     ghost inverse = { λ n. record { 0 = n } };
 }
 
-/// The number of a worker, from 1 (Kinesis Client Library, worker identifier).
+/// The number of a worker, counted from 1 (Kinesis Client Library, worker identifier).
 #[derive(Clone, Copy, Debug, PartialEq, Eq, PartialOrd, Ord)]
 pub struct WorkerNo(pub u32);
 

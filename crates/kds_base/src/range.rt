@@ -31,7 +31,7 @@ impl Model for Range {
 }
 
 impl Range {
-    /// The range with these ends. `None` exactly where `start > end`.
+    /// The range from `start` to `end`. `None` exactly if `start > end`.
     pub fn new(start: u128, end: u128) -> Option<Range>
         ensures { SomeIff result (start ≤ end) (record { start = start; end = end }) }
     {
@@ -42,15 +42,15 @@ impl Range {
         }
     }
 
-    /// Whether the key lies in the range.
+    /// Whether the range contains the key.
     pub fn contains(&self, key: u128) -> bool
         ensures { IsTrue result ↔ Covers self.now key }
     {
         self.start <= key && key <= self.end
     }
 
-    /// The part below the key and the part from it on. `None` exactly unless `start < at <= end`
-    /// (Kinesis API Reference, SplitShard, NewStartingHashKey).
+    /// The two parts of the range: the keys below `at`, and the keys from `at` on. `Some` exactly if
+    /// `start < at <= end` (Kinesis API Reference, SplitShard, NewStartingHashKey).
     pub fn split(&self, at: u128) -> Option<(Range, Range)>
         ensures { result ≡ parts self.now at }
     {
@@ -69,15 +69,15 @@ impl Range {
         }
     }
 
-    /// Whether the other range starts right after this one ends.
+    /// Whether `other` starts right after this range ends.
     fn is_before(&self, other: &Range) -> bool
         ensures { result ≡ follows self.now other.now }
     {
         self.end < other.start && other.start - self.end == 1
     }
 
-    /// The range of both. `None` exactly where neither starts right after the other ends
-    /// (Kinesis API Reference, MergeShards).
+    /// The union of two adjacent ranges. `None` exactly if neither range starts right after the other ends (Kinesis
+    /// API Reference, MergeShards).
     pub fn join(&self, other: &Range) -> Option<Range>
         ensures { result ≡ union self.now other.now }
     {
@@ -96,8 +96,8 @@ impl Range {
         }
     }
 
-    /// The ranges of a new stream of `n` shards: the i-th starts at `i * floor(2^128 / n)`, and the last
-    /// ends at the greatest key.
+    /// The ranges of a new stream of `n` shards. The range with index `i`, counted from 0, starts at
+    /// `i * floor(2^128 / n)`, and the last range ends at the greatest key.
     pub fn uniform(alloc: Global, n: u32) -> Result<Items<Range>, Memory>
         requires { 1 ≤ n }
         ensures { IfOk result (λ ranges. ranges ≡ uniform n) }
@@ -112,17 +112,17 @@ impl Range {
     }
 }
 
-/// Where the i-th of n uniform ranges starts.
+/// The start of the range with index `i` among `n` uniform ranges.
 fn uniform_start(i: u32, n: u32) -> u128
     requires { i < n }
     ensures { result ≡ i * (2 ^ 128 / n) }
 {
     let (i, n) = (u128::from(i), u128::from(n));
-    // The width is one more than this quotient: 2^128 itself is no u128.
+    // The quotient is one less than the width of a range, `2^128 / n`, because 2^128 doesn't fit in a u128.
     i * ((u128::MAX - (n - 1)) / n) + i
 }
 
-/// Where it ends.
+/// The end of the range with index `i` among `n` uniform ranges.
 fn uniform_end(i: u32, n: u32) -> u128
     requires { i < n }
     ensures { result ≡ (if i + 1 == n then last_key else (i + 1) * (2 ^ 128 / n) - 1) }

@@ -1,4 +1,4 @@
-//! What can be asked of the machine.
+//! The commands of the machine.
 ghost use Rattle.std.specs.Prelude.{◌≡◌, option_map};
 ghost use Rattle.kds_defs.specs.Kinds.{is_change, is_service};
 ghost use Rattle.kds_defs.specs.Requests.{request_turn};
@@ -8,7 +8,7 @@ use crate::limits::API_ACTOR;
 use crate::reply::{Iter, Page};
 use kds_base::{Items, Moment, Name, Octets, Seq, ShardNo, ShardRef, TenureNo, WorkerNo};
 
-/// One event: who acts, when, and what is asked.
+/// A turn: a command, the actor that sends it, and its time.
 #[derive(Drop)]
 pub struct Turn {
     pub by: u32,
@@ -16,163 +16,165 @@ pub struct Turn {
     pub what: Command,
 }
 
-/// What can be asked of the machine.
+/// A command to the machine.
 #[derive(Drop)]
 pub enum Command {
-    /// CreateStream: a name, and how many shards.
+    /// CreateStream: the new stream's name and its number of shards.
     Create {
         name: Name,
         shards: u32,
     },
-    /// DeleteStream.
+    /// DeleteStream: the stream's name.
     Delete {
         name: Name,
     },
-    /// ListStreams: at most so many names after one.
+    /// ListStreams: at most `limit` names, beginning after the name `after`.
     Streams {
         after: Option<Name>,
         limit: u32,
     },
-    /// DescribeStream: the stream, and at most so many of its shards after one.
+    /// DescribeStream: the stream's name, and at most `limit` of its shards, beginning after the shard `after`.
     Describe {
         name: Name,
         after: Option<ShardNo>,
         limit: u32,
     },
-    /// DescribeStreamSummary.
+    /// DescribeStreamSummary: the stream's name.
     Summary {
         name: Name,
     },
-    /// PutRecord: the stream's name, and the record.
+    /// PutRecord: the stream's name and the record.
     Put {
         name: Name,
         item: NewItem,
     },
-    /// PutRecords: the records in order.
+    /// PutRecords: the stream's name and the records, in order.
     PutMany {
         name: Name,
         items: Items<NewItem>,
     },
-    /// GetShardIterator: where reading of a shard begins.
+    /// GetShardIterator: the shard, and the position at which reading begins.
     GetIterator {
         name: Name,
         shard: ShardNo,
         from: Start,
     },
-    /// GetRecords: at most so many records at an iterator.
+    /// GetRecords: at most `limit` records, beginning at the iterator's position.
     Records {
         iter: Iter,
         limit: u32,
     },
-    /// SplitShard: the upper part begins at this hash key.
+    /// SplitShard: the shard, and the hash key at which the upper part begins.
     Split {
         name: Name,
         shard: ShardNo,
         at: u128,
     },
-    /// MergeShards: a shard and the one beside it.
+    /// MergeShards: two adjacent shards of a stream.
     Merge {
         name: Name,
         shard: ShardNo,
         other: ShardNo,
     },
-    /// IncreaseStreamRetentionPeriod, where `raise` holds, or DecreaseStreamRetentionPeriod: the retention in
+    /// IncreaseStreamRetentionPeriod if `raise` is true, otherwise DecreaseStreamRetentionPeriod: the new retention in
     /// hours.
     Keep {
         name: Name,
         hours: u32,
         raise: bool,
     },
-    /// UpdateShardCount: so many uniform ranges.
+    /// UpdateShardCount: the wanted number of shards, with uniform ranges of hash keys.
     Scale {
         name: Name,
         target: u32,
     },
-    /// LocalEnforceLimits: the limits on the stream's throughput, on or off.
+    /// LocalEnforceLimits: whether the limits on the stream's throughput are enforced from now on.
     Enforce {
         name: Name,
         on: bool,
     },
-    /// ListShards: at most so many shards after one.
+    /// ListShards without a token: at most `limit` shards, beginning after the shard `after`.
     Shards {
         name: Name,
         after: Option<ShardNo>,
         limit: u32,
     },
-    /// ListShards by a token: where the listing goes on.
+    /// ListShards with a token: the next page of a listing, of at most `limit` shards.
     More {
         page: Page,
         limit: u32,
     },
-    /// All listed shards and all rows of the lease table.
+    /// Lists all listed shards and all rows of the lease table.
     Survey,
-    /// A row is made for a shard, with the origin of its reading.
+    /// Makes the row of a shard in the lease table. Reading of the shard begins at `from`.
     MakeLease {
         key: ShardRef,
         from: Origin,
     },
-    /// A worker takes a row at its counter, and a tenure of it begins.
+    /// A worker takes a row, whose counter must be `counter`. A new tenure of the row begins.
     Take {
         key: ShardRef,
         counter: u64,
         owner: WorkerNo,
     },
-    /// The tenure's row is renewed at its counter.
+    /// Renews the tenure's row, whose counter must be `counter`.
     Renew {
         tenure: TenureNo,
         counter: u64,
     },
-    /// The tenure's row is freed at its counter.
+    /// Frees the tenure's row, whose counter must be `counter`.
     Free {
         tenure: TenureNo,
         counter: u64,
     },
-    /// The tenure may read its shard from now on.
+    /// Opens a tenure: it may read its shard from now on.
     OpenShard {
         tenure: TenureNo,
     },
-    /// The tenure reads at most so many records at its reach.
+    /// A tenure reads at most `limit` records. `position` must be the tenure's reach, the position after its last
+    /// read.
     Read {
         tenure: TenureNo,
         position: u64,
         limit: u32,
     },
-    /// The first of the tenure's reads that isn't given is given to the processor.
+    /// Delivers the tenure's oldest undelivered read to the processor.
     Give {
         tenure: TenureNo,
     },
-    /// The checkpoint of the tenure's row is set, at its counter.
+    /// Sets the checkpoint of the tenure's row, whose counter must be `counter`.
     Mark {
         tenure: TenureNo,
         counter: u64,
         to: Target,
     },
-    /// A row is removed at its counter.
+    /// Removes a row of the lease table, whose counter must be `counter`.
     CutLease {
         key: ShardRef,
         counter: u64,
     },
 }
 
-/// What a checkpoint is set to: the number of a record, or the shard's end.
+/// The new value of a checkpoint: the number of a record, or the shard's end.
 #[derive(Clone, Copy, Debug, PartialEq, Eq)]
 pub enum Target {
     At(Seq),
     End,
 }
 
-/// Where a row of the lease table lets reading begin (Kinesis Client Library, initial position in stream).
+/// Where reading of a shard begins, as the shard's row in the lease table says (Kinesis Client Library, initial
+/// position in stream).
 #[derive(Clone, Copy, Debug, PartialEq, Eq)]
 pub enum Origin {
     /// At the shard's first record.
     TrimHorizon,
-    /// After the records that are there.
+    /// After all records that are already in the shard.
     Latest,
     /// At the first record that arrived at or after this moment.
     Time(Moment),
 }
 
-/// Where an iterator begins (Kinesis API Reference, GetShardIterator, ShardIteratorType).
+/// The position at which an iterator begins (Kinesis API Reference, GetShardIterator, ShardIteratorType).
 #[derive(Clone, Copy, Debug, PartialEq, Eq)]
 pub enum Start {
     At(Seq),
@@ -183,7 +185,7 @@ pub enum Start {
     Time(Moment),
 }
 
-/// A record as it is put: its partition key in UTF-8, its hash key, its payload.
+/// A record to put: its partition key in UTF-8, its hash key and its payload.
 #[derive(Drop)]
 pub struct NewItem {
     pub key: Octets,
@@ -192,7 +194,7 @@ pub struct NewItem {
 }
 
 impl Command {
-    /// Whether it asks the stream service, and not the leases.
+    /// Whether the command is for the stream service, and not for the lease table.
     pub fn is_service(&self) -> bool
         ensures { result ≡ is_service self.now }
     {
@@ -211,7 +213,7 @@ impl Command {
         )
     }
 
-    /// Whether it changes streams, shards or records.
+    /// Whether the command changes streams, shards or records.
     pub fn is_change(&self) -> bool
         ensures { result ≡ is_change self.now }
     {
@@ -229,7 +231,8 @@ impl Command {
         )
     }
 
-    /// The name of the stream that it is for: a stream that must be there, so CreateStream has none.
+    /// The name of the existing stream that the command needs. `None` if the command names no existing stream, for
+    /// example for CreateStream.
     pub fn stream_name(&self) -> Option<&Name>
         ensures { option_map (λ n. n.now) result ≡ name_of_command self.now }
     {
@@ -252,7 +255,7 @@ impl Command {
 }
 
 impl Turn {
-    /// The turn of a request to the service at this moment.
+    /// The turn of a request to the stream service at the moment `at`.
     pub fn request(at: Moment, what: Command) -> Turn
         ensures { result ≡ request_turn at what }
     {

@@ -7,7 +7,7 @@ use kds_base::{Items, Memory, Name};
 use std::alloc::Global;
 
 impl NewItem {
-    /// An equal item.
+    /// An equal copy of the item.
     pub fn copy(&self, alloc: Global) -> Result<NewItem, Memory>
         ensures { IfOk result (λ i. i ≡ self.now) }
     {
@@ -21,7 +21,7 @@ impl NewItem {
     }
 }
 
-/// Equal items, in their order.
+/// Equal copies of the items, in the same order.
 fn copy_items(alloc: Global, items: &[NewItem]) -> Result<Items<NewItem>, Memory>
     ensures { IfOk result (λ c. c ≡ items.now) }
 {
@@ -33,7 +33,7 @@ fn copy_items(alloc: Global, items: &[NewItem]) -> Result<Items<NewItem>, Memory
     Ok(copies)
 }
 
-/// An equal name, where there is one.
+/// An equal copy of the name, or `None` if `name` is `None`.
 fn copy_name(alloc: Global, name: &Option<Name>) -> Result<Option<Name>, Memory>
     ensures { IfOk result (λ c. c ≡ name.now) }
 {
@@ -46,7 +46,7 @@ fn copy_name(alloc: Global, name: &Option<Name>) -> Result<Option<Name>, Memory>
     }
 }
 
-/// An equal command that changes streams, shards or records.
+/// An equal copy of a command that changes streams, shards or records.
 fn copy_change(alloc: Global, what: &Command) -> Result<Command, Memory>
     requires { is_change what.now ≡ true }
     ensures { IfOk result (λ c. c ≡ what.now) }
@@ -92,7 +92,7 @@ fn copy_change(alloc: Global, what: &Command) -> Result<Command, Memory>
     }
 }
 
-/// An equal command that reads streams, shards or records.
+/// An equal copy of a command that reads streams, shards or records.
 fn copy_query(alloc: Global, what: &Command) -> Result<Command, Memory>
     requires { is_query what.now ≡ true }
     ensures { IfOk result (λ c. c ≡ what.now) }
@@ -130,7 +130,7 @@ fn copy_query(alloc: Global, what: &Command) -> Result<Command, Memory>
     }
 }
 
-/// An equal command for leases, which takes no memory.
+/// An equal copy of a command for the lease table. It allocates no memory.
 fn copy_lease(what: &Command) -> Command
     requires { is_service what.now ≡ false }
     ensures { result ≡ what.now }
@@ -163,7 +163,7 @@ fn copy_lease(what: &Command) -> Command
     }
 }
 
-/// The same of those that name a tenure, and a counter or a place.
+/// An equal copy of a command that names a tenure, and a counter or a position. It allocates no memory.
 fn copy_counted(what: &Command) -> Command
     requires { is_counted what.now ≡ true }
     ensures { result ≡ what.now }
@@ -206,7 +206,7 @@ fn copy_counted(what: &Command) -> Command
 }
 
 impl Command {
-    /// An equal command.
+    /// An equal copy of the command.
     pub fn copy(&self, alloc: Global) -> Result<Command, Memory>
         ensures { IfOk result (λ c. c ≡ self.now) }
     {
@@ -221,7 +221,7 @@ impl Command {
 }
 
 impl Turn {
-    /// An equal turn.
+    /// An equal copy of the turn.
     pub fn copy(&self, alloc: Global) -> Result<Turn, Memory>
         ensures { IfOk result (λ t. t ≡ self.now) }
     {

@@ -1,14 +1,14 @@
-//! What the lines of the journal say.
+//! The entries of the journal.
 ghost use Rattle.std.specs.Prelude.{◌≡◌};
 ghost use Rattle.kds_defs.specs.Subjects.{stream_of};
 
 use crate::command::{Origin, Target};
 use kds_base::{Items, Name, Seq, ShardNo, ShardRef, StreamNo, TenureNo, WorkerNo};
 
-/// What a line of the journal says.
+/// What one line of the journal records.
 #[derive(Drop)]
 pub enum Entry {
-    /// A stream was made, of so many shards.
+    /// A stream was created with this number of shards.
     Made {
         stream: StreamNo,
         name: Name,
@@ -18,7 +18,7 @@ pub enum Entry {
     Gone {
         stream: StreamNo,
     },
-    /// A record was put; `bytes` counts its payload, `key_bytes` its partition key in UTF-8.
+    /// A record was put. `bytes` is the size of its payload, `key_bytes` the size of its partition key in UTF-8.
     Put {
         stream: StreamNo,
         shard: ShardNo,
@@ -27,7 +27,7 @@ pub enum Entry {
         bytes: u64,
         key_bytes: u64,
     },
-    /// A shard was split at a key; the split drew this number.
+    /// A shard was split at a hash key. The split has the sequence number `seq`.
     Split {
         stream: StreamNo,
         shard: ShardNo,
@@ -36,7 +36,7 @@ pub enum Entry {
         low: ShardNo,
         high: ShardNo,
     },
-    /// Two shards were merged; the merge drew this number.
+    /// Two shards were merged. The merge has the sequence number `seq`.
     Merged {
         stream: StreamNo,
         shard: ShardNo,
@@ -44,7 +44,7 @@ pub enum Entry {
         seq: Seq,
         child: ShardNo,
     },
-    /// A stream's retention was set, in hours.
+    /// A stream's retention was set to this number of hours.
     Kept {
         stream: StreamNo,
         hours: u32,
@@ -54,24 +54,24 @@ pub enum Entry {
         stream: StreamNo,
         on: bool,
     },
-    /// A row of the lease table was made, with the origin that counts.
+    /// A row of the lease table was made. Reading of its shard begins at `from`.
     LeaseMade {
         key: ShardRef,
         from: Origin,
     },
-    /// A worker took a row, and this tenure of it began; the counter is the row's after it.
+    /// A worker took a row, and the tenure with this number began. `counter` is the row's new counter.
     Taken {
         key: ShardRef,
         tenure: TenureNo,
         counter: u64,
         owner: WorkerNo,
     },
-    /// The tenure's row was renewed; the counter is the row's after it.
+    /// The tenure's row was renewed. `counter` is the row's new counter.
     Renewed {
         tenure: TenureNo,
         counter: u64,
     },
-    /// The tenure's row was freed; the counter is the row's after it.
+    /// The tenure's row was freed. `counter` is the row's new counter.
     Freed {
         tenure: TenureNo,
         counter: u64,
@@ -80,24 +80,24 @@ pub enum Entry {
     Opened {
         tenure: TenureNo,
     },
-    /// The tenure read the records of these numbers, and whether that ended the shard.
+    /// The tenure read the records with these numbers. `end` is true if the shard ends after them.
     Read {
         tenure: TenureNo,
         limit: u32,
         end: bool,
         numbers: Items<Seq>,
     },
-    /// The first read of the tenure that wasn't given was given.
+    /// The tenure's oldest undelivered read was delivered to the processor.
     Given {
         tenure: TenureNo,
     },
-    /// The checkpoint of the tenure's row was set; the counter is the row's after it.
+    /// The checkpoint of the tenure's row was set. `counter` is the row's new counter.
     Marked {
         tenure: TenureNo,
         counter: u64,
         to: Target,
     },
-    /// A row was removed; the counter is the row's.
+    /// A row of the lease table was removed. `counter` was the row's counter.
     LeaseCut {
         key: ShardRef,
         counter: u64,
@@ -105,7 +105,7 @@ pub enum Entry {
 }
 
 impl Entry {
-    /// The stream that it speaks of, if it isn't of a lease.
+    /// The stream that the entry is about, or `None` for an entry about a lease.
     pub fn stream(&self) -> Option<StreamNo>
         ensures { result ≡ stream_of self.now }
     {

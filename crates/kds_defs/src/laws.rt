@@ -1,4 +1,4 @@
-//! What is true of every answer: functions without parameters, whose contracts are the laws.
+//! Laws that hold for every answer. Each law is the contract of a function without parameters.
 ghost use Rattle.std.specs.Prelude.{◌≡◌, Bool, List, true, false};
 ghost use Rattle.kds_defs.specs.declared.command.Turn.{Turn};
 ghost use Rattle.kds_defs.specs.declared.reply.Refusal.{Refusal};
@@ -8,18 +8,18 @@ ghost use Rattle.kds_defs.specs.Histories.{answer};
 ghost use Rattle.kds_defs.specs.Journal.{Line};
 ghost use Rattle.kds_defs.specs.Kinds.{is_lease_answer, is_service, is_service_answer};
 
-/// A command to the stream service is answered with one of its replies or refusals.
+/// Every answer to a command for the stream service is one of the service's replies or refusals.
 pub fn service_answers()
     ensures { (h : List Turn) (turn : Turn) → is_service turn.what ≡ true → is_service_answer (answer h turn) ≡ true }
 {}
 
-/// A command for leases is answered with one of theirs.
+/// Every answer to a command for the lease table is one of the lease table's replies or refusals.
 pub fn lease_answers()
     ensures { (h : List Turn) (turn : Turn) → is_service turn.what ≡ false → is_lease_answer (answer h turn) ≡ true }
 {}
 
-/// A refusal comes where its test holds, and else the rest decides; what is accepted has met no refusal, and has
-/// one list of lines.
+/// If the test of a refusal holds, the result is this refusal; otherwise the rest of the definition decides. For an
+/// accepted command no refusal's test holds, and the command has exactly one list of journal lines.
 pub fn refusal_chain()
     ensures refused { (r : Refusal) (b : Bool) (d : Decision) → b ≡ true → (refuse r if b else d) ≡ Refused r }
     ensures passed { (r : Refusal) (b : Bool) (d : Decision) → b ≡ false → (refuse r if b else d) ≡ d }

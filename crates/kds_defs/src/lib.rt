@@ -1,5 +1,5 @@
-//! The commands, replies, refusals and journal entries of the machine, the definitions that contracts
-//! cite (in `specs/`), and the contract of a machine.
+//! The commands, replies, refusals and journal entries of the machine, the definitions that contracts cite (in
+//! `specs/`), and the contract of a machine.
 #![tactic(auto)]
 
 pub mod command;
@@ -9,7 +9,7 @@ mod laws;
 mod limit_laws;
 pub mod limits;
 pub mod machine;
-mod places;
+mod positions;
 pub mod reply;
 pub mod scale;
 mod shard_laws;
@@ -19,7 +19,7 @@ pub use entry::Entry;
 pub use laws::{lease_answers, refusal_chain, service_answers};
 pub use limit_laws::{lease_limits, rate_limits, request_limits, schedule_limits, service_limits};
 pub use machine::{Answer, Machine, let_go};
-pub use places::{place_after, place_after_numbers};
+pub use positions::{place_after, place_after_numbers};
 pub use reply::{About, Iter, Outcome, Page, Place, Refusal, Reply, Row, Shard, Stored};
 pub use scale::ScaleStep;
 pub use shard_laws::{numbered_shards, tiled_shards};

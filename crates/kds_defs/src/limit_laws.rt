@@ -1,5 +1,5 @@
-//! The limits of the profile, in numbers: functions without parameters, whose contracts are the laws. The definitions
-//! name each limit by the constant of the code, so that a changed constant is refused here.
+//! The limits of the service, in numbers. Each law is the contract of a function without parameters. The definitions
+//! name each limit by a constant of the code, so a changed constant contradicts a law here.
 ghost use Rattle.std.specs.Prelude.{◌≡◌};
 ghost use Rattle.kds_defs.specs.declared.limits.TheConstants.{LIVE_STREAMS, OPEN_SHARDS, LEAST_SHARDS, MOST_SHARDS, KEY_CHARACTERS, RECORD_BYTES, MANY_ITEMS, MANY_BYTES};
 ghost use Rattle.kds_defs.specs.declared.limits.TheConstants.{TOKEN_LIFE, FIRST_HOURS, LEAST_HOURS, MOST_HOURS, HOUR, BATCH_BYTES, MOST, PENDING_READS};
@@ -7,7 +7,7 @@ ghost use Rattle.kds_defs.specs.declared.limits.TheConstants.{SECOND, SECOND_REC
 ghost use Rattle.kds_defs.specs.declared.limits.TheConstants.{RECORDS_LIMIT, SHARDS_LIMIT, DESCRIBED_LIMIT, NAMES_LIMIT, MOST_SECONDS};
 ghost use Rattle.kds_defs.specs.declared.limits.TheConstants.{API_ACTOR, MOST_ACTOR, OPERATION_BYTES, LINE_BYTES, INPUT_BYTES};
 
-/// The limits of streams, shards and records (Kinesis API Reference, the operations; Service quotas).
+/// The limits on streams, shards and records (Kinesis API Reference, the operations; Service quotas).
 pub fn service_limits()
     ensures streams { LIVE_STREAMS ≡ 64 }
     ensures open_shards { OPEN_SHARDS ≡ 500 }
@@ -26,16 +26,16 @@ pub fn service_limits()
     ensures most { MOST ≡ 10000 }
 {}
 
-/// What a shard takes within a second where its limits are enforced (Kinesis Data Streams Developer Guide, Quotas and
-/// Limits).
+/// How much a shard accepts within a second if its limits are enforced (Kinesis Data Streams Developer Guide, Quotas
+/// and Limits).
 pub fn rate_limits()
     ensures second { SECOND ≡ 1000 }
     ensures records { SECOND_RECORDS ≡ 1000 }
     ensures bytes { SECOND_BYTES ≡ 1048576 }
 {}
 
-/// What stands for a member that is absent, and the greatest moment that a request may name
-/// (Kinesis API Reference, the operations).
+/// The default values of absent members of a request, and the greatest moment that a request may name (Kinesis API
+/// Reference, the operations).
 pub fn request_limits()
     ensures records { RECORDS_LIMIT ≡ 10000 }
     ensures shards { SHARDS_LIMIT ≡ 1000 }
@@ -44,12 +44,12 @@ pub fn request_limits()
     ensures seconds { MOST_SECONDS ≡ 4611686018427387 }
 {}
 
-/// The limit of a tenure: eight reads may wait for their delivery.
+/// The limit on a tenure: at most eight reads may wait for their delivery.
 pub fn lease_limits()
     ensures { PENDING_READS ≡ 8 }
 {}
 
-/// The limits of schedules.
+/// The limits on schedules.
 pub fn schedule_limits()
     ensures api { API_ACTOR ≡ 0 }
     ensures actors { MOST_ACTOR ≡ 999 }

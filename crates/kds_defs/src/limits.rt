@@ -1,30 +1,31 @@
 //! The limits of the service.
 
-/// How many streams may be live at once.
+/// The most streams that may be live at once.
 pub const LIVE_STREAMS: u64 = 64;
 
-/// How many shards may be open at once, over all streams.
+/// The most shards that may be open at once, over all streams.
 pub const OPEN_SHARDS: u64 = 500;
 
-/// The least number of shards with which a stream is made (Kinesis API Reference, CreateStream, ShardCount).
+/// The least number of shards of a new stream (Kinesis API Reference, CreateStream, ShardCount).
 pub const LEAST_SHARDS: u32 = 1;
 
-/// The greatest.
+/// The greatest number of shards of a new stream.
 pub const MOST_SHARDS: u32 = 500;
 
-/// The most characters of a partition key (Kinesis API Reference, PutRecord, PartitionKey).
+/// The most characters in a partition key (Kinesis API Reference, PutRecord, PartitionKey).
 pub const KEY_CHARACTERS: u64 = 256;
 
-/// The most bytes of a record's payload and key together (Kinesis API Reference, PutRecord, Data).
+/// The most bytes that a record's payload and key may have together (Kinesis API Reference, PutRecord, Data).
 pub const RECORD_BYTES: u64 = 10_485_760;
 
-/// The most records of one PutRecords (Kinesis API Reference, PutRecords, Records).
+/// The most records in one PutRecords request (Kinesis API Reference, PutRecords, Records).
 pub const MANY_ITEMS: u64 = 500;
 
-/// The most payload and key bytes of all records of one PutRecords together (Kinesis API Reference, PutRecords).
+/// The most bytes that the payloads and keys of all records in one PutRecords request may have together (Kinesis API
+/// Reference, PutRecords).
 pub const MANY_BYTES: u64 = 10_485_760;
 
-/// How long an iterator and a listing's token are good, in milliseconds (Kinesis API Reference,
+/// How long shard iterators and the tokens of listings are valid, in milliseconds (Kinesis API Reference,
 /// GetShardIterator: 5 minutes).
 pub const TOKEN_LIFE: u64 = 300_000;
 
@@ -34,59 +35,61 @@ pub const FIRST_HOURS: u32 = 24;
 /// The least retention, in hours (Kinesis API Reference, DecreaseStreamRetentionPeriod).
 pub const LEAST_HOURS: u32 = 24;
 
-/// The greatest, in hours: 365 days (Kinesis API Reference, IncreaseStreamRetentionPeriod).
+/// The greatest retention, in hours: 365 days (Kinesis API Reference, IncreaseStreamRetentionPeriod).
 pub const MOST_HOURS: u32 = 8_760;
 
-/// The milliseconds of an hour.
+/// The number of milliseconds in an hour.
 pub const HOUR: u64 = 3_600_000;
 
-/// The most payload and key bytes of a batch's records together (Kinesis API Reference, GetRecords: 10 MiB).
+/// The most bytes that the payloads and keys of all records in a batch may have together (Kinesis API Reference,
+/// GetRecords: 10 MiB).
 pub const BATCH_BYTES: u64 = 10_485_760;
 
-/// The greatest limit that a listing or a read may ask for.
+/// The greatest number of items that a request may ask for in one listing or read.
 pub const MOST: u32 = 10_000;
 
-/// The milliseconds of a second, over which a shard's throughput is counted.
+/// The number of milliseconds in a second, the time over which a shard's throughput is counted.
 pub const SECOND: u64 = 1_000;
 
-/// The records that a shard takes within a second (Kinesis Data Streams Developer Guide, Quotas and Limits).
+/// The most records that a shard accepts within a second (Kinesis Data Streams Developer Guide, Quotas and Limits).
 pub const SECOND_RECORDS: u64 = 1_000;
 
-/// The payload and key bytes that a shard takes within a second, if it isn't one record alone (the same section).
+/// The most bytes of payloads and keys that a shard accepts within a second. A record that is alone in its second may
+/// be larger (Kinesis Data Streams Developer Guide, Quotas and Limits).
 pub const SECOND_BYTES: u64 = 1_048_576;
 
-/// The most reads of a tenure that aren't given yet.
+/// The most undelivered reads that a tenure may have.
 pub const PENDING_READS: u64 = 8;
 
-/// The most records that GetRecords gives where it has no Limit (Kinesis API Reference, GetRecords, Limit).
+/// The most records that GetRecords returns if the request has no Limit (Kinesis API Reference, GetRecords, Limit).
 pub const RECORDS_LIMIT: u32 = 10_000;
 
-/// The most shards that ListShards gives where it has no MaxResults
-/// (Kinesis API Reference, ListShards, MaxResults).
+/// The most shards that ListShards returns if the request has no MaxResults (Kinesis API Reference, ListShards,
+/// MaxResults).
 pub const SHARDS_LIMIT: u32 = 1_000;
 
-/// The most shards that DescribeStream gives where it has no Limit
-/// (Kinesis API Reference, DescribeStream, Limit).
+/// The most shards that DescribeStream returns if the request has no Limit (Kinesis API Reference, DescribeStream,
+/// Limit).
 pub const DESCRIBED_LIMIT: u32 = 100;
 
-/// The most names that ListStreams gives where it has no Limit (Kinesis API Reference, ListStreams, Limit).
+/// The most names that ListStreams returns if the request has no Limit (Kinesis API Reference, ListStreams, Limit).
 pub const NAMES_LIMIT: u32 = 100;
 
-/// The greatest moment that a request may name (Kinesis API Reference, GetShardIterator, Timestamp), in seconds: this
-/// profile's own bound, 2^62 milliseconds, which every moment stays below.
+/// The greatest moment that a request may name, in seconds (Kinesis API Reference, GetShardIterator, Timestamp). This
+/// project chose the bound: every moment is below 2^62 milliseconds.
 pub const MOST_SECONDS: u64 = 4_611_686_018_427_387;
 
-/// The actor of a request to the service.
+/// The actor number of every request to the stream service.
 pub const API_ACTOR: u32 = 0;
 
-/// The greatest actor of a raw line of a schedule.
+/// The greatest actor number that a raw line of a schedule may name.
 pub const MOST_ACTOR: u32 = 999;
 
-/// The most characters of an operation's name in a schedule.
+/// The most characters in the name of an operation in a schedule.
 pub const OPERATION_BYTES: usize = 64;
 
-/// The most bytes of a schedule's line before its line feed.
+/// The most bytes in a line of a schedule, without its line feed.
 pub const LINE_BYTES: u64 = 16_777_216;
 
-/// The most bytes of an input of lines.
+/// The most bytes in an input that is read line by line.
 pub const INPUT_BYTES: u64 = 1_073_741_824;

@@ -10,11 +10,11 @@ use crate::command::Turn;
 use crate::reply::{Refusal, Reply};
 use kds_base::Memory;
 
-/// What a turn is answered.
+/// The answer to a turn: a reply or a refusal.
 pub type Answer = Result<Reply, Refusal>;
 
-/// Drops an answer that isn't needed any more. A function that lets its answer go by a call has a shorter proof than
-/// one that drops it itself.
+/// Drops an answer that isn't needed any more. A function that drops its answer through this call has a shorter
+/// proof.
 pub fn let_go(_answer: Answer) {}
 
 /// A machine that answers turns, one after another.
@@ -22,22 +22,25 @@ pub trait Machine {
     /// The machine stands for this history, the newest turn first: it has answered these turns and no others.
     ghost stands_for: { Self → List Turn → Type 0 };
 
-    /// Applies one turn, whole. `Memory` is want of memory.
+    /// Applies one turn as a whole. The error `Memory` means that memory ran out.
     fn apply(&mut self, turn: Turn) -> Result<Answer, Memory>
         requires { IsLawful turn }
 
-        // The answer is that of the definitions after the history, and the turn is added to it.
+        // If the machine stands for a history, it answers as the definitions do after this history, and then stands
+        // for the history with the new turn added.
         ensures answered { (h : List Turn) → stands_for self.old h → IfOk result (λ a. (a ≡ answer h turn) × stands_for self.new (turn ∷ h)) }
 
-        // After want of memory the history is as before.
+        // After `Memory` the machine stands for the same history as before.
         ensures kept { (h : List Turn) → stands_for self.old h → OnErr result (stands_for self.new h) }
 
-        // The stream service answers with its own replies and refusals, whatever the history.
+        // Every answer to a command for the stream service is one of the service's replies or refusals, whatever the
+        // history.
         ensures own { is_service turn.what ≡ true → IfOk result (λ a. is_service_answer a ≡ true) }
 
-        // And the leases with theirs.
+        // Every answer to a command for the lease table is one of the lease table's replies or refusals, whatever the
+        // history.
         ensures leased { is_service turn.what ≡ false → IfOk result (λ a. is_lease_answer a ≡ true) }
 
-        // What writes a row or a tenure that is there takes no memory.
+        // A command that only changes an existing row or tenure allocates no memory, so it never returns `Memory`.
         ensures sure { NeedsNoMemory turn.what → IsOk result };
 }

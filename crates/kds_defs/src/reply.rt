@@ -1,4 +1,4 @@
-//! What the machine answers.
+//! The machine's replies and refusals.
 use crate::command::Origin;
 use crate::entry::Entry;
 use kds_base::{
@@ -7,23 +7,23 @@ use kds_base::{
 };
 use std::marker::Model;
 
-/// Where a record was put.
+/// Where a record was stored: its shard and its sequence number.
 #[derive(Clone, Copy, Debug, PartialEq, Eq)]
 pub struct Place {
     pub shard: ShardNo,
     pub seq: Seq,
 }
 
-/// What became of one record of PutRecords (Kinesis API Reference, PutRecordsResultEntry).
+/// The result for one record of a PutRecords request (Kinesis API Reference, PutRecordsResultEntry).
 #[derive(Clone, Copy, Debug, PartialEq, Eq)]
 pub enum Outcome {
-    /// It stands here.
+    /// The record was stored at this place.
     Stored(Place),
-    /// This shard takes no more within the second.
+    /// The record was throttled: it exceeds what this shard still accepts within the second.
     Throttled(ShardNo),
 }
 
-/// A record as it is read (Kinesis API Reference, Record).
+/// A record as read from a shard (Kinesis API Reference, Record).
 #[derive(Drop)]
 pub struct Stored {
     pub seq: Seq,
@@ -41,7 +41,7 @@ pub struct Iter {
     pub issued: Moment,
 }
 
-/// Where a listing of shards goes on, and when it was issued.
+/// A listing token: the shard after which the listing continues, and when the token was issued.
 #[derive(Clone, Copy, Debug, PartialEq, Eq)]
 pub struct Page {
     pub stream: StreamNo,
@@ -49,16 +49,16 @@ pub struct Page {
     pub issued: Moment,
 }
 
-/// A shard as it is shown (Kinesis API Reference, Shard). Contracts see the fields.
+/// A shard as replies show it (Kinesis API Reference, Shard). Contracts see the fields.
 #[derive(Clone, Copy, Debug, PartialEq, Eq)]
 pub struct Shard {
     pub no: ShardNo,
     pub range: Range,
     pub parent: Option<ShardNo>,
     pub adjacent: Option<ShardNo>,
-    /// The starting sequence number.
+    /// The shard's starting sequence number.
     pub start: Seq,
-    /// The ending sequence number, where the shard is closed.
+    /// The shard's ending sequence number, if the shard is closed.
     pub end: Option<Seq>,
 }
 
@@ -76,16 +76,16 @@ impl Model for Shard {
 #[derive(Clone, Copy, Debug, PartialEq, Eq)]
 pub struct Row {
     pub key: ShardRef,
-    /// The worker that owns it.
+    /// The worker that owns the row, if any.
     pub owner: Option<WorkerNo>,
-    /// How many times the row was taken, renewed, freed and marked.
+    /// How many times the row was taken, renewed, freed or marked, in total.
     pub counter: u64,
     pub checkpoint: Checkpoint,
-    /// How many times it was taken from another owner since the last mark.
+    /// How many times the row was taken from another owner since its checkpoint was last set.
     pub switches: u64,
-    /// The tenure that holds it; 0 is none.
+    /// The tenure that holds the row, or 0 if the row is free.
     pub tenure: TenureNo,
-    /// Where its records begin: the shard's starting sequence number, or the position of the row's origin.
+    /// Where the shard's records begin: its starting sequence number, or the position given by the row's origin.
     pub floor: Seq,
     pub parent: Option<ShardNo>,
     pub adjacent: Option<ShardNo>,
@@ -121,7 +121,7 @@ impl Model for Row {
     } };
 }
 
-/// What is told of a stream: its name, when it was made, its retention in hours (Kinesis API Reference,
+/// The description of a stream: its name, its creation time, and its retention in hours (Kinesis API Reference,
 /// StreamDescription and StreamDescriptionSummary).
 #[derive(Drop)]
 pub struct About {
@@ -133,72 +133,73 @@ pub struct About {
 /// The answer to an accepted command.
 #[derive(Drop)]
 pub enum Reply {
-    /// It was done, and there is nothing to tell.
+    /// The command was carried out; the reply has no body.
     Done,
-    /// ListStreams: names, and whether more follow.
+    /// ListStreams: the names, and whether more names follow.
     Streams {
         names: Items<Name>,
         more: bool,
     },
-    /// DescribeStream: the stream, its shards, and whether more of them follow.
+    /// DescribeStream: the stream's description, its shards, and whether more shards follow.
     Described {
         about: About,
         shards: Items<Shard>,
         more: bool,
     },
-    /// DescribeStreamSummary: the stream, and how many of its shards are open.
+    /// DescribeStreamSummary: the stream's description, and its number of open shards.
     Summary {
         about: About,
         open_shards: u32,
     },
-    /// PutRecord: where the record stands.
+    /// PutRecord: the record's shard and sequence number.
     Put(Place),
-    /// PutRecords: what became of each record, in order.
+    /// PutRecords: the result for each record, in order.
     PutMany(Items<Outcome>),
-    /// UpdateShardCount: how many shards were open and are to be, and the merges and splits in order.
+    /// UpdateShardCount: the number of open shards before the scaling, the wanted number, and the merges and splits in
+    /// order.
     Scaled {
         name: Name,
         before: u32,
         target: u32,
         entries: Items<Entry>,
     },
-    /// GetShardIterator.
+    /// GetShardIterator: the new iterator.
     Iterator(Iter),
-    /// GetRecords: the records, where reading goes on, the milliseconds behind the latest, and at the end
-    /// of a closed shard its children.
+    /// GetRecords: the records, the next iterator, the reader's lag in milliseconds (MillisBehindLatest), and at the
+    /// end of a closed shard its children.
     Records {
         batch: Items<Stored>,
         next: Option<Iter>,
         behind: u64,
         children: Items<Shard>,
     },
-    /// ListShards, and where more of them follow.
+    /// ListShards: the shards, and a token for the next page if more shards follow.
     Shards {
         shards: Items<Shard>,
         next: Option<Page>,
     },
-    /// Survey: all listed shards and all rows, each in the order of their keys.
+    /// Survey: all listed shards and all rows of the lease table, each list in the order of its keys.
     Survey {
         shards: Items<ShardRef>,
         rows: Items<Row>,
     },
-    /// MakeLease: the origin that counts.
+    /// MakeLease: where reading of the shard begins.
     Leased(Origin),
-    /// Take: the tenure, the row's counter, and where the tenure begins.
+    /// Take: the new tenure, the row's new counter, and the checkpoint at which the tenure's reading begins.
     Taken {
         tenure: TenureNo,
         counter: u64,
         start: Checkpoint,
     },
-    /// Renew, Free, Mark: the row's counter.
+    /// Renew, Free, Mark: the row's new counter.
     Counter(u64),
-    /// Read: the records, the tenure's reach after them, and whether the shard ends there.
+    /// Read: the records, the tenure's reach (the position after them), and whether the shard ends there.
     Read {
         batch: Items<Stored>,
         reach: u64,
         end: bool,
     },
-    /// Give: one above the greatest number that was given, where there was any.
+    /// Give: the greatest sequence number that was delivered plus one, if any record was delivered.
     Given {
         delivered: u64,
     },
@@ -207,66 +208,68 @@ pub enum Reply {
 /// Why a command is refused.
 #[derive(Clone, Copy, Debug, PartialEq, Eq)]
 pub enum Refusal {
-    /// No live stream has the name or the number.
+    /// No live stream has this name or number.
     NoStream,
-    /// A live stream has the name.
+    /// A live stream already has this name.
     StreamThere,
-    /// The shard isn't listed: it was never made, or it is expired.
+    /// The shard isn't listed: it was never made, or it has expired.
     NoShard,
     /// The shard is closed.
     ShardClosed,
-    /// Neither shard's range starts right after the other's end.
+    /// The two shards aren't adjacent: neither shard's range starts right after the other's ends.
     NotAdjacent,
-    /// The split key leaves one part of the range empty.
+    /// The split key would leave one part of the range empty.
     BadSplit,
-    /// The sequence number lies outside the shard's.
+    /// The sequence number doesn't belong to the shard.
     BadNumber,
-    /// The retention is below the present one where an increase was asked, or above it where a decrease was.
+    /// An increase asks for fewer hours than the present retention, or a decrease asks for more.
     BadRetention,
     /// The iterator is too old.
     Expired,
     /// The listing's token is too old.
     PageExpired,
-    /// A limit on streams or shards is reached.
+    /// The limit on streams or the limit on shards is reached.
     Full,
-    /// The numbers of a stream, of streams, of a row or of tenures are used up.
+    /// No number is left: no sequence or shard number of the stream, no number for a stream or a tenure, or no value
+    /// for the counter of a row.
     Spent,
-    /// This shard takes no more within the second.
+    /// The record exceeds what this shard still accepts within the second.
     Throttled(ShardNo),
-    /// The key has no row.
+    /// The lease table has no row with this key.
     NoLease,
-    /// There is no such tenure.
+    /// No tenure has this number.
     NoTenure,
-    /// The tenure was taken by another actor.
+    /// The tenure was begun by another actor.
     NotYours,
-    /// The row's tenure is this one, or 0 for none.
+    /// The tenure no longer holds its row. The given number is that of the tenure that holds the row now, or 0 if the
+    /// row is free.
     Lost(TenureNo),
-    /// The row's counter is this one.
+    /// The row's counter isn't the expected one, but this number.
     Moved(u64),
-    /// The row's checkpoint is the shard's end.
+    /// The row's checkpoint is already the shard's end.
     Ended,
-    /// The number isn't below this one, up to which records were given.
+    /// The wanted checkpoint is too great: only records with sequence numbers below this number were delivered.
     Beyond(u64),
-    /// The number is below this one, the least that a checkpoint may be set to.
+    /// The wanted checkpoint is too small: this number is the least to which the checkpoint may be set.
     Below(Seq),
-    /// The last read that was given didn't end the shard.
+    /// The checkpoint can't be set to the shard's end: the last delivered read didn't reach that end.
     NotAtEnd,
-    /// This parent is listed, and its row doesn't read its end.
+    /// This parent of the shard is listed, and it has no row whose checkpoint is the parent's end.
     ParentsOpen(ShardRef),
-    /// The tenure wasn't opened.
+    /// The tenure hasn't been opened.
     NotOpened,
-    /// The tenure was opened before.
+    /// The tenure has already been opened.
     OpenedBefore,
-    /// Each read of the tenure was given.
+    /// The tenure has no undelivered read.
     NothingPending,
-    /// Too many reads of the tenure aren't given.
+    /// Too many reads of the tenure wait for their delivery.
     TooManyPending,
-    /// The tenure's reach is this position.
+    /// The wanted position isn't the tenure's reach, which is this number.
     OutOfPlace(u64),
     /// The shard isn't listed.
     ShardGone,
-    /// The key has a row.
+    /// The lease table already has a row with this key.
     LeaseThere,
-    /// The shard is listed.
+    /// The row can't be removed, because its shard is listed.
     ShardListed,
 }

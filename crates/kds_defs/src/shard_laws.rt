@@ -1,4 +1,4 @@
-//! What is true of every list of shards: functions without parameters, whose contracts are the laws.
+//! Laws that hold for every list of shards. Each law is the contract of a function without parameters.
 ghost use Rattle.std.specs.Prelude.{◌≡◌, ◌≢◌, ◌≤◌, ◌+◌, ◌++◌, ℕ, List, length, map, slice_get};
 ghost use Rattle.std.specs.List.{filter};
 ghost use Rattle.kds_base.specs.Span.{Span, uniform};
@@ -6,7 +6,8 @@ ghost use Rattle.kds_defs.specs.Safe.{times_covered};
 ghost use Rattle.kds_defs.specs.Shards.{Closing, ShardState, first_shards, is_open, merged_shards, split_shards, with_closed};
 ghost use Rattle.kds_defs.specs.Tiled.{AreMergeable, AreNumbered, IsSplittable, IsTiled, open_times};
 
-/// Shards are numbered in their order: the first ones, and also where one is closed or more are added.
+/// Shards are numbered in the order of the list. This holds for the first shards of a stream, and it still holds if a
+/// shard is closed or shards are added.
 pub fn numbered_shards()
     ensures first { (n start : ℕ) (ranges : List Span) → AreNumbered n (first_shards n start ranges) }
     ensures closed { (n shard : ℕ) (closing : Closing) (xs : List ShardState) → AreNumbered n xs → AreNumbered n (with_closed shard closing xs) }
@@ -16,8 +17,8 @@ pub fn numbered_shards()
         → slice_get (with_closed shard closing xs) other ≡ slice_get xs other }
 {}
 
-/// The ranges of the open shards tile the keys: those of the first shards do, and also where one is split, or where
-/// two whose ranges touch are merged.
+/// The ranges of the open shards partition the hash keys. This holds for the first shards of a stream, and it still
+/// holds if one shard is split, or if two shards with adjacent ranges are merged.
 pub fn tiled_shards()
     ensures first { (count start : ℕ) → 1 ≤ count → count ≤ 500 → IsTiled (first_shards 0 start (uniform count)) }
     ensures split { (xs : List ShardState) (shard at start : ℕ) (closing : Closing) → IsSplittable xs shard at → IsTiled xs

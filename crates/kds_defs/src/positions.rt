@@ -1,4 +1,4 @@
-//! Where reading of a shard goes on after a batch.
+//! The position at which reading of a shard continues after a batch.
 ghost use Rattle.std.specs.Prelude.{◌≡◌, ◌-◌, ◌^◌, ◌<◌, map};
 ghost use Rattle.std.specs.List.{AllByRecursion};
 ghost use Rattle.kds_defs.specs.Records.{place_after};
@@ -6,7 +6,8 @@ ghost use Rattle.kds_defs.specs.Records.{place_after};
 use crate::reply::Stored;
 use kds_base::Seq;
 
-/// One above the number of a batch's last record, or the same position after an empty batch.
+/// The position after `batch`, which was read at `position`: the number of the last record plus one, or `position` if
+/// the batch is empty.
 pub fn place_after(position: u64, batch: &[Stored]) -> u64
     requires { AllByRecursion (λ r. r.seq < 2 ^ 64 - 1) batch.now }
     ensures { result ≡ place_after position (map (λ r. r.seq) batch.now) }
@@ -20,7 +21,8 @@ pub fn place_after(position: u64, batch: &[Stored]) -> u64
     }
 }
 
-/// One above the last of a batch's numbers, or the same position where there are none.
+/// The position after a batch that was read at `position`: the last of its sequence numbers plus one, or `position` if
+/// there are no numbers.
 pub fn place_after_numbers(position: u64, numbers: &[Seq]) -> u64
     requires { AllByRecursion (λ n. n < 2 ^ 64 - 1) numbers.now }
     ensures { result ≡ place_after position numbers.now }
