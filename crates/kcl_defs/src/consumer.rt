@@ -1,4 +1,4 @@
-//! What consumers and workers are made with, and what is told of them.
+//! The values from which consumers and workers are made, and the values that they return.
 ghost use Rattle.std.specs.Prelude.{◌≡◌};
 ghost use Rattle.kcl_defs.specs.Workers.{usual_settings};
 
@@ -6,8 +6,8 @@ use crate::limits::{USUAL_FAILOVER, USUAL_LIMIT};
 use kds_base::{Checkpoint, Items, ShardRef, TenureNo, WorkerNo};
 use kds_defs::{Origin, Refusal, Stored};
 
-/// What a processor asks for after a batch: nothing, a checkpoint at a number, at the batch's last number, or at the
-/// shard's end (Kinesis Client Library, RecordProcessorCheckpointer).
+/// The checkpoint that a processor asks for after a batch: no checkpoint, or a checkpoint at a given number, at the
+/// batch's last number, or at the shard's end (Kinesis Client Library, RecordProcessorCheckpointer).
 #[derive(Clone, Copy, Debug, PartialEq, Eq)]
 pub enum Ask {
     None,
@@ -25,30 +25,31 @@ pub enum Due {
     ShardEnded,
 }
 
-/// Why a consumer is over (Kinesis Client Library, ShutdownReason).
+/// The reason why a consumer is over (Kinesis Client Library, ShutdownReason).
 #[derive(Clone, Copy, Debug, PartialEq, Eq)]
 pub enum Why {
-    /// The lease is another's, or was given up.
+    /// The lease belongs to another worker, or this worker gave it up.
     Lost,
-    /// The shard was processed to its end, and the end is marked.
+    /// The shard was processed to its end, and the lease's checkpoint is set to the shard's end.
     Ended,
-    /// The shard isn't listed any more.
+    /// The shard is no longer listed.
     Gone,
-    /// The tenure never began to read.
+    /// The consumer was over before it began to read.
     NeverOpened,
 }
 
-/// What an answer led to.
+/// The state of a consumer after it absorbed an answer.
 #[derive(Clone, Copy, Debug, PartialEq, Eq)]
 pub enum Progress {
     Going,
-    /// The checkpoint that the processor asked for was refused, for another cause than a lost lease; the ask is dropped.
+    /// The checkpoint that the processor asked for was refused, for another reason than a lost lease. The consumer
+    /// doesn't ask for it again.
     Refused(Refusal),
     Over(Why),
 }
 
-/// What a consumer is made with: a tenure of a lease, the row's checkpoint where it began, and how many records are read
-/// at once, 1 to 10,000.
+/// The values from which a consumer is made: the key of its lease, the number of its tenure, the row's checkpoint when
+/// the tenure began, and the most records that a Read may return, 1 to 10,000.
 #[derive(Clone, Copy, Debug, PartialEq, Eq)]
 pub struct Tenancy {
     pub key: ShardRef,
@@ -57,14 +58,14 @@ pub struct Tenancy {
     pub limit: u32,
 }
 
-/// A batch that was read and is not yet given, and whether it ended the shard.
+/// A batch that was read and not yet given, and whether its read reached the shard's end.
 #[derive(Drop)]
 pub struct Fetched {
     pub batch: Items<Stored>,
     pub ended: bool,
 }
 
-/// A call of a processor that returned.
+/// A processor call that has returned.
 #[derive(Drop)]
 pub enum Call {
     Initialize { key: ShardRef, start: Checkpoint },
@@ -73,9 +74,9 @@ pub enum Call {
     ShardEnded,
 }
 
-/// What a worker is made with: its failover time in milliseconds, how many records it reads at once, 1 to
-/// 10,000, and where the rows that it makes let reading begin (Kinesis Client Library: failover time, max
-/// records, initial position in stream).
+/// A worker's settings: its failover time in milliseconds, the most records that each of its Reads may return, 1 to
+/// 10,000, and the origin at which the rows that it makes begin (Kinesis Client Library: failover time, max records,
+/// initial position in stream).
 #[derive(Clone, Copy, Debug, PartialEq, Eq)]
 pub struct Settings {
     pub failover: u64,
@@ -84,7 +85,8 @@ pub struct Settings {
 }
 
 impl Settings {
-    /// A failover time of 10,000 milliseconds, 1,000 records at once, and each shard from its first record.
+    /// Returns the usual settings: a failover time of 10,000 milliseconds, at most 1,000 records per Read, and new
+    /// rows that begin at the trim horizon.
     pub fn usual() -> Settings
         ensures { result ≡ usual_settings }
     {
@@ -96,7 +98,7 @@ impl Settings {
     }
 }
 
-/// The name of a worker and its settings.
+/// The name and the settings of a worker.
 #[derive(Clone, Copy, Debug, PartialEq, Eq)]
 pub struct WorkerMade {
     pub name: WorkerNo,

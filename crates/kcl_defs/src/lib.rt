@@ -1,4 +1,4 @@
-//! What plans, consumers and workers are: their types, and the definitions that their contracts cite (in `specs/`).
+//! The types of plans, consumers and workers, and the definitions that their contracts cite (in `specs/`).
 #![tactic(auto)]
 
 pub mod consumer;

@@ -1,4 +1,5 @@
-//! What is true of every history: functions without parameters, whose contracts are the laws.
+//! The laws that hold in every history. Each law is the contract of a function that has no parameters and does
+//! nothing.
 #![tactic(auto)]
 
 ghost use Rattle.std.specs.Prelude.{ℕ, true, List, [], ◌∷◌, ◌≤◌, ◌≡◌, Option, Some, None, Err};
@@ -28,38 +29,41 @@ ghost use Rattle.kds_defs.specs.StreamCommands.{last_number};
 ghost use Rattle.kds_defs.specs.Streams.{was_made};
 ghost use Rattle.kds_defs.specs.Tiled.{AreNumbered};
 
-/// The open shards of each stream partition the keys.
+/// In each stream, the open shards partition the hash keys: each hash key belongs to exactly one open shard.
 pub fn partition()
     ensures { (h : List Turn) → IsHistory h → HasPartitions (journal h) }
 {}
 
-/// Each put stands in the home of its hash, and puts, splits and merges draw 1, 2, 3 and so on.
+/// Each put stores its record in the open shard that the record's hash key belongs to. The puts, splits and merges of
+/// a stream are numbered 1, 2, 3 and so on.
 pub fn one_home()
     ensures { (h : List Turn) → IsHistory h → ArePlaced (journal h) }
 {}
 
-/// Each record from a row's floor to its checkpoint was delivered, in a tenure whose reads rise, or is trimmed,
-/// at the history's clock and later.
+/// At the history's clock and at each later one, each record from a row's floor to its checkpoint has been trimmed, or
+/// was delivered in a tenure whose reads have increasing sequence numbers.
 pub fn coverage()
     ensures { (h : List Turn) → IsHistory h → (c : ℕ) → clock h ≤ c → AreCovered (journal h) c }
 {}
 
-/// For a row from the trim horizon, that is each record of its shard up to the checkpoint.
+/// If a row begins at the trim horizon, each record of its shard up to the row's checkpoint has been trimmed, or was
+/// delivered in a tenure whose reads have increasing sequence numbers.
 pub fn whole_coverage()
     ensures { (h : List Turn) → IsHistory h → (c : ℕ) → clock h ≤ c → AreWhole (journal h) c }
 {}
 
-/// In each tenure of a key that has a row, each record from the row's floor on and below the delivered position
-/// was given or is trimmed, and each such record below the reach was read, was given or is trimmed. What a tenure reads
-/// rises from the place where it begins.
+/// For each tenure of a key that has a row: each record at or above the row's floor and below the tenure's delivered
+/// position was given or has been trimmed. Each record at or above the row's floor and below the tenure's reach was
+/// read, was given or has been trimmed. The sequence numbers that a tenure reads increase, from the position at which
+/// the tenure begins.
 pub fn delivery()
     ensures reads { (h : List Turn) → IsHistory h → (c : ℕ) → clock h ≤ c → AreReadOn (journal h) c }
     ensures begins { (h : List Turn) → IsHistory h → (t : ℕ) (T : TenureState) → tenure (journal h) t ≡ Some T
         → RiseFrom (place_of T.start) (all_numbers T.reads) }
 {}
 
-/// A key gets one row at most: the tenures of a key are those of its row. A row is removed once its shard is
-/// expired, and what is expired stays so, after a line and at a later clock.
+/// A row is made at most once for each key, so all tenures of a key are tenures of the same row. A row is removed only
+/// once its shard has expired. An expired shard stays expired after each further line and at each later clock.
 pub fn one_row()
     ensures once { (h : List Turn) → IsHistory h → (key : ShardRef) → times_made (journal h) key ≤ 1 }
     ensures expired { (log : Journal) (line : Line) → IsLegal (line ∷ log) → (c : ℕ) (key : ShardRef) → was_made log key.stream ≡ true
@@ -67,14 +71,16 @@ pub fn one_row()
     ensures later { (log : Journal) (c d : ℕ) (key : ShardRef) → c ≤ d → HasExpired log c key → HasExpired log d key }
 {}
 
-/// A read stands after an opening of its tenure, and an opening after the parents ended or expired.
+/// A tenure reads only after it was opened. A tenure is opened only after each parent of its shard was processed to
+/// its end or has expired.
 pub fn lineage()
     ensures { (h : List Turn) → IsHistory h → AreInLine (journal h) }
 {}
 
-/// Each write of a row is by its tenure's actor, while the tenure is the row's. A mark, a renewal, a freeing or an
-/// opening by a tenure that isn't the row's is refused: with the row's tenure for its own actor, as not theirs for any
-/// other; and it adds no line.
+/// Only the actor of the tenure that holds a row renews, frees or marks the row, or opens that tenure. If a tenure
+/// doesn't hold its row, its marks, renewals, freeings and openings are refused, and add no line. The refusal names
+/// the tenure that holds the row if the turn is by the refused tenure's actor. If the turn is by another actor, the
+/// refusal is `NotYours`.
 pub fn fence()
     ensures fenced { (h : List Turn) → IsHistory h → AreFenced (journal h) }
     ensures stale { (h : List Turn) (turn : Turn) (t : ℕ) → acting turn.what ≡ Some t
@@ -85,8 +91,8 @@ pub fn fence()
         → (T.by ≡ turn.by → ⊥) → answer h turn ≡ Err refusal.NotYours }
 {}
 
-/// The invariant behind these laws: no line meets it, each good line and each later clock keeps it, each
-/// history meets it, and it implies them all. A refused turn adds no line.
+/// The invariant that implies all laws of this crate. The empty journal meets it, each good line and each later clock
+/// preserves it, and each history meets it. A refused turn adds no line.
 pub fn step()
     ensures empty { (c : ℕ) → IsReached [] c }
     ensures line { (log : Journal) (line : Line) → IsLegal log → IsGood log line → IsReached (line ∷ log) line.clock }
@@ -96,29 +102,31 @@ pub fn step()
     ensures safe { (log : Journal) (c : ℕ) → IsReached log c → IsSafe log c }
 {}
 
-/// What a row reads, told by the lines of any journal. A row is there where its last making has no later
-/// removal. Its origin is that of its making. Since then: its counter counts its takings, renewals, freeings and
-/// markings; its checkpoint is the last marking's target, and before one stands right below its floor, or at the trim
-/// horizon; its owner
-/// and its tenure are the last taking's, unless a freeing follows; its switches are the takings from another
-/// owner since the last marking. Its parents are the shard's. Its floor is the shard's first number at the trim
-/// horizon, and else the position of the making's origin (Kinesis Client Library, leases).
+/// How each field of a row follows from the lines of any journal. A key has a row if a row was made for the key and
+/// not removed since. The row's origin is named in the line that made the row. Only lines after that line count for
+/// the next five fields. The row's counter is the number of its takings, renewals, freeings and markings. The row's
+/// checkpoint is the target of the last marking; before the first marking it is the number right below the row's
+/// floor, or the trim horizon. The row's owner and tenure are those of the last taking, unless a freeing follows. The
+/// row's switches count the takings from another owner since the last marking. The row's parents are the shard's
+/// parents. The row's floor is the shard's first number if the origin is the trim horizon, and otherwise the position
+/// of the origin (Kinesis Client Library, leases).
 pub fn rows()
     ensures removed { (log : Journal) (key : ShardRef) → making (last_bound log key) ≡ None → row log key ≡ None }
     ensures made { (log : Journal) (key : ShardRef) (m : Making) → making (last_bound log key) ≡ Some m → IsToldRow log key m }
 {}
 
-/// What a tenure is, told by the lines of any journal. The n-th taking is tenure n: its actor and its key are those of
-/// that line, and it begins at the checkpoint that the row had before. Since then: it is opened where an opening
-/// follows, its reads are those that follow, in their order, and as many of the first of them are given as givings follow.
+/// How each field of a tenure follows from the lines of any journal. The n-th taking begins tenure n. The line of that
+/// taking names the tenure's actor and key, and the tenure begins at the checkpoint that the row had before. The
+/// tenure is opened if a later line opens it. The tenure's reads are those of the later lines, in the same order. If
+/// `k` givings of the tenure follow, the first `k` of its reads are given.
 pub fn tenures()
     ensures never { (log : Journal) (t : ℕ) → taking log t ≡ None → tenure log t ≡ None }
     ensures begun { (log : Journal) (t : ℕ) (begun : Told) → taking log t ≡ Some begun → IsToldTenure log t begun }
 {}
 
-/// The shards of a stream are numbered from 0 in their order. The numbers of a shard's records rise from its starting
-/// number on, below the stream's next one, which is never above the greatest u64; and a record has the bytes of its
-/// payload and its key, which one batch can hold.
+/// A stream's shards are numbered 0, 1, 2 and so on, in the order of the stream's list. The sequence numbers of a
+/// shard's records increase, from the shard's starting number on, and stay below the stream's next number, which is at
+/// most the greatest `u64`. The payload and the key of a record together fit into one batch.
 pub fn shard_records()
     ensures shards { (log : Journal) (s : ℕ) → AreNumbered 0 (shards log s) }
     ensures numbers { (log : Journal) → IsLegal log → (s sh : ℕ) → AreDrawn log s sh }
@@ -126,8 +134,8 @@ pub fn shard_records()
     ensures sizes { (h : List Turn) → IsHistory h → (s sh : ℕ) → AllByRecursion IsSized (records (journal h) s sh) }
 {}
 
-/// A row from the trim horizon has its shard's starting number as its floor, and where its checkpoint is a number,
-/// a record of its shard has that number or a greater one.
+/// If a row begins at the trim horizon, its floor is its shard's starting number. If the checkpoint of such a row is a
+/// number, the row's shard has a record with that number or a greater one.
 pub fn checkpoints()
     ensures floor { (h : List Turn) → IsHistory h → (key : ShardRef) (r : Row) → IsFromHorizon (journal h) key r
         → r.floor ≡ start_of (shard_at (journal h) key.stream key.shard) }
@@ -135,8 +143,9 @@ pub fn checkpoints()
         → r.checkpoint ≡ At q → HasFrom q (records (journal h) key.stream key.shard) }
 {}
 
-/// What the text of a journal doesn't show, the bytes of keys and of payloads, decides nothing: where a journal is legal
-/// and ends by a clock, so is the one that its text shows.
+/// The text of a journal doesn't show the bytes of keys and payloads, and whether a journal is legal doesn't depend on
+/// them: if a journal is legal and ends by a clock, the journal that its text shows is legal and ends by that clock
+/// too.
 pub fn shown()
     ensures { (log : Journal) (c : ℕ) → IsReached log c → IsReached (shown_journal log) c }
 {}

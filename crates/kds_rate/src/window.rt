@@ -1,3 +1,4 @@
+//! The throughput of one shard within a second.
 ghost use Rattle.std.specs.Prelude.{◌≡◌, ◌≤◌, ◌∷◌, [], not, List, length};
 ghost use Rattle.kds_defs.specs.Rates.{SizedPut, bytes_of, is_same_second, is_throttled, is_too_much, window};
 ghost use Rattle.kds_rate.specs.Windows.{StandsFor, stopped};
@@ -6,8 +7,8 @@ use kds_base::Moment;
 use kds_defs::limits::{SECOND, SECOND_BYTES, SECOND_RECORDS};
 use std::marker::Model;
 
-/// What a shard has taken within the second of its latest put. Contracts see the sums, which stop at the
-/// greatest number of a `u64`, and the lists of puts that it stands for.
+/// The records and bytes that a shard accepted within the second of its latest put. Contracts see the two sums, which
+/// saturate at `u64::MAX`, and relate a window to the lists of puts that lead to it.
 #[derive(Clone, Copy)]
 pub struct Window {
     latest: Moment,
@@ -26,7 +27,7 @@ impl Model for Window {
 }
 
 impl Window {
-    /// The window of no puts.
+    /// A window without puts.
     pub fn new() -> Window
         ensures puts { StandsFor result [] }
         ensures latest { result.latest ≡ 0 }
@@ -38,8 +39,8 @@ impl Window {
         }
     }
 
-    /// Whether the shard takes a record of so many payload and key bytes now (Kinesis API Reference,
-    /// ProvisionedThroughputExceededException). A second in which it took none takes any one record.
+    /// Whether the shard accepts at `clock` a record whose payload and key together have `bytes` bytes (Kinesis API
+    /// Reference, ProvisionedThroughputExceededException). The first record of a second is always accepted.
     pub fn admits(&self, clock: Moment, bytes: u64) -> bool
         requires { self.now.latest ≤ clock }
         ensures { (puts : List SizedPut) → StandsFor self.now puts → result ≡ not (is_throttled puts clock bytes) }
@@ -48,7 +49,7 @@ impl Window {
         !is_too_much(&taken, bytes)
     }
 
-    /// Counts a put of so many payload and key bytes.
+    /// Counts a put whose payload and key together have `bytes` bytes.
     pub fn count(&mut self, clock: Moment, bytes: u64)
         requires { self.old.latest ≤ clock }
         ensures puts { (puts : List SizedPut) → StandsFor self.old puts → StandsFor self.new (record { clock = clock; bytes = bytes } ∷ puts) }
@@ -60,7 +61,7 @@ impl Window {
         self.bytes = taken.bytes.saturating_add(bytes);
     }
 
-    /// What the shard has taken within the second of the clock.
+    /// The number of records and bytes that the shard accepted within the second that contains `clock`.
     fn taken(&self, clock: Moment) -> Taken
         requires { self.now.latest ≤ clock }
         ensures records { (puts : List SizedPut) → StandsFor self.now puts → result.records ≡ stopped (length (window clock puts)) }
@@ -80,21 +81,21 @@ impl Window {
     }
 }
 
-/// Records and their bytes.
+/// A number of records, and the bytes that they have together.
 #[derive(Clone, Copy)]
 struct Taken {
     records: u64,
     bytes: u64,
 }
 
-/// Whether both moments lie in one second.
+/// Whether both moments lie in the same second.
 fn is_same_second(one: Moment, other: Moment) -> bool
     ensures { result ≡ is_same_second one other }
 {
     one.ms() / SECOND == other.ms() / SECOND
 }
 
-/// Whether so many bytes more are too much for a second in which that was taken.
+/// Whether a record of `bytes` bytes exceeds the limits of a second in which the shard already accepted `taken`.
 fn is_too_much(taken: &Taken, bytes: u64) -> bool
     ensures { result ≡ is_too_much taken.now.records taken.now.bytes bytes }
 {
