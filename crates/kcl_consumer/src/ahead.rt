@@ -14,8 +14,8 @@ use kds_defs::limits::PENDING_READS;
 use std::alloc::Global;
 use std::marker::Model;
 
-/// A ring of batches that were read and not yet given, at most eight, as many as a tenure may have (Kinesis Client
-/// Library, PrefetchRecordsPublisher).
+/// A ring of the batches that were read and not yet given. It holds at most eight batches, the most pending reads that
+/// a tenure may have (Kinesis Client Library, PrefetchRecordsPublisher).
 #[derive(Drop)]
 pub struct Ahead {
     ring: HeapCircularBuffer<Fetched>,
@@ -34,7 +34,7 @@ impl Model for Ahead {
 }
 
 impl Ahead {
-    /// An empty ring, with its memory. The error is want of memory.
+    /// Returns an empty ring, with memory reserved for all of its batches. The error means out of memory.
     pub fn new(alloc: Global) -> Result<Ahead, Memory>
         ensures { IfOk result (λ a. a ≡ []) }
     {
@@ -43,7 +43,7 @@ impl Ahead {
         })
     }
 
-    /// The first batch, or nothing.
+    /// Returns the records of the first batch, or an empty slice if there is no batch.
     pub(crate) fn first_batch(&self) -> &[Stored]
         ensures { result.now ≡ first_batch self.now }
     {
@@ -53,7 +53,8 @@ impl Ahead {
         }
     }
 
-    /// The first batch is there, and not empty.
+    /// Whether there is a first batch and it has records. The processor is handed such a batch before the batch is
+    /// given.
     pub(crate) fn is_handed(&self) -> bool
         ensures { result ≡ was_handed self.now }
     {
@@ -63,7 +64,8 @@ impl Ahead {
         }
     }
 
-    /// Handing out begins once this batch is among those that wait.
+    /// Whether the consumer stops reading and hands out batches once the batch `f` is added: the ring is full then, or
+    /// the read of `f` reached the shard's end, or `f` has fewer than `limit` records.
     pub(crate) fn is_filled(&self, f: &Fetched, limit: u32) -> bool
         ensures { result ≡ is_filled limit (length self.now + 1) f.now }
     {
@@ -72,7 +74,7 @@ impl Ahead {
             || f.batch.as_slice().len() < limit as usize
     }
 
-    /// A batch goes last into the ring.
+    /// Adds a batch at the end of the ring.
     pub(crate) fn add(&mut self, f: Fetched)
         requires { length self.old < PENDING_READS }
         ensures { self.new ≡ self.old ++ f ∷ [] }
@@ -83,8 +85,9 @@ impl Ahead {
         }
     }
 
-    /// The first batch leaves the ring: whether it ended the shard.
-    pub(crate) fn give(&mut self) -> Option<bool>
+    /// Removes the first batch from the ring. Returns whether the read of that batch reached the shard's end, or
+    /// `None` if the ring is empty.
+    pub(crate) fn pop_first(&mut self) -> Option<bool>
         ensures { IsTaken self.old self.new result }
     {
         match self.ring.pop_front() {
@@ -93,8 +96,9 @@ impl Ahead {
         }
     }
 
-    /// The first batch is handed to the processor, unless it is empty; where there is none, reading goes on.
-    pub(crate) fn front(&self) -> ConsumerStage
+    /// Returns the consumer's next stage. If the first batch has records, the consumer hands it to the processor. If
+    /// the first batch is empty, the consumer gives it at once. If there is no batch, the consumer reads on.
+    pub(crate) fn front_stage(&self) -> ConsumerStage
         ensures phase { (reach : ℕ) → phase_of result reach self.now None false ≡ front reach self.now }
         ensures going { (reach : ℕ) → over_at (front reach self.now) ≡ None }
         ensures kept { IsKept result self.now }

@@ -1,3 +1,4 @@
+//! The consumer of a lease, and its stage after each answer.
 ghost use Rattle.std.specs.Prelude.{◌≡◌, ◌<◌, ℕ, false, length, List, [], ◌∷◌, IsSome, IfOk, OnOk, OnErr, Some, None, Option, Bool};
 ghost use Rattle.kcl_defs.specs.declared.consumer.Ask.{Ask};
 ghost use Rattle.kcl_defs.specs.Consumers.{Past, Answered, Called, Losing, calls_after, Giving, Opening, due_call, over_at, next_command, phase_after, after_answer, after_end, after_open, progress_of, after_loss, first_place, last_number_in, target_of, given, given_after, after_give, after_mark, after_read, told_over, told_refusal};
@@ -14,7 +15,7 @@ ghost use Rattle.kcl_consumer.specs.Standing.{HasCalled, IsAsBefore, StandsFor};
 ghost use Rattle.kcl_consumer.specs.Fetchings.{IsFetching};
 
 use crate::ahead::Ahead;
-use crate::places::{first_place, last_in};
+use crate::positions::{first_place, last_in};
 use crate::processor::Processor;
 use crate::stage::ConsumerStage;
 use kcl_defs::{Ask, Due, Fetched, Progress, Tenancy, Why};
@@ -22,7 +23,7 @@ use kds_base::{Checkpoint, Memory, Seq, ShardRef, TenureNo};
 use kds_defs::{Answer, Command, Refusal, Reply, Stored, Target, let_go};
 use std::marker::Model;
 
-/// The mark that a processor asks for after a batch.
+/// Returns the target of the checkpoint that the processor asks for with `asked` after `batch`.
 fn target_after(asked: Ask, batch: &[Stored]) -> Option<Target>
     ensures { result ≡ target_of asked batch.now }
 {
@@ -37,7 +38,8 @@ fn target_after(asked: Ask, batch: &[Stored]) -> Option<Target>
     }
 }
 
-/// What a Read was answered.
+/// The consequence of the answer to a Read: the consumer keeps a batch and the new reach, or reads again, or leaves
+/// the lease.
 #[derive(Drop)]
 enum Fetching {
     Read(Fetched, u64),
@@ -45,7 +47,7 @@ enum Fetching {
     Left(Why),
 }
 
-/// What a Read was answered.
+/// Sorts the answer to a Read into one of the cases of `Fetching`.
 fn fetched_of(answer: Answer) -> Fetching
     ensures { IsFetching answer result }
 {
@@ -62,7 +64,8 @@ fn fetched_of(answer: Answer) -> Fetching
     }
 }
 
-/// Where a consumer stands once the first batch is given, which ended the shard or not.
+/// Returns the stage after the first batch was given. `ended` says whether the read of that batch reached the shard's
+/// end, and `lost` whether the lease is known to be lost.
 fn stage_after_give(ahead: &Ahead, ended: bool, asked: Option<Target>, lost: bool) -> ConsumerStage
     ensures phase { (reach : ℕ) (f : Fetched) → f.ended ≡ ended → phase_of result reach ahead.now None false ≡ given reach (f ∷ ahead.now) asked lost }
     ensures going { (reach : ℕ) (f : Fetched) → f.ended ≡ ended → over_at (given reach (f ∷ ahead.now) asked lost) ≡ None }
@@ -75,12 +78,12 @@ fn stage_after_give(ahead: &Ahead, ended: bool, asked: Option<Target>, lost: boo
     } else {
         match asked {
             Some(to) => ConsumerStage::Marking(to),
-            None => ahead.front(),
+            None => ahead.front_stage(),
         }
     }
 }
 
-/// Where a consumer stands after the answer to a Give, which takes the first batch out of the ring.
+/// Returns the stage after the answer to a Give. If the answer is a reply, the first batch is removed from the ring.
 fn after_giving(
     ahead: &mut Ahead,
     asked: Option<Target>,
@@ -92,7 +95,7 @@ fn after_giving(
     ensures kept { IsKept result ahead.new }
 {
     match answer {
-        Ok(_) => match ahead.give() {
+        Ok(_) => match ahead.pop_first() {
             Some(ended) => stage_after_give(ahead, ended, asked, lost),
             None => ConsumerStage::Leaving(Why::Lost),
         },
@@ -100,7 +103,8 @@ fn after_giving(
     }
 }
 
-/// The last number that was given, after the answer to a Give of the first batch.
+/// Returns the last sequence number that was given, after the answer to a Give of the first batch. `given` is the last
+/// number that was given before.
 fn last_after(ahead: &Ahead, given: Option<Seq>, answer: &Answer) -> Option<Seq>
     ensures { (reach : ℕ) (asked : Option Target) (lost : Bool) → result ≡ given_after answer.now (Giving reach ahead.now asked lost) given }
 {
@@ -113,21 +117,21 @@ fn last_after(ahead: &Ahead, given: Option<Seq>, answer: &Answer) -> Option<Seq>
     }
 }
 
-/// Where a consumer stands after a mark that its processor asked for, and what is told of it.
+/// Returns the stage and the progress after the answer to a Mark that the processor asked for.
 fn after_marking(ahead: &Ahead, answer: &Answer) -> (ConsumerStage, Progress)
     ensures phase { (reach : ℕ) → phase_of result.0 reach ahead.now None false ≡ after_mark reach ahead.now answer.now }
     ensures kept { IsKept result.0 ahead.now }
     ensures told { result.1 ≡ told_refusal answer.now }
 {
     match answer {
-        Ok(_) => (ahead.front(), Progress::Going),
+        Ok(_) => (ahead.front_stage(), Progress::Going),
         Err(Refusal::Lost(_)) => (ConsumerStage::Leaving(Why::Lost), Progress::Going),
         Err(Refusal::Moved(_)) => (ConsumerStage::Leaving(Why::Lost), Progress::Going),
-        Err(r) => (ahead.front(), Progress::Refused(*r)),
+        Err(r) => (ahead.front_stage(), Progress::Refused(*r)),
     }
 }
 
-/// Where a consumer stands after the answer to the opening of its shard, and what is told of it.
+/// Returns the stage and the progress after the answer to the Open of the tenure.
 fn after_opening(answer: Answer) -> (ConsumerStage, Progress)
     ensures phase { (reach : ℕ) (waiting : List Fetched) (asked : Option Target) (lost : Bool)
         → phase_of result.0 reach waiting asked lost ≡ after_open answer }
@@ -146,7 +150,7 @@ fn after_opening(answer: Answer) -> (ConsumerStage, Progress)
     after
 }
 
-/// Where a consumer stands after the mark at its shard's end, and what is told of it.
+/// Returns the stage and the progress after the answer to the Mark at the shard's end.
 fn after_ending(answer: Answer) -> (ConsumerStage, Progress)
     ensures phase { (reach : ℕ) (waiting : List Fetched) (asked : Option Target) (lost : Bool)
         → phase_of result.0 reach waiting asked lost ≡ after_end answer }
@@ -161,7 +165,8 @@ fn after_ending(answer: Answer) -> (ConsumerStage, Progress)
     after
 }
 
-/// What is told of a consumer that waits for no answer at this stage: this one isn't needed.
+/// Returns the consumer's progress if it gets an answer at a stage at which it waits for no answer. The answer is
+/// dropped.
 fn told_over(stage: ConsumerStage, answer: Answer) -> Progress
     ensures { (reach : ℕ) (waiting : List Fetched) (asked : Option Target) (lost : Bool)
         → result ≡ told_over (over_at (phase_of stage reach waiting asked lost)) }
@@ -173,7 +178,8 @@ fn told_over(stage: ConsumerStage, answer: Answer) -> Progress
     }
 }
 
-/// What was asked, and that the lease is known to be lost, are of no more use.
+/// Clears the checkpoint that the processor asked for and the note that the lease is lost. The next stage needs
+/// neither.
 fn forget(asked: &mut Option<Target>, lost: &mut bool)
     ensures asked { asked.new ≡ None }
     ensures lost { lost.new ≡ false }
@@ -182,7 +188,8 @@ fn forget(asked: &mut Option<Target>, lost: &mut bool)
     *lost = false;
 }
 
-/// Where a consumer stands after the answer to a Read, and its reach.
+/// Returns the stage and the reach after the answer to a Read. `reach` is the reach before the Read. A batch in the
+/// answer is added to the ring.
 fn after_reading(ahead: &mut Ahead, limit: u32, reach: u64, answer: Answer) -> (ConsumerStage, u64)
     requires { length ahead.old < PENDING_READS }
     ensures phase { phase_of result.0 result.1 ahead.new None false ≡ after_read limit reach ahead.old answer }
@@ -194,7 +201,7 @@ fn after_reading(ahead: &mut Ahead, limit: u32, reach: u64, answer: Answer) -> (
             let filled = ahead.is_filled(&f, limit);
             ahead.add(f);
             if filled {
-                (ahead.front(), place)
+                (ahead.front_stage(), place)
             } else {
                 (ConsumerStage::Filling, place)
             }
@@ -204,9 +211,9 @@ fn after_reading(ahead: &mut Ahead, limit: u32, reach: u64, answer: Answer) -> (
     }
 }
 
-/// The consumer of one lease, through one tenure of it (Kinesis Client Library, ShardConsumer and its ConsumerStates): it
-/// opens the shard, reads ahead, hands each batch that isn't empty to the processor, gives it, and marks what the
-/// processor asks for.
+/// The consumer of one lease during one tenure (Kinesis Client Library, ShardConsumer and its ConsumerStates). The
+/// consumer opens its shard, reads ahead, hands each batch that isn't empty to its processor, gives the batch, and
+/// sets the checkpoints that the processor asks for.
 #[derive(Drop)]
 pub struct Consumer<P> {
     made: Tenancy,
@@ -233,8 +240,8 @@ impl<P> Model for Consumer<P> {
 }
 
 impl<P: Processor> Consumer<P> {
-    /// A consumer that has to open its shard, for a tenure that begins at this checkpoint of the lease. It reads at most
-    /// `limit` records at once, 1 to 10,000.
+    /// Returns a consumer whose first command opens its shard. The consumer's tenure begins at the checkpoint `start`
+    /// of the lease. Each Read asks for at most `limit` records, 1 to 10,000.
     pub fn new(
         key: ShardRef,
         tenure: TenureNo,
@@ -268,21 +275,21 @@ impl<P: Processor> Consumer<P> {
         }
     }
 
-    /// The key of its lease.
+    /// Returns the key of the consumer's lease.
     pub fn key(&self) -> ShardRef
         ensures { result ≡ self.now.made.key }
     {
         self.made.key
     }
 
-    /// The tenure of its lease.
+    /// Returns the tenure of the consumer's lease.
     pub fn tenure(&self) -> TenureNo
         ensures { result ≡ self.now.made.tenure }
     {
         self.made.tenure
     }
 
-    /// The processor call that must come next.
+    /// Returns the processor call that must come next, if a call is due.
     pub fn due(&self) -> Option<Due>
         ensures { result ≡ due_call self.now.phase }
     {
@@ -295,7 +302,7 @@ impl<P: Processor> Consumer<P> {
         }
     }
 
-    /// Why it is over.
+    /// Returns why the consumer is over, or `None` if it isn't over.
     pub fn over(&self) -> Option<Why>
         ensures { result ≡ over_at self.now.phase }
     {
@@ -305,14 +312,14 @@ impl<P: Processor> Consumer<P> {
         }
     }
 
-    /// The last number in the given reads of its tenure, where they hold a record.
+    /// Returns the sequence number of the last record that was given in the consumer's tenure, if any record was.
     pub fn last_given(&self) -> Option<Seq>
         ensures { result ≡ self.now.given }
     {
         self.given
     }
 
-    /// Whether a batch of it is to be given.
+    /// Whether the consumer's next command gives a batch.
     pub fn is_giving(&self) -> bool
         ensures { result ≡ is_giving_phase self.now.phase }
     {
@@ -322,7 +329,7 @@ impl<P: Processor> Consumer<P> {
         }
     }
 
-    /// Whether its next command opens its shard or sets its checkpoint.
+    /// Whether the consumer's next command opens its shard or sets its checkpoint.
     pub fn is_writing(&self) -> bool
         ensures { result ≡ is_marking_or_opening self.now.phase }
     {
@@ -334,7 +341,8 @@ impl<P: Processor> Consumer<P> {
         }
     }
 
-    /// The command that comes next, at the counter of the lease. Condition: no processor call is due, and it isn't over. No memory.
+    /// Returns the command that comes next. `counter` is the current counter of the lease. Precondition: no processor
+    /// call is due, and the consumer isn't over. Needs no memory.
     pub fn next(&self, counter: u64) -> Command
         requires none_due { due_call self.now.phase ≡ None }
         requires not_over { over_at self.now.phase ≡ None }
@@ -364,7 +372,8 @@ impl<P: Processor> Consumer<P> {
         }
     }
 
-    /// Makes the processor call that is due. The error is the processor's want of memory, and then the same call is due.
+    /// Makes the processor call that is due. The error means that the processor ran out of memory; then the same call
+    /// is still due.
     #[tactic(auto, using(crate::proofs::StandLemmas::called, crate::proofs::StandLemmas::kept))]
     pub fn call(&mut self) -> Result<(), Memory>
         requires { IsSome (due_call self.old.phase) }
@@ -400,7 +409,7 @@ impl<P: Processor> Consumer<P> {
         Ok(())
     }
 
-    /// Takes the answer to the command that `next` gave. No memory.
+    /// Absorbs the answer to the command that `next` returned. Needs no memory.
     #[tactic(auto, using(crate::proofs::StandLemmas::answered))]
     pub fn absorb(&mut self, answer: Answer) -> Progress
         ensures made { self.new.made ≡ self.old.made }
@@ -447,7 +456,8 @@ impl<P: Processor> Consumer<P> {
         }
     }
 
-    /// The lease is known to be lost. A batch that was handed is still given.
+    /// Reports to the consumer that its lease is lost. If the processor was already handed a batch that is about to be
+    /// given, the consumer still gives it.
     pub fn lose(&mut self)
         ensures made { self.new.made ≡ self.old.made }
         ensures phase { self.new.phase ≡ after_loss self.old.phase }
@@ -470,7 +480,7 @@ impl<P: Processor> Consumer<P> {
         }
     }
 
-    /// The processor, for whoever wants it back.
+    /// Returns the processor, and drops the rest of the consumer.
     pub fn into_processor(self) -> P
         ensures { result ≡ self.processor }
     {
@@ -478,8 +488,9 @@ impl<P: Processor> Consumer<P> {
     }
 }
 
-/// The calls of a processor are the reads that its consumer gave, in order, whatever its consumer was answered; and among
-/// commands of which the consumer absorbed those on its tenure, they are the given reads of that tenure.
+/// A processor is called with the non-empty reads that its consumer gives, in the same order, whatever answers the
+/// consumer gets; the last of these batches may not be given yet. If the consumer absorbed exactly the answers to
+/// those commands of a history that act on its tenure, these reads are the given reads of that tenure.
 pub fn life()
     ensures own { (made : Tenancy) (past : Past) → IsLife made (reads_after made past) (gives_after made past) (calls_after made past) }
     ensures among { (deals : List Deal) (made : Tenancy) (past : Past) → IsInStep deals made past → IsLifeAmong deals made (calls_after made past) }

@@ -1,7 +1,8 @@
-//! A law of a consumer's reads.
+//! A law on the reads of a consumer.
 ghost use Rattle.kcl_consumer.specs.Standing.{IsNeverFull};
 
-/// A consumer reads only while fewer batches wait than may, so its Read is never answered `TooManyPending`.
+/// A consumer reads only while its tenure has fewer pending reads than allowed, so no Read is refused with
+/// `TooManyPending`.
 pub fn never_full()
     ensures { IsNeverFull }
 {}

@@ -1,11 +1,11 @@
-//! A consumer of one lease, which reads batches, hands them to a processor, and sets checkpoints (Kinesis Client Library,
-//! ShardConsumer).
+//! The consumer of a lease, which reads batches, hands them to a processor, and sets checkpoints (Kinesis Client
+//! Library, ShardConsumer).
 #![tactic(auto)]
 
 mod ahead;
 pub mod consumer;
 mod laws;
-mod places;
+mod positions;
 pub mod processor;
 mod stage;
 
@@ -13,5 +13,5 @@ pub use ahead::Ahead;
 pub use consumer::{Consumer, life};
 pub use kcl_defs::{Ask, Call, Due, Progress, Why};
 pub use laws::never_full;
-pub use places::{first_place, last_in};
+pub use positions::{first_place, last_in};
 pub use processor::{Maker, Processor};

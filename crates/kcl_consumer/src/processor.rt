@@ -1,3 +1,4 @@
+//! Processors of records, and their makers.
 ghost use Rattle.std.specs.Prelude.{◌≡◌, List, [], ◌∷◌, IfOk, OnOk, OnErr, ◌<◌, length};
 ghost use Rattle.kcl_defs.specs.declared.consumer.Ask.{Ask};
 ghost use Rattle.kcl_defs.specs.declared.consumer.Call.{Call};
@@ -9,23 +10,25 @@ use kds_base::{Checkpoint, Memory, ShardRef};
 use kds_defs::Stored;
 use std::alloc::Global;
 
-/// What handles the records of a shard (Kinesis Client Library, ShardRecordProcessor). Each call that returns is added to
-/// the calls that the processor stands for. The error of each is want of memory: then the processor stands for what it
-/// stood for, and the same call is made again.
+/// Handles the records of a shard (Kinesis Client Library, ShardRecordProcessor). Contracts see the list of calls that
+/// the processor stands for; each call that returns without an error is added to this list. An error means that the
+/// call ran out of memory: then the list is unchanged, and the same call is made again.
 pub trait Processor {
-    /// The processor stands for these calls, the newest first: they were made and returned.
+    /// Whether these are the calls that the processor stands for: the calls that were made and returned, the newest
+    /// first.
     ghost stands_for: { Self → List Call → Type 0 };
 
-    /// What it may ask for after a batch.
+    /// Whether the processor may ask for this checkpoint after this batch.
     ghost asks: { Self → List Stored → Ask → Type 0 };
 
-    /// The tenure begins, at this checkpoint of the lease.
+    /// Reports that the tenure begins. `start` is the lease's checkpoint at this moment.
     fn initialize(&mut self, key: ShardRef, start: Checkpoint) -> Result<(), Memory>
         ensures called { (calls : List Call) → stands_for self.old calls → OnOk result (stands_for self.new (call.Initialize key start ∷ calls)) }
         ensures kept { (calls : List Call) → stands_for self.old calls → OnErr result (stands_for self.new calls) }
         ensures steady { (batch : List Stored) (a : Ask) → asks self.new batch a → asks self.old batch a };
 
-    /// The next batch, which isn't empty: what checkpoint is asked for after it (Kinesis Client Library, ProcessTask).
+    /// Handles the next batch, which isn't empty, and returns the checkpoint to ask for (Kinesis Client Library,
+    /// ProcessTask).
     fn process_records(&mut self, batch: &[Stored]) -> Result<Ask, Memory>
         requires { 0 < length batch.now }
         ensures called { (calls : List Call) → stands_for self.old calls → OnOk result (stands_for self.new (call.Process batch.now ∷ calls)) }
@@ -33,25 +36,26 @@ pub trait Processor {
         ensures asked { IfOk result (λ a. asks self.old batch.now a) }
         ensures steady { (batch : List Stored) (a : Ask) → asks self.new batch a → asks self.old batch a };
 
-    /// The lease is lost: no more checkpoint can be set.
+    /// Reports that the lease is lost: the processor can no longer set a checkpoint.
     fn lease_lost(&mut self) -> Result<(), Memory>
         ensures called { (calls : List Call) → stands_for self.old calls → OnOk result (stands_for self.new (call.LeaseLost ∷ calls)) }
         ensures kept { (calls : List Call) → stands_for self.old calls → OnErr result (stands_for self.new calls) }
         ensures steady { (batch : List Stored) (a : Ask) → asks self.new batch a → asks self.old batch a };
 
-    /// All records of the closed shard were handed. Its end is marked after this.
+    /// Reports that the processor was handed all records of the shard, which is closed. After this call, the lease's
+    /// checkpoint is set to the shard's end.
     fn shard_ended(&mut self) -> Result<(), Memory>
         ensures called { (calls : List Call) → stands_for self.old calls → OnOk result (stands_for self.new (call.ShardEnded ∷ calls)) }
         ensures kept { (calls : List Call) → stands_for self.old calls → OnErr result (stands_for self.new calls) }
         ensures steady { (batch : List Stored) (a : Ask) → asks self.new batch a → asks self.old batch a };
 }
 
-/// What makes a processor for a shard (Kinesis Client Library, ShardRecordProcessorFactory).
+/// Makes the processor of a shard (Kinesis Client Library, ShardRecordProcessorFactory).
 pub trait Maker<P: Processor> {
-    /// What its processors may ask for after a batch.
+    /// Whether a processor of this maker may ask for this checkpoint after this batch.
     ghost asks: { Self → List Stored → Ask → Type 0 };
 
-    /// A processor that wasn't called yet. After want of memory the maker is as before.
+    /// Makes a processor that hasn't been called yet. If memory runs out, the maker is unchanged.
     fn make(&mut self, alloc: Global, key: ShardRef) -> Result<P, Memory>
         ensures uncalled { IfOk result (λ p. P.stands_for p []) }
         ensures kept { OnErr result (self.new ≡ self.old) }

@@ -1,7 +1,8 @@
+//! The stages of a consumer.
 use kcl_defs::Why;
 use kds_defs::Target;
 
-/// Where a consumer stands.
+/// The stage of a consumer: its next action, or the reason why it is over.
 #[derive(Clone, Copy, Debug, PartialEq, Eq)]
 pub enum ConsumerStage {
     Opening,

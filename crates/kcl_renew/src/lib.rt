@@ -1,4 +1,4 @@
-//! When a lease is to be renewed.
+//! The rule for when a worker renews a lease.
 #![tactic(auto)]
 
 ghost use Rattle.std.specs.Prelude.{◌≡◌};
@@ -7,8 +7,9 @@ ghost use Rattle.kcl_defs.specs.Plans.{is_due};
 pub use kcl_defs::Held;
 use kds_base::Moment;
 
-/// Whether a lease is to be renewed (Kinesis Client Library, LeaseRenewer): at this moment a third of the failover
-/// time, in milliseconds and rounded down, has passed since the lease was last written. Before that write it isn't.
+/// Whether the lease is due for renewal at the moment `now` (Kinesis Client Library, LeaseRenewer): a third of
+/// `failover` milliseconds, rounded down, has passed since the lease was last written. If `now` is before that write,
+/// the lease isn't due.
 pub fn due(held: &Held, now: Moment, failover: u64) -> bool
     ensures { result ≡ is_due held.now now failover }
 {

@@ -9,21 +9,21 @@ use kds_base::{Items, Memory, ShardRef};
 use kds_defs::{Origin, Row};
 use std::alloc::Global;
 
-/// The key has a row.
+/// Whether a row in `rows` has the key `key`.
 fn is_kept(rows: &[Row], key: ShardRef) -> bool
     ensures { result ≡ has_row rows.now key }
 {
-    rows.iter().any(|r| r.key.is(&key))
+    rows.iter().any(|r| r.key == key)
 }
 
-/// The key is a listed shard's.
+/// Whether `key` is among the listed shards.
 fn is_listed(shards: &[ShardRef], key: ShardRef) -> bool
     ensures { result ≡ has_key shards.now key }
 {
-    shards.iter().any(|k| k.is(&key))
+    shards.iter().any(|k| *k == key)
 }
 
-/// The steps so far, and where the rows that are made let reading begin.
+/// The steps of the plan so far, and the origin at which the new rows begin.
 #[derive(Drop)]
 struct Steps {
     all: Items<SyncStep>,
@@ -31,51 +31,52 @@ struct Steps {
 }
 
 impl Steps {
-    /// A row is made for this shard.
-    fn make(&mut self, key: ShardRef) -> Result<(), Memory>
+    /// Adds a step that makes a row for the shard `key`.
+    fn add_make(&mut self, key: ShardRef) -> Result<(), Memory>
         ensures steps { OnOk result (self.new.all ≡ self.old.all ++ SyncStep.Make key self.old.from ∷ []) }
         ensures from { self.new.from ≡ self.old.from }
     {
         self.all.push(SyncStep::Make(key, self.from))
     }
 
-    /// This row is cut.
-    fn cut(&mut self, r: &Row) -> Result<(), Memory>
+    /// Adds a step that cuts the row `r` at its counter.
+    fn add_cut(&mut self, r: &Row) -> Result<(), Memory>
         ensures { OnOk result (self.new.all ≡ self.old.all ++ SyncStep.Cut r.now.key r.now.counter ∷ []) }
     {
         self.all.push(SyncStep::Cut(r.key, r.counter))
     }
 }
 
-/// A row is made for each shard that has none.
+/// Adds, for each of `shards` that has no row, a step that makes a row.
 fn add_makes(steps: &mut Steps, shards: &[ShardRef], rows: &[Row]) -> Result<(), Memory>
     ensures { OnOk result (steps.new.all ≡ steps.old.all ++ makes steps.old.from rows.now shards.now) }
 {
     for key in shards {
         if !is_kept(rows, *key) {
-            steps.make(*key)?;
+            steps.add_make(*key)?;
         }
     }
     Ok(())
 }
 
-/// A row is cut whose shard is not listed.
+/// Adds, for each of `rows` whose shard isn't among `shards`, a step that cuts the row.
 fn add_cuts(steps: &mut Steps, shards: &[ShardRef], rows: &[Row]) -> Result<(), Memory>
     ensures { OnOk result (steps.new.all ≡ steps.old.all ++ cuts shards.now rows.now) }
 {
     for r in rows {
         if !is_listed(shards, r.key) {
-            steps.cut(r)?;
+            steps.add_cut(r)?;
         }
     }
     Ok(())
 }
 
-/// What has to be written, for the listed shards and the rows as they were seen (Kinesis Client Library,
-/// ShardSyncer): first a row is made for each listed shard that has none, to let reading begin at `from`, and then
-/// each row is cut, at its counter, whose shard isn't listed; both in the order in which they were seen.
+/// Returns the sync plan for the listed shards and the rows of a survey (Kinesis Client Library, ShardSyncer). First
+/// comes a step for each listed shard without a row, which makes a row whose start is `from`. Then comes a step for
+/// each row whose shard isn't listed, which cuts this row at its counter. Both kinds of steps keep the order of the
+/// survey.
 ///
-/// The error is want of memory, from an allocation that was refused.
+/// The error means out of memory: an allocation was refused.
 pub fn plan(
     alloc: Global,
     shards: &[ShardRef],

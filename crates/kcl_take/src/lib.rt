@@ -1,4 +1,4 @@
-//! What a worker observed of the lease rows, and which of them it takes.
+//! A worker's notes on the lease rows that it observed, and the choice of the rows that it takes.
 #![tactic(auto)]
 
 mod observed;

@@ -1,3 +1,4 @@
+//! A worker's notes on the lease rows that it observed.
 ghost use Rattle.std.specs.Prelude.{◌≡◌, ◌++◌, ◌∷◌, [], IfOk, OnOk, OnErr};
 ghost use Rattle.kds_base.specs.declared.lease_key.ShardRef.{ShardRef};
 ghost use Rattle.kcl_defs.specs.Plans.{after_rows, is_expired_since, seen_at};
@@ -9,8 +10,8 @@ use kds_defs::Row;
 use std::alloc::Global;
 use std::marker::Model;
 
-/// What was observed of each row: its counter, and the moment at which this counter was first seen (Kinesis Client
-/// Library, LeaseTaker). A row that isn't seen any more is kept as it was.
+/// Notes on all rows that were observed: for each row, its counter and the moment at which this counter was first seen
+/// (Kinesis Client Library, LeaseTaker). If a row is no longer seen, its note stays unchanged.
 #[derive(Drop)]
 pub struct Observed {
     seen: Vec<Seen>,
@@ -25,7 +26,7 @@ impl Model for Observed {
     ghost view = { λ o. o.seen.items };
 }
 
-/// What is kept of a row that is first seen at this moment.
+/// Returns the note on the row `r` if its counter is first seen at the moment `now`.
 fn first_note(r: &Row, now: Moment) -> Seen
     ensures { result ≡ first_note r.now now }
 {
@@ -36,13 +37,13 @@ fn first_note(r: &Row, now: Moment) -> Seen
     }
 }
 
-/// A row's counter and the moment are noted, unless this counter was noted before.
+/// Puts the note `first` into `seen`, unless `seen` already has a note with the same counter for the same row.
 fn note(seen: &mut Vec<Seen>, first: Seen) -> Result<(), Memory>
     ensures { OnOk result (seen.new.items ≡ noted first seen.old.items) }
 {
     for i in 0..seen.len() {
         let s = seen[i];
-        if s.key.is(&first.key) {
+        if s.key == first.key {
             if s.counter != first.counter {
                 seen[i] = first;
             }
@@ -53,19 +54,19 @@ fn note(seen: &mut Vec<Seen>, first: Seen) -> Result<(), Memory>
     Ok(())
 }
 
-/// What is kept of a key.
+/// Returns the note on the row of `key`, if there is such a note.
 fn find_seen(seen: &[Seen], key: &ShardRef) -> Option<Seen>
     ensures { result ≡ seen_at seen.now key.now }
 {
     for s in seen {
-        if s.key.is(key) {
+        if s.key == *key {
             return Some(*s);
         }
     }
     None
 }
 
-/// The notes of all rows.
+/// Updates the notes by all of `rows`, which are seen at the moment `now`.
 fn note_all(seen: &mut Vec<Seen>, rows: &[Row], now: Moment) -> Result<(), Memory>
     ensures { OnOk result (seen.new.items ≡ noted_all rows.now now seen.old.items) }
 {
@@ -76,7 +77,7 @@ fn note_all(seen: &mut Vec<Seen>, rows: &[Row], now: Moment) -> Result<(), Memor
 }
 
 impl Observed {
-    /// Nothing was observed.
+    /// Returns an `Observed` without notes.
     pub fn new(alloc: Global) -> Observed
         ensures { result ≡ [] }
     {
@@ -85,7 +86,7 @@ impl Observed {
         }
     }
 
-    /// An equal value. The error is want of memory.
+    /// Returns an equal value. The error means out of memory.
     pub fn copy(&self, alloc: Global) -> Result<Observed, Memory>
         ensures { IfOk result (λ o. o ≡ self.now) }
     {
@@ -95,8 +96,8 @@ impl Observed {
         }
     }
 
-    /// Looks at the rows at this moment: of each the counter is kept, and the moment at which it was first seen. The
-    /// error is want of memory, and then all is as before.
+    /// Updates the notes by `rows`, which are seen at the moment `now`: for each row whose counter isn't noted yet,
+    /// notes the counter and `now`. The error means out of memory; then nothing has changed.
     pub fn see(&mut self, alloc: Global, rows: &[Row], now: Moment) -> Result<(), Memory>
         ensures ok { OnOk result ((key : ShardRef) → seen_at self.new key ≡ after_rows rows.now now (seen_at self.old) key) }
         ensures err { OnErr result (self.new ≡ self.old) }
@@ -110,8 +111,8 @@ impl Observed {
         Ok(())
     }
 
-    /// The row has the counter that is kept, which was first seen longer ago than the failover time, in milliseconds. At
-    /// a moment before that it isn't expired.
+    /// Whether the row is expired: its counter is still the noted one, and was first seen more than `failover`
+    /// milliseconds before `now`. A row whose counter was first seen later than `now` isn't expired.
     pub fn expired(&self, row: &Row, now: Moment, failover: u64) -> bool
         ensures { result ≡ is_expired_since (seen_at self.now row.now.key) row.now now failover }
     {

@@ -1,4 +1,4 @@
-//! Which rows a worker takes.
+//! The choice of the rows that a worker takes.
 ghost use Rattle.std.specs.Prelude.{◌≡◌, ◌+◌, ◌/◌, ◌==◌, [], length, map, not, IfOk, OnOk};
 ghost use Rattle.std.specs.List.{cons_option, count_by, filter, list_any};
 ghost use Rattle.kds_defs.specs.Leases.{is_end};
@@ -10,7 +10,7 @@ use kds_base::{Checkpoint, Items, Memory, Moment, WorkerNo};
 use kds_defs::Row;
 use std::alloc::Global;
 
-/// The row, without an owner where it is expired.
+/// Returns the row as the take plan sees it: an expired row has no owner.
 fn candidate(r: &Row, observed: &Observed, now: Moment, failover: u64) -> Row
     ensures { result ≡ candidate (expiry (seen_at observed.now) now failover) r.now }
 {
@@ -21,7 +21,7 @@ fn candidate(r: &Row, observed: &Observed, now: Moment, failover: u64) -> Row
     candidate
 }
 
-/// The row can be taken at all.
+/// Whether the row can be taken: its checkpoint isn't the shard's end.
 fn can_be_taken(r: &Row) -> bool
     ensures { result ≡ not (is_end r.now.checkpoint) }
 {
@@ -31,7 +31,7 @@ fn can_be_taken(r: &Row) -> bool
     }
 }
 
-/// The rows that can be taken, without an owner where they are expired.
+/// Returns the rows that can be taken. An expired row has no owner in this list.
 fn candidates(
     alloc: Global,
     rows: &[Row],
@@ -50,7 +50,7 @@ fn candidates(
     Ok(found)
 }
 
-/// The worker owns the row.
+/// Whether `worker` owns the row.
 fn is_owned_by(worker: WorkerNo, r: &Row) -> bool
     ensures { result ≡ is_owned_by worker r.now.owner }
 {
@@ -60,50 +60,50 @@ fn is_owned_by(worker: WorkerNo, r: &Row) -> bool
     }
 }
 
-/// The row's tenure is that of a lease that the worker has.
+/// Whether the worker holds a lease with the row's key and tenure.
 fn is_mine(held: &[Held], r: &Row) -> bool
     ensures { result ≡ is_mine held.now r.now }
 {
-    held.iter()
-        .any(|h| h.key.is(&r.key) && h.tenure == r.tenure)
+    held.iter().any(|h| h.key == r.key && h.tenure == r.tenure)
 }
 
-/// The worker has a lease of the row's key.
+/// Whether the worker holds a lease of the row's key, in any tenure.
 fn is_key_held(held: &[Held], r: &Row) -> bool
     ensures { result ≡ list_any (is_key_held r.now) held.now }
 {
-    held.iter().any(|h| h.key.is(&r.key))
+    held.iter().any(|h| h.key == r.key)
 }
 
-/// The row is there to be taken without a theft.
+/// Whether the worker `me` can take the row without stealing it: the worker holds no lease of its key, and the row has
+/// no owner or is owned by `me`.
 fn is_available(me: WorkerNo, held: &[Held], r: &Row) -> bool
     ensures { result ≡ is_available me held.now r.now }
 {
     !is_key_held(held, r) && (r.owner.is_none() || is_owned_by(me, r))
 }
 
-/// How many rows a worker owns.
+/// Counts the rows that `worker` owns.
 fn load_of(rows: &[Row], worker: WorkerNo) -> usize
     ensures { result ≡ load_of rows.now worker }
 {
     rows.iter().filter(|r| is_owned_by(worker, r)).count()
 }
 
-/// How many rows stand in the tenures of leases that the worker has.
+/// Counts the rows whose key and tenure are those of a lease that the worker holds.
 fn count_mine(rows: &[Row], held: &[Held]) -> usize
     ensures { result ≡ count_by (is_mine held.now) rows.now }
 {
     rows.iter().filter(|r| is_mine(held, r)).count()
 }
 
-/// The worker is among these.
+/// Whether `worker` is in the list `workers`.
 fn is_among(workers: &[WorkerNo], worker: WorkerNo) -> bool
     ensures { result ≡ list_any (λ w. w == worker) workers.now }
 {
     workers.iter().any(|w| *w == worker)
 }
 
-/// A worker, unless it is there.
+/// Adds `worker` to the list `workers`, unless the list has it already.
 fn add_worker(workers: &mut Vec<WorkerNo>, worker: WorkerNo) -> Result<(), Memory>
     ensures { OnOk result (workers.new.items ≡ with_worker worker workers.old.items) }
 {
@@ -113,7 +113,7 @@ fn add_worker(workers: &mut Vec<WorkerNo>, worker: WorkerNo) -> Result<(), Memor
     Ok(())
 }
 
-/// The row's owner, unless it is this worker.
+/// Adds the row's owner to the list `workers`, unless the owner is `me` or the list has it already.
 fn add_owner(workers: &mut Vec<WorkerNo>, me: WorkerNo, r: &Row) -> Result<(), Memory>
     ensures { OnOk result (workers.new.items ≡ with_owner me r.now.owner workers.old.items) }
 {
@@ -123,7 +123,7 @@ fn add_owner(workers: &mut Vec<WorkerNo>, me: WorkerNo, r: &Row) -> Result<(), M
     }
 }
 
-/// The other workers that own rows, each once.
+/// Returns the workers other than `me` that own rows, each once.
 fn others(alloc: Global, me: WorkerNo, rows: &[Row]) -> Result<Vec<WorkerNo>, Memory>
     ensures { IfOk result (λ w. w.items ≡ others me rows.now) }
 {
@@ -136,7 +136,8 @@ fn others(alloc: Global, me: WorkerNo, rows: &[Row]) -> Result<Vec<WorkerNo>, Me
     Ok(workers)
 }
 
-/// Of two workers the one with the greater load, or the least number among equals.
+/// Returns whichever of the two workers owns more rows; if both own equally many, the worker with the lower number.
+/// Without an `other`, returns `worker`.
 fn busier(rows: &[Row], worker: WorkerNo, other: Option<WorkerNo>) -> WorkerNo
     ensures { result ≡ busier (load_of rows.now) worker other }
 {
@@ -154,7 +155,7 @@ fn busier(rows: &[Row], worker: WorkerNo, other: Option<WorkerNo>) -> WorkerNo
     }
 }
 
-/// The worker with the greatest load.
+/// Returns the worker in `workers` that owns the most rows; among equals, the worker with the lowest number.
 fn busiest(rows: &[Row], workers: &[WorkerNo]) -> Option<WorkerNo>
     ensures { result ≡ busiest (load_of rows.now) workers.now }
 {
@@ -176,7 +177,7 @@ fn take_step(r: &Row) -> TakeStep
     }
 }
 
-/// The rows that are available, in their order.
+/// Returns the rows that the worker `me` can take without stealing, in their order.
 fn available(alloc: Global, me: WorkerNo, held: &[Held], rows: &[Row]) -> Result<Vec<Row>, Memory>
     ensures { IfOk result (λ found. found.items ≡ filter (is_available me held.now) rows.now) }
 {
@@ -189,7 +190,7 @@ fn available(alloc: Global, me: WorkerNo, held: &[Held], rows: &[Row]) -> Result
     Ok(found)
 }
 
-/// The steps that take these rows.
+/// Returns a step for each of `rows`, which takes that row.
 fn steps_of(alloc: Global, rows: &[Row]) -> Result<Items<TakeStep>, Memory>
     ensures { IfOk result (λ steps. steps ≡ map take_step rows.now) }
 {
@@ -200,7 +201,7 @@ fn steps_of(alloc: Global, rows: &[Row]) -> Result<Items<TakeStep>, Memory>
     Ok(steps)
 }
 
-/// The first row of a worker.
+/// Returns a step that takes the first row that `worker` owns.
 fn first_of(rows: &[Row], worker: WorkerNo) -> Option<TakeStep>
     ensures { result ≡ first_step worker rows.now }
 {
@@ -212,7 +213,7 @@ fn first_of(rows: &[Row], worker: WorkerNo) -> Option<TakeStep>
     None
 }
 
-/// The first row of the busiest worker, if its load is above the target.
+/// Returns a step that steals the first row of `worker`, if that worker owns more than `target` rows.
 fn stolen(rows: &[Row], target: usize, worker: Option<WorkerNo>) -> Option<TakeStep>
     ensures { result ≡ stolen rows.now target worker }
 {
@@ -224,7 +225,7 @@ fn stolen(rows: &[Row], target: usize, worker: Option<WorkerNo>) -> Option<TakeS
     }
 }
 
-/// The step, if there is one.
+/// Returns a list with the given step, or an empty list if there is no step.
 fn step_if(alloc: Global, step: Option<TakeStep>) -> Result<Items<TakeStep>, Memory>
     ensures { IfOk result (λ steps. steps ≡ cons_option step []) }
 {
@@ -235,14 +236,16 @@ fn step_if(alloc: Global, step: Option<TakeStep>) -> Result<Items<TakeStep>, Mem
     Ok(steps)
 }
 
-/// A fair share of the rows among so many other workers.
+/// Returns a worker's fair share: the number of rows divided by the number of workers, rounded up. The workers are
+/// `others` and this worker.
 fn share(rows: &[Row], others: &[WorkerNo]) -> usize
     ensures { result ≡ (length rows.now + length others.now) / (length others.now + 1) }
 {
     (rows.len() + others.len()) / (others.len() + 1)
 }
 
-/// Of the rows that are available at most so many, or else one of the busiest worker.
+/// Returns steps that take at most `room` of the available rows. If no row is available, returns a step that steals
+/// one row of the busiest worker.
 fn chosen(
     alloc: Global,
     me: WorkerNo,
@@ -265,7 +268,7 @@ fn chosen(
     steps_of(alloc, free.as_slice())
 }
 
-/// What is taken of these rows.
+/// Returns the worker's take plan for these rows.
 fn take_among(
     alloc: Global,
     me: WorkerNo,
@@ -274,22 +277,23 @@ fn take_among(
 ) -> Result<Items<TakeStep>, Memory>
     ensures { IfOk result (λ steps. steps ≡ take_among me held.now rows.now) }
 {
-    let others = others(alloc, me, rows)?;
-    let target = share(rows, others.as_slice());
+    let workers = others(alloc, me, rows)?;
+    let target = share(rows, workers.as_slice());
     let mine = count_mine(rows, held);
     if mine >= target {
         return Ok(Items::new(alloc));
     }
-    chosen(alloc, me, held, rows, others.as_slice(), target - mine)
+    chosen(alloc, me, held, rows, workers.as_slice(), target - mine)
 }
 
-/// The rows that a worker takes, as it observed them (Kinesis Client Library, LeaseTaker), in the order of the rows. A
-/// row at the shard's end counts for nothing, and an expired one has no owner; the failover time is in milliseconds.
-/// With fewer rows than its share, all rows over all workers rounded up, the worker takes rows that are free or stand in
-/// its own name, up to that share; where there are none, one row of the busiest worker that has more than its share, the
-/// least number among equals.
+/// Returns the take plan of the worker `me`, in the order of the rows (Kinesis Client Library, LeaseTaker). A row
+/// whose checkpoint is the shard's end isn't counted. A row that is expired by `observed`, `now` and `failover`, in
+/// milliseconds, counts as a row without an owner. A worker's share is the number of rows divided by the number of
+/// workers, rounded up. If the worker has fewer rows than its share, it takes rows that are free or in its own name,
+/// up to its share. If there are no such rows, it steals a row from the busiest worker that has more than its share;
+/// among equally busy workers, from the worker with the lowest number.
 ///
-/// The error is want of memory.
+/// The error means out of memory.
 pub fn plan(
     alloc: Global,
     rows: &[Row],

@@ -1,5 +1,5 @@
 use Rattle.std.proofs.Common.{rules}
-use Rattle.kcl_sync.proofs.Steps.cut.Goals as goal
+use Rattle.kcl_consumer.proofs.ahead.Ahead.pop_first.Goals as goal
 
 pub returns : goal.returns
 returns c = search rules
