@@ -1,3 +1,4 @@
+//! A processor that keeps the sequence numbers of the records that it is handed.
 ghost use Rattle.std.specs.Prelude.{◌≡◌, ◌++◌, [], OnErr, OnOk};
 ghost use Rattle.kcl_proc.specs.Numbers.{first_ask, numbers_of};
 
@@ -8,8 +9,8 @@ use kds_defs::Stored;
 use std::alloc::Global;
 use std::marker::Model;
 
-/// A processor that keeps the numbers of each batch, one batch after the other, and asks for a checkpoint at the first
-/// number of each. After want of memory it keeps what it kept.
+/// A processor that keeps the sequence numbers of all records that it is handed, in order, and asks for a checkpoint
+/// at the first number of each batch. A call that runs out of memory changes nothing.
 #[derive(Drop)]
 pub struct Lines {
     numbers: Vec<Seq>,
@@ -23,7 +24,7 @@ impl Model for Lines {
     ghost view = { λ l. l.numbers.items };
 }
 
-/// Adds the numbers of a batch.
+/// Appends the sequence numbers of the batch's records to `numbers`.
 fn add_numbers(numbers: &mut Vec<Seq>, batch: &[Stored]) -> Result<(), Memory>
     ensures ok { OnOk result (numbers.new.items ≡ numbers.old.items ++ numbers_of batch.now) }
     ensures err { OnErr result (numbers.new.items ≡ numbers.old.items) }
@@ -35,7 +36,7 @@ fn add_numbers(numbers: &mut Vec<Seq>, batch: &[Stored]) -> Result<(), Memory>
     Ok(())
 }
 
-/// A checkpoint at the first number of a batch.
+/// Returns the ask for a checkpoint at the first number of a batch, or for no checkpoint if the batch is empty.
 fn first_ask(batch: &[Stored]) -> Ask
     ensures { result ≡ first_ask batch.now }
 {
@@ -46,7 +47,7 @@ fn first_ask(batch: &[Stored]) -> Ask
 }
 
 impl Lines {
-    /// No numbers.
+    /// Returns a processor that has kept no numbers yet.
     pub fn new(alloc: Global) -> Lines
         ensures { result ≡ [] }
     {
@@ -55,7 +56,7 @@ impl Lines {
         }
     }
 
-    /// The numbers of the records that it was handed, in order.
+    /// Returns the sequence numbers of the records that this processor was handed, in order.
     pub fn numbers(&self) -> &[Seq]
         ensures { result.now ≡ self.now }
     {

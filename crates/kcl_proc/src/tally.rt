@@ -1,3 +1,4 @@
+//! A processor that counts records and bytes.
 ghost use Rattle.std.specs.Prelude.{◌≡◌, min, length};
 ghost use Rattle.kcl_proc.specs.Tallies.{most, payload_bytes};
 
@@ -7,8 +8,8 @@ use kds_base::{Checkpoint, Memory, ShardRef};
 use kds_defs::Stored;
 use std::marker::Model;
 
-/// A processor that counts records and payload bytes, and asks for a checkpoint at the last number of each batch. A
-/// count stops at the greatest `u64`. Its calls need no memory.
+/// A processor that counts records and their payload bytes, and asks for a checkpoint at the last number of each
+/// batch. Each count stops at the greatest `u64`. The processor's calls need no memory.
 #[derive(Drop)]
 pub struct Tally {
     records: u64,
@@ -23,7 +24,7 @@ impl Model for Tally {
     ghost view = { λ t. record { records = t.records; bytes = t.bytes } };
 }
 
-/// The payload bytes of a batch.
+/// Returns the total number of payload bytes of the batch's records, or the greatest `u64` if the total is greater.
 fn payload_bytes(batch: &[Stored]) -> u64
     ensures { result ≡ min (payload_bytes batch.now) most }
 {
@@ -35,7 +36,7 @@ fn payload_bytes(batch: &[Stored]) -> u64
 }
 
 impl Tally {
-    /// Nothing is counted.
+    /// Returns a processor that has counted nothing yet.
     pub fn new() -> Tally
         ensures { result ≡ record { records = 0; bytes = 0 } }
     {
@@ -45,14 +46,14 @@ impl Tally {
         }
     }
 
-    /// How many records it was handed.
+    /// Returns the number of records that this processor was handed.
     pub fn records(&self) -> u64
         ensures { result ≡ self.now.records }
     {
         self.records
     }
 
-    /// How many payload bytes they have.
+    /// Returns the number of payload bytes of the records that this processor was handed.
     pub fn bytes(&self) -> u64
         ensures { result ≡ self.now.bytes }
     {

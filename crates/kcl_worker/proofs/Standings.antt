@@ -71,7 +71,7 @@ call_stands {P} {F} stands asks asked w new cs past free called is st =
           });
     })
 
--- after want of memory in it
+-- after running out of memory in it
 pub uncalled_stands : {P F : Type 0} (stands : P → List Call → Type 0) (asks : P → List Stored → Ask → Type 0) (w new : WorkerStanding P F) (cs : List (Standing P)) (past : WorkerPast) → FirstUncalled stands asks w.consumers cs → new ≡ record w { consumers = cs } → StandsFor stands w past → StandsFor stands new past
 uncalled_stands {P} {F} stands asks w new cs past f is st =
     let s : WorkerState = worker_after w.made past in

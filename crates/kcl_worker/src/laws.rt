@@ -1,4 +1,4 @@
-//! What a worker's processors are called for.
+//! The laws on the calls that a worker's processors get.
 ghost use Rattle.std.specs.Prelude.{◌≡◌, ◌==◌, ℕ, true, false, List, ◌∷◌, Some};
 ghost use Rattle.kds_defs.specs.declared.command.Turn.{Turn};
 ghost use Rattle.kcl_defs.specs.declared.consumer.WorkerMade.{WorkerMade};
@@ -11,8 +11,9 @@ ghost use Rattle.kcl_worker.specs.Standing.{AreServedIn, StandsFor};
 use crate::worker::Worker;
 use kcl_consumer::{Maker, Processor};
 
-/// The processors of every worker are called for the given reads of their tenures, in every history in which its
-/// actor's turns are the commands of its record with their answers. Turns of other actors change nothing of this.
+/// Consider any worker, and any history in which the turns of the worker's actor are exactly the commands of the
+/// worker's record, with the same answers. In this history, the processors of the worker are called for the given
+/// reads of their tenures. Turns of other actors don't change this.
 pub fn service()
     ensures served { (by : ℕ) (h : List Turn) (made : WorkerMade) (past : WorkerPast)
         → IsOrderly made past → IsToldIn by h made past → AreServed by h made past }
@@ -21,7 +22,7 @@ pub fn service()
         → (turn.by == by) ≡ false → IsToldIn by h made past → IsToldIn by (turn ∷ h) made past }
 {}
 
-/// So of this worker's processors, whose lists of calls they stand for.
+/// The law `service` for the worker `_worker`, stated with the lists of calls that its processors stand for.
 pub fn served<P: Processor, F: Maker<P>>(_worker: &Worker<P, F>)
     ensures { (by : ℕ) (h : List Turn) (past : WorkerPast) → StandsFor P.stands_for _worker.now past
         → IsToldIn by h _worker.now.made past → AreServedIn P.stands_for by h _worker.now }

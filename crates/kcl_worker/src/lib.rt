@@ -1,9 +1,9 @@
-//! A worker: which command comes next, and what its answer leads to (Kinesis Client Library, Scheduler).
+//! A worker, which chooses its next command and absorbs the answer (Kinesis Client Library, Scheduler).
 #![tactic(auto)]
 
 mod answers;
 mod laws;
-mod nexts;
+mod next_command;
 mod round;
 mod worker;
 

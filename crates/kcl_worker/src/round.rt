@@ -1,4 +1,4 @@
-//! Where a worker is in its round.
+//! The parts of a worker's round.
 ghost use Rattle.std.specs.Prelude.{◌≡◌, List};
 ghost use Rattle.kcl_defs.specs.declared.plans.SyncStep.{SyncStep};
 ghost use Rattle.kcl_defs.specs.declared.plans.TakeStep.{TakeStep};
@@ -7,7 +7,8 @@ ghost use Rattle.kcl_worker.specs.Parts.{round_of};
 
 use kcl_defs::{Held, LeaseId};
 
-/// Where a worker is in its round. The places are those of the last lease that had its turn.
+/// The part of the round that a worker is in. The lease in `Renewals` and in `Consumers` is the last lease, if any,
+/// that had its turn in that part.
 #[derive(Clone, Copy, Debug, PartialEq, Eq)]
 pub enum Part {
     Survey,
@@ -18,7 +19,7 @@ pub enum Part {
     Stopping,
 }
 
-/// What the command that waits is for.
+/// The purpose of the command that awaits its answer, if there is such a command.
 #[derive(Clone, Copy, Debug, PartialEq, Eq)]
 pub enum Asked {
     Nothing,
@@ -31,7 +32,7 @@ pub enum Asked {
     Free(Held),
 }
 
-/// The worker was stopped.
+/// Whether a worker in this part of its round was stopped.
 pub fn is_stopping(part: Part) -> bool
     ensures { (syncs : List SyncStep) (takes : List TakeStep) → result ≡ is_stopping (round_of part syncs takes) }
 {

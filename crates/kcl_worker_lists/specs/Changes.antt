@@ -112,7 +112,7 @@ abbrev pub held_in : {P : Type 0} → ℕ → LeaseId → Result Reply Refusal �
 held_in now id answer cs held =
     kept_unless_over id (one_of id (answered_among id answer cs)) (held_after now id (phase_or_opening (one_of id cs)) answer held)
 
--- the processor's call of the first one met want of memory, and nothing was done
+-- the processor's call of the first one ran out of memory, and nothing was done
 pub record FirstUncalled {P : Type 0} (stands : P → List Call → Type 0) (asks : P → List Stored → Ask → Type 0) (old new : List (Standing P)) : Type 0 where
   pub before : List (Standing P)
   pub one : Standing P

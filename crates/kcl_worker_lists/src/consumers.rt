@@ -1,4 +1,4 @@
-//! Consumers in the order of their leases.
+//! A worker's consumers, in the order of their leases.
 ghost use Rattle.std.specs.Prelude.{◌≡◌, ◌+◌, ◌<◌, ◌≤◌, length, if◌then◌else◌, true, IfNone, IfSome, IsSome, None, OnErr, OnOk, Result};
 ghost use Rattle.kds_defs.specs.declared.reply.Refusal.{Refusal};
 ghost use Rattle.kds_defs.specs.declared.reply.Reply.{Reply};
@@ -19,7 +19,7 @@ use kcl_defs::{Held, LeaseId};
 use kds_base::Memory;
 use kds_defs::{Answer, let_go};
 
-/// The lease of a consumer.
+/// Returns the lease of a consumer.
 pub fn id_of<P: Processor>(c: &Consumer<P>) -> LeaseId
     ensures { result ≡ id_in c.now }
 {
@@ -29,7 +29,8 @@ pub fn id_of<P: Processor>(c: &Consumer<P>) -> LeaseId
     }
 }
 
-/// The first consumer after this place.
+/// Returns the first consumer whose lease comes after `place`. Without a `place`, it is the first consumer in the
+/// list.
 pub fn first_past<'a, P: Processor>(
     consumers: &'a [Consumer<P>],
     place: &Option<LeaseId>,
@@ -44,7 +45,7 @@ pub fn first_past<'a, P: Processor>(
     None
 }
 
-/// The first consumer that has a batch to give.
+/// Returns the first consumer whose next command gives a batch.
 pub fn first_giving<P: Processor>(consumers: &[Consumer<P>]) -> Option<&Consumer<P>>
     ensures { option_map (λ c. c.now) result ≡ giving_in consumers.now }
 {
@@ -56,7 +57,7 @@ pub fn first_giving<P: Processor>(consumers: &[Consumer<P>]) -> Option<&Consumer
     None
 }
 
-/// Some processor must be called.
+/// Whether a processor call is due for at least one consumer.
 pub fn any_due<P: Processor>(consumers: &[Consumer<P>]) -> bool
     ensures { result ≡ list_any is_due consumers.now }
 {
@@ -68,7 +69,7 @@ pub fn any_due<P: Processor>(consumers: &[Consumer<P>]) -> bool
     false
 }
 
-/// Some consumer has a batch to give.
+/// Whether the next command of at least one consumer gives a batch.
 pub fn any_giving<P: Processor>(consumers: &[Consumer<P>]) -> bool
     ensures { result ≡ list_any (λ c. is_giving_phase c.phase) consumers.now }
 {
@@ -80,7 +81,7 @@ pub fn any_giving<P: Processor>(consumers: &[Consumer<P>]) -> bool
     false
 }
 
-/// The lease of a consumer, where it is this one, is known to be lost.
+/// Reports to the consumer `c` that its lease is lost, if `same` is true.
 fn lose_if<P: Processor>(c: &mut Consumer<P>, same: bool)
     ensures { c.new ≡ (if same then lost_in c.old else c.old) }
 {
@@ -89,7 +90,7 @@ fn lose_if<P: Processor>(c: &mut Consumer<P>, same: bool)
     }
 }
 
-/// The leases of all these are known to be lost.
+/// Reports to each of these consumers that its lease is lost.
 #[tactic(auto, using(crate::proofs::Calls::map_over))]
 pub fn lose_all<P: Processor>(consumers: &mut Vec<Consumer<P>>)
     ensures { consumers.new.items ≡ lost_among (λ id. true) consumers.old.items }
@@ -99,7 +100,7 @@ pub fn lose_all<P: Processor>(consumers: &mut Vec<Consumer<P>>)
     }
 }
 
-/// This lease is known to be lost.
+/// Reports to the consumers of the lease `id` that this lease is lost.
 #[tactic(auto, using(crate::proofs::Calls::map_over))]
 pub fn lose_one<P: Processor>(consumers: &mut Vec<Consumer<P>>, id: &LeaseId)
     ensures { consumers.new.items ≡ lost_among (λ i. same_id i id.now) consumers.old.items }
@@ -110,7 +111,7 @@ pub fn lose_one<P: Processor>(consumers: &mut Vec<Consumer<P>>, id: &LeaseId)
     }
 }
 
-/// The leases that stand no more are known to be lost.
+/// Reports to the consumer of each lease in `gone` that the lease is lost.
 #[tactic(auto, using(crate::proofs::Calls::map_over))]
 pub fn lose_gone<P: Processor>(consumers: &mut Vec<Consumer<P>>, gone: &[Held])
     ensures { consumers.new.items ≡ lost_among (is_among gone.now) consumers.old.items }
@@ -121,7 +122,7 @@ pub fn lose_gone<P: Processor>(consumers: &mut Vec<Consumer<P>>, gone: &[Held])
     }
 }
 
-/// The place of the first consumer whose processor must be called.
+/// Returns the index of the first consumer with a processor call due.
 fn first_due<P: Processor>(consumers: &[Consumer<P>]) -> Option<usize>
     ensures some { IfSome result (λ i. IsFirstDue i consumers.now) }
     ensures none { IfNone result (due_in consumers.now ≡ None) }
@@ -134,7 +135,7 @@ fn first_due<P: Processor>(consumers: &[Consumer<P>]) -> Option<usize>
     None
 }
 
-/// Calls the processor of the first consumer whose processor must be called.
+/// Makes the processor call that is due for the first consumer that has a call due.
 pub fn call_first<P: Processor>(consumers: &mut Vec<Consumer<P>>) -> Result<(), Memory>
     requires { IsSome (due_in consumers.old.items) }
     ensures ok { OnOk result ((asked : Ask) × FirstCalled P.stands_for P.asks asked consumers.old.items consumers.new.items) }
@@ -147,7 +148,7 @@ pub fn call_first<P: Processor>(consumers: &mut Vec<Consumer<P>>) -> Result<(), 
     }
 }
 
-/// The first consumer of a lease.
+/// Returns the first consumer of the lease `id`.
 fn first_of<'a, P: Processor>(consumers: &'a [Consumer<P>], id: &LeaseId) -> Option<&'a Consumer<P>>
     ensures { option_map (λ c. c.now) result ≡ one_of id.now consumers.now }
 {
@@ -159,7 +160,8 @@ fn first_of<'a, P: Processor>(consumers: &'a [Consumer<P>], id: &LeaseId) -> Opt
     None
 }
 
-/// Whether the command of a lease's consumer opens its shard or sets its checkpoint.
+/// Whether the next command of the lease's consumer opens the shard or sets the checkpoint. If the lease has no
+/// consumer, the result is `true`.
 pub fn is_writing_at<P: Processor>(consumers: &[Consumer<P>], id: &LeaseId) -> bool
     ensures { result ≡ is_marking_or_opening (phase_or_opening (one_of id.now consumers.now)) }
 {
@@ -169,7 +171,7 @@ pub fn is_writing_at<P: Processor>(consumers: &[Consumer<P>], id: &LeaseId) -> b
     }
 }
 
-/// Whether a lease's consumer is over.
+/// Whether the consumer of the lease `id` is over. If the lease has no consumer, the result is `false`.
 pub fn is_over_at<P: Processor>(consumers: &[Consumer<P>], id: &LeaseId) -> bool
     ensures { result ≡ is_over_one (one_of id.now consumers.now) }
 {
@@ -179,7 +181,7 @@ pub fn is_over_at<P: Processor>(consumers: &[Consumer<P>], id: &LeaseId) -> bool
     }
 }
 
-/// The place of the first consumer of a lease.
+/// Returns the index of the first consumer of the lease `id`.
 fn index_of<P: Processor>(consumers: &[Consumer<P>], id: &LeaseId) -> Option<usize>
     ensures some { IfSome result (λ i. IsFirstOf id.now i consumers.now) }
     ensures none { IfNone result ((answer : Result Reply Refusal) → answered_among id.now answer consumers.now ≡ consumers.now) }
@@ -192,7 +194,7 @@ fn index_of<P: Processor>(consumers: &[Consumer<P>], id: &LeaseId) -> Option<usi
     None
 }
 
-/// The first consumer of a lease absorbs an answer.
+/// Hands an answer to the first consumer of the lease `id`, which absorbs it.
 pub fn absorb_one<P: Processor>(consumers: &mut Vec<Consumer<P>>, id: &LeaseId, answer: Answer)
     ensures absorbed { consumers.new.items ≡ answered_among id.now answer consumers.old.items }
     ensures len { vec_len consumers.new ≡ vec_len consumers.old }
@@ -205,8 +207,8 @@ pub fn absorb_one<P: Processor>(consumers: &mut Vec<Consumer<P>>, id: &LeaseId, 
     }
 }
 
-/// The place of a consumer among these.
-fn place_among<P: Processor>(consumers: &[Consumer<P>], c: &Consumer<P>) -> usize
+/// Returns the index at which the consumer `c` has to be inserted to keep the list's order.
+fn insertion_index<P: Processor>(consumers: &[Consumer<P>], c: &Consumer<P>) -> usize
     ensures place { insert consumers.now result c.now ≡ with_consumer c.now consumers.now }
     ensures within { result ≤ length consumers.now }
 {
@@ -218,14 +220,14 @@ fn place_among<P: Processor>(consumers: &[Consumer<P>], c: &Consumer<P>) -> usiz
     consumers.len()
 }
 
-/// One more consumer, for which there is memory.
+/// Inserts a consumer in the list's order. Precondition: memory was reserved for it.
 pub fn add_consumer<P: Processor + Drop>(consumers: &mut Vec<Consumer<P>>, c: Consumer<P>)
     requires { vec_len consumers.old < vec_capacity consumers.old }
     ensures added { consumers.new.items ≡ with_consumer c consumers.old.items }
     ensures len { vec_len consumers.new ≡ vec_len consumers.old + 1 }
 {
-    let place = place_among(consumers.as_slice(), &c);
-    match consumers.insert(place, c) {
+    let index = insertion_index(consumers.as_slice(), &c);
+    match consumers.insert(index, c) {
         Ok(()) => {}
         Err(_) => {}
     }

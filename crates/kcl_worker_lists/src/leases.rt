@@ -1,4 +1,4 @@
-//! Leases in the order of their keys, and then of their tenures.
+//! A worker's leases, in the order of their keys and then of their tenures.
 ghost use Rattle.std.specs.Prelude.{◌≡◌, ◌<◌, ◌≤◌, ◌&&◌, if◌then◌else◌, length};
 ghost use Rattle.std.specs.List.{find, insert};
 ghost use Rattle.std.specs.Vec.{vec_capacity, vec_len};
@@ -8,14 +8,14 @@ ghost use Rattle.kcl_defs.specs.Workers.{counter_of, id_of_held, is_before_id, i
 use kcl_defs::{Held, LeaseId};
 use kds_base::Moment;
 
-/// Both are one lease.
+/// Whether `a` and `b` are the same lease.
 pub fn same_id(a: &LeaseId, b: &LeaseId) -> bool
     ensures { result ≡ same_id a.now b.now }
 {
-    a.key.is(&b.key) && a.tenure == b.tenure
+    a.key == b.key && a.tenure == b.tenure
 }
 
-/// Whether a comes before b.
+/// Whether the lease `a` comes before the lease `b`.
 pub fn is_before_id(a: &LeaseId, b: &LeaseId) -> bool
     ensures { result ≡ is_before_id a.now b.now }
 {
@@ -28,7 +28,7 @@ pub fn is_before_id(a: &LeaseId, b: &LeaseId) -> bool
     }
 }
 
-/// The lease comes after this place, where there is one.
+/// Whether the lease `id` comes after `place`. Without a `place`, the result is `true`.
 pub fn is_past(place: &Option<LeaseId>, id: &LeaseId) -> bool
     ensures { result ≡ is_past place.now id.now }
 {
@@ -38,7 +38,7 @@ pub fn is_past(place: &Option<LeaseId>, id: &LeaseId) -> bool
     }
 }
 
-/// The lease by its key and its tenure.
+/// Returns the key and the tenure of the lease `h`.
 pub fn id_of_held(h: &Held) -> LeaseId
     ensures { result ≡ id_of_held h.now }
 {
@@ -48,7 +48,7 @@ pub fn id_of_held(h: &Held) -> LeaseId
     }
 }
 
-/// The counter of a lease, and 0 where the worker hasn't got it.
+/// Returns the counter of the lease `id`, or 0 if the worker doesn't hold that lease.
 pub fn counter_of(held: &[Held], id: &LeaseId) -> u64
     ensures { result ≡ counter_of id.now held.now }
 {
@@ -60,7 +60,7 @@ pub fn counter_of(held: &[Held], id: &LeaseId) -> u64
     0
 }
 
-/// The first lease after this place that is to be renewed.
+/// Returns the first lease after `place` that is due for renewal at the moment `now`.
 pub fn next_due(held: &[Held], place: &Option<LeaseId>, now: Moment, failover: u64) -> Option<Held>
     ensures { result ≡ find (λ h. is_past place.now (id_of_held h) && is_due h now failover) held.now }
 {
@@ -72,7 +72,7 @@ pub fn next_due(held: &[Held], place: &Option<LeaseId>, now: Moment, failover: u
     None
 }
 
-/// A lease, where it is this one, is written at this counter.
+/// Notes that the row of the lease `h` was written and has this counter, if `same` is true.
 fn renew_if(h: &mut Held, same: bool, counter: u64, now: Moment)
     ensures { h.new ≡ (if same then renewed_held counter now h.old else h.old) }
 {
@@ -81,7 +81,7 @@ fn renew_if(h: &mut Held, same: bool, counter: u64, now: Moment)
     }
 }
 
-/// A lease is written at this counter.
+/// Notes that the row of the lease `id` was written and has this counter.
 #[tactic(auto, using(crate::proofs::Calls::map_over))]
 pub fn renew(held: &mut Vec<Held>, id: &LeaseId, counter: u64, now: Moment)
     ensures { held.new.items ≡ renewed id.now counter now held.old.items }
@@ -92,7 +92,7 @@ pub fn renew(held: &mut Vec<Held>, id: &LeaseId, counter: u64, now: Moment)
     }
 }
 
-/// A lease is given up.
+/// Removes the lease `id` from the list.
 pub fn drop_held(held: &mut Vec<Held>, id: &LeaseId)
     ensures { held.new.items ≡ without_held id.now held.old.items }
 {
@@ -106,8 +106,8 @@ pub fn drop_held(held: &mut Vec<Held>, id: &LeaseId)
     }
 }
 
-/// The place of a lease among these.
-fn place_of(held: &[Held], h: &Held) -> usize
+/// Returns the index at which the lease `h` has to be inserted to keep the list's order.
+fn insertion_index(held: &[Held], h: &Held) -> usize
     ensures place { insert held.now result h.now ≡ with_held h.now held.now }
     ensures within { result ≤ length held.now }
 {
@@ -119,19 +119,19 @@ fn place_of(held: &[Held], h: &Held) -> usize
     held.len()
 }
 
-/// One more lease, for which there is memory.
+/// Inserts a lease in the list's order. Precondition: memory was reserved for it.
 pub fn add_held(held: &mut Vec<Held>, h: Held)
     requires { vec_len held.old < vec_capacity held.old }
     ensures { held.new.items ≡ with_held h held.old.items }
 {
-    let place = place_of(held.as_slice(), &h);
-    match held.insert(place, h) {
+    let index = insertion_index(held.as_slice(), &h);
+    match held.insert(index, h) {
         Ok(()) => {}
         Err(_) => {}
     }
 }
 
-/// The worker has no lease.
+/// Whether the worker holds no lease.
 pub fn is_nothing_held(held: &[Held]) -> bool
     ensures { result ≡ is_nothing_held held.now }
 {

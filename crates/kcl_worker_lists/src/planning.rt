@@ -1,4 +1,4 @@
-//! What a worker knows and plans after a survey.
+//! A worker's notes, leases and plans after a survey.
 ghost use Rattle.std.specs.Prelude.{◌≡◌, IfOk};
 ghost use Rattle.std.specs.List.{filter};
 ghost use Rattle.std.specs.Option.{option_map};
@@ -13,30 +13,31 @@ use kds_base::{Items, Memory, Moment, ShardRef};
 use kds_defs::{Answer, Reply, Row};
 use std::alloc::Global;
 
-/// What was observed, the leases that still stand, and the plans.
+/// A worker's state after a survey: its notes on the rows, the leases that it still holds, the leases that it has
+/// lost, and its sync plan and take plan.
 #[derive(Drop)]
 pub struct Planned {
     pub observed: Observed,
     pub held: Vec<Held>,
-    /// The leases that stand no more.
+    /// The leases that the worker no longer holds, because their rows are in another tenure or removed.
     pub gone: Vec<Held>,
     pub syncs: Items<SyncStep>,
     pub takes: Items<TakeStep>,
 }
 
-/// The row of a key.
+/// Returns the first row with the key `key`.
 fn row_of<'a>(rows: &'a [Row], key: &ShardRef) -> Option<&'a Row>
     ensures { option_map (λ r. r.now) result ≡ row_of rows.now key.now }
 {
     for r in rows {
-        if r.key.is(key) {
+        if r.key == *key {
             return Some(r);
         }
     }
     None
 }
 
-/// The row of the lease still stands in its tenure.
+/// Whether the lease still stands: its row exists and has the lease's tenure.
 fn still_stands(rows: &[Row], h: &Held) -> bool
     ensures { result ≡ still_stands rows.now h.now }
 {
@@ -46,7 +47,7 @@ fn still_stands(rows: &[Row], h: &Held) -> bool
     }
 }
 
-/// The leases that still stand.
+/// Returns the leases in `held` that still stand: their rows still have the leases' tenures.
 fn standing(alloc: Global, rows: &[Row], held: &[Held]) -> Result<Vec<Held>, Memory>
     ensures { IfOk result (λ kept. kept.items ≡ filter (still_stands rows.now) held.now) }
 {
@@ -59,7 +60,7 @@ fn standing(alloc: Global, rows: &[Row], held: &[Held]) -> Result<Vec<Held>, Mem
     Ok(kept)
 }
 
-/// The leases that stand no more.
+/// Returns the leases in `held` that no longer stand: their rows are removed or have another tenure.
 fn gone(alloc: Global, rows: &[Row], held: &[Held]) -> Result<Vec<Held>, Memory>
     ensures { IfOk result (λ lost. lost.items ≡ gone rows.now held.now) }
 {
@@ -72,7 +73,7 @@ fn gone(alloc: Global, rows: &[Row], held: &[Held]) -> Result<Vec<Held>, Memory>
     Ok(lost)
 }
 
-/// One of these is of this lease.
+/// Whether the lease `id` is in the list `held`.
 pub fn is_among(held: &[Held], id: &LeaseId) -> bool
     ensures { result ≡ is_among held.now id.now }
 {
@@ -84,7 +85,7 @@ pub fn is_among(held: &[Held], id: &LeaseId) -> bool
     false
 }
 
-/// What a worker knows and plans after a survey. The error is want of memory.
+/// Computes a worker's notes, leases and plans after a survey. The error means out of memory.
 pub fn plan_survey(
     alloc: Global,
     made: &WorkerMade,
@@ -98,7 +99,7 @@ pub fn plan_survey(
 {
     let mut observed = observed.copy(alloc)?;
     observed.see(alloc, rows, now)?;
-    let gone = gone(alloc, rows, held)?;
+    let lost = gone(alloc, rows, held)?;
     let held = standing(alloc, rows, held)?;
     let syncs = kcl_sync::plan(alloc, shards, rows, made.settings.from)?;
     let takes = kcl_take::plan(
@@ -113,13 +114,14 @@ pub fn plan_survey(
     Ok(Planned {
         observed,
         held,
-        gone,
+        gone: lost,
         syncs,
         takes,
     })
 }
 
-/// What a worker knows and plans after the answer to its survey. The error is want of memory.
+/// Computes the worker's notes, leases and plans after the answer to its survey. The inner `None` means that the
+/// answer isn't the reply to a survey. The error means out of memory.
 pub fn plan_after(
     alloc: Global,
     made: &WorkerMade,

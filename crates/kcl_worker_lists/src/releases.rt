@@ -1,4 +1,4 @@
-//! Leases that are released with their consumers.
+//! Leases that are released together with their consumers.
 ghost use Rattle.std.specs.Prelude.{◌≡◌, ◌≤◌, IfNone};
 ghost use Rattle.std.specs.Vec.{vec_len};
 ghost use Rattle.kcl_worker_lists.specs.Changes.{has_one, leaving_in, one_of, without_consumer};
@@ -9,7 +9,7 @@ use kcl_consumer::{Consumer, Processor};
 use kcl_defs::{Held, LeaseId};
 use kds_base::ShardRef;
 
-/// Whether a lease has a consumer.
+/// Whether the lease `h` has a consumer in the list.
 fn has_one<P: Processor>(consumers: &[Consumer<P>], h: &Held) -> bool
     ensures { result ≡ has_one consumers.now h.now }
 {
@@ -22,7 +22,7 @@ fn has_one<P: Processor>(consumers: &[Consumer<P>], h: &Held) -> bool
     false
 }
 
-/// The first lease of a key that has a consumer.
+/// Returns the first lease of the key `key` that has a consumer.
 pub fn leaving<P: Processor>(
     held: &[Held],
     consumers: &[Consumer<P>],
@@ -31,14 +31,14 @@ pub fn leaving<P: Processor>(
     ensures { result ≡ leaving_in key.now consumers.now held.now }
 {
     for h in held {
-        if h.key.is(key) && has_one(consumers, h) {
+        if h.key == *key && has_one(consumers, h) {
             return Some(*h);
         }
     }
     None
 }
 
-/// The first consumer of a lease is taken out. No memory.
+/// Removes the first consumer of the lease `id` from the list, and returns it. Needs no memory.
 pub fn take_consumer<P: Processor>(
     consumers: &mut Vec<Consumer<P>>,
     id: &LeaseId,

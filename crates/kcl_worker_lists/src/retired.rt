@@ -9,7 +9,8 @@ use kcl_consumer::{Consumer, Processor};
 use kcl_defs::{Held, Why};
 use kds_base::{Memory, ShardRef, TenureNo};
 
-/// A consumer that is over, why, and its processor (Kinesis Client Library, ShutdownReason).
+/// A consumer that is over, reduced to its lease, the reason for its end, and its processor (Kinesis Client Library,
+/// ShutdownReason).
 #[derive(Drop)]
 pub struct Retired<P> {
     pub key: ShardRef,
@@ -18,7 +19,7 @@ pub struct Retired<P> {
     pub processor: P,
 }
 
-/// What is kept of a consumer that is over.
+/// Keeps the lease, the reason and the processor of a consumer that is over.
 fn retire<P: Processor>(c: Consumer<P>, why: Why) -> Retired<P>
     requires { over_at c.phase ≡ Some why }
     ensures { retirement result ≡ retire c }
@@ -31,8 +32,11 @@ fn retire<P: Processor>(c: Consumer<P>, why: Why) -> Retired<P>
     }
 }
 
-/// Consumers that are over are retired, in their order. No memory.
-pub fn settle<P: Processor>(consumers: &mut Vec<Consumer<P>>, retired: &mut Vec<Retired<P>>)
+/// Moves the consumers that are over to the list of retired consumers, in their order. Needs no memory.
+pub fn retire_finished<P: Processor>(
+    consumers: &mut Vec<Consumer<P>>,
+    retired: &mut Vec<Retired<P>>,
+)
     requires room { vec_len retired.old + vec_len consumers.old ≤ vec_capacity retired.old }
     ensures live { consumers.new.items ≡ live_among consumers.old.items }
     ensures over { map retirement retired.new.items ≡ map retirement retired.old.items ++ retired_among consumers.old.items }
@@ -50,7 +54,7 @@ pub fn settle<P: Processor>(consumers: &mut Vec<Consumer<P>>, retired: &mut Vec<
     }
 }
 
-/// Takes the memory for one more lease and its consumer, and for the consumer's retirement.
+/// Reserves memory for one additional lease and its consumer, and for the retirement of all consumers.
 pub fn make_room<P: Processor>(
     held: &mut Vec<Held>,
     consumers: &mut Vec<Consumer<P>>,

@@ -6,7 +6,7 @@ use crate::field::{FieldView, field_at};
 use kds_base::Memory;
 use std::alloc::Global;
 
-/// The fields of a message. `None` exactly where the bytes are no message.
+/// Returns the fields of a message. The inner `None` means exactly that `bytes` isn't a message.
 pub fn fields_of(alloc: Global, bytes: &[u8]) -> Result<Option<Vec<FieldView<'_>>>, Memory>
     ensures { IfOk result (λ o. option_map (λ v. map field v.items) o ≡ message_of bytes.now) }
 {
@@ -22,7 +22,7 @@ pub fn fields_of(alloc: Global, bytes: &[u8]) -> Result<Option<Vec<FieldView<'_>
     Ok(Some(fields))
 }
 
-/// The number of the last field of this number and of wire type 0.
+/// Returns the number in the last field that has the label `label` and the wire type 0.
 pub fn last_number(label: u64, fields: &[FieldView<'_>]) -> Option<u64>
     ensures { result ≡ last_number label (map field fields.now) }
 {
@@ -35,7 +35,7 @@ pub fn last_number(label: u64, fields: &[FieldView<'_>]) -> Option<u64>
     last
 }
 
-/// The bytes of the last field of this number and of wire type 2.
+/// Returns the bytes in the last field that has the label `label` and the wire type 2.
 pub fn last_content<'a>(label: u64, fields: &[FieldView<'a>]) -> Option<&'a [u8]>
     ensures { option_map (λ b. b.now) result ≡ last_content label (map field fields.now) }
 {

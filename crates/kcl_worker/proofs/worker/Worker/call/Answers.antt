@@ -35,12 +35,12 @@ pub invariant_of-self-2 : goal.invariant_of-self-2
 invariant_of-self-2 g c =
     let due = subst (λ v. IsSome (due_in v.consumers)) (sym c.self.view_is) c.requires in
     let free = asks_nothing (chore_of c.self.inside.asked c.self.inside.syncs c.self.inside.takes) c.self.inside.consumers.items due c.self.invariant.1 in (
-      subst NoneOver (sym c.settle.ensures.live) (live_on c.call_first.new.consumers.items),
-      subst (λ o. IsAsking o c.settle.new.consumers.items) (sym free) tt,
-      c.settle.ensures.room,
+      subst NoneOver (sym c.retire_finished.ensures.live) (live_on c.call_first.new.consumers.items),
+      subst (λ o. IsAsking o c.retire_finished.new.consumers.items) (sym free) tt,
+      c.retire_finished.ensures.room,
       c.self.invariant.3,
       c.self.invariant.4,
-      within_settled g.P.Processor.asks (g.F.Maker.asks c.self.inside.maker) c.call_first.new.consumers.items _ c.settle.ensures.live
+      within_settled g.P.Processor.asks (g.F.Maker.asks c.self.inside.maker) c.call_first.new.consumers.items _ c.retire_finished.ensures.live
           (within_called g.P.Processor.stands_for g.P.Processor.asks (g.F.Maker.asks c.self.inside.maker) c.in_ok-call_first.ensures.ok.0 c.self.inside.consumers.items c.call_first.new.consumers.items c.in_ok-call_first.ensures.ok.1 c.self.invariant.5),
     )
 
@@ -53,12 +53,12 @@ returns-clause-ok g c = λ past st.
       f.0,
       subst (λ v. IsAskOf (g.F.Maker.asks v.maker) (due_known (worker_after v.made past)) f.0) c.self.view_is
           (asked_so g.P.Processor.stands_for g.P.Processor.asks (g.F.Maker.asks c.self.inside.maker) f.0 c.self.inside.consumers.items c.call_first.new.consumers.items _ f.1 c.self.invariant.5 st0.shows.consumers),
-      call_leaves g.P.Processor.stands_for g.P.Processor.asks f.0 _ c.call_first.new.consumers.items c.settle.new.consumers.items (map retirement c.settle.new.retired.items) past free f.1
-          c.settle.ensures.live c.settle.ensures.over
+      call_leaves g.P.Processor.stands_for g.P.Processor.asks f.0 _ c.call_first.new.consumers.items c.retire_finished.new.consumers.items (map retirement c.retire_finished.new.retired.items) past free f.1
+          c.retire_finished.ensures.live c.retire_finished.ensures.over
           st0,
     )
 
 pub returns-clause-fewer : goal.returns-clause-fewer
 returns-clause-fewer g c =
-    subst (λ v. due_count c.settle.new.consumers.items < due_count v.consumers) c.self.view_is
-    (fewer_due g.P.Processor.stands_for g.P.Processor.asks c.in_ok-call_first.ensures.ok.0 c.self.inside.consumers.items c.call_first.new.consumers.items c.settle.new.consumers.items c.in_ok-call_first.ensures.ok.1 c.settle.ensures.live)
+    subst (λ v. due_count c.retire_finished.new.consumers.items < due_count v.consumers) c.self.view_is
+    (fewer_due g.P.Processor.stands_for g.P.Processor.asks c.in_ok-call_first.ensures.ok.0 c.self.inside.consumers.items c.call_first.new.consumers.items c.retire_finished.new.consumers.items c.in_ok-call_first.ensures.ok.1 c.retire_finished.ensures.live)

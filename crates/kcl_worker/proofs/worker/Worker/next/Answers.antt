@@ -8,8 +8,8 @@ use Rattle.kcl_worker.specs.Standing.{ConsumersStand}
 use Rattle.kcl_worker.proofs.Outlooks.{asked_leaves, none_left, ready}
 use Rattle.kcl_worker.proofs.worker.Worker.next.Goals as goal
 
-pub given-requires-clause-ready : goal.given-requires-clause-ready
-given-requires-clause-ready g c =
+pub next_in_part-requires-clause-ready : goal.next_in_part-requires-clause-ready
+next_in_part-requires-clause-ready g c =
     subst (AllByRecursion IsReady) (sym c.as_slice.ensures.value)
     (ready c.self.inside.consumers.items (ap (λ v. due_in v.consumers) c.self.view_is ∙ c.requires.none_due) c.self.invariant.0)
 

@@ -2,7 +2,7 @@ use Rattle.std.proofs.Common.{◌≡◌, ◌+◌, ◌-◌, ◌≤◌, ◌++◌, 
 use Rattle.std.specs.Vec.{vec_capacity, vec_len}
 use Rattle.kcl_worker_lists.specs.Changes.{live_among, retired_among}
 use Rattle.kcl_worker_lists.specs.Retirements.{retirement}
-use Rattle.kcl_worker_lists.proofs.retired.settle.Given as goal
+use Rattle.kcl_worker_lists.proofs.retired.retire_finished.Given as goal
 
 -- those before the place go on; those from it on are left to look at
 abbrev pub invariant-loop-i : goal.invariant-loop-i

@@ -1,4 +1,4 @@
-//! The command that comes next. A part of the round that has nothing left is passed over.
+//! The choice of a worker's next command. A part of the round with nothing left to do is skipped.
 ghost use Rattle.std.specs.Prelude.{◌≡◌, ◌≤◌, List, Some, IfNone, IfSome, IsSome};
 ghost use Rattle.std.specs.List.{AllByRecursion};
 ghost use Rattle.kds_defs.specs.declared.command.Command.TheVariants as command;
@@ -16,7 +16,7 @@ use kcl_worker_lists::leases::{counter_of, next_due};
 use kds_base::Moment;
 use kds_defs::Command;
 
-/// The command of the first consumer after this place, or else a survey.
+/// Returns the next command of the first consumer after `place`. If there is no such consumer, returns a survey.
 pub fn from_consumers<P: Processor>(
     consumers: &[Consumer<P>],
     held: &[Held],
@@ -36,7 +36,7 @@ pub fn from_consumers<P: Processor>(
     }
 }
 
-/// The renewal of a lease.
+/// Returns the command that renews the lease `h`.
 fn renewal_of(h: &Held) -> Command
     ensures command { result ≡ command.Renew h.now.tenure h.now.counter }
     ensures lawful { IsLeaseCommand result }
@@ -47,7 +47,8 @@ fn renewal_of(h: &Held) -> Command
     }
 }
 
-/// The renewal of the first lease after this place that is due, or else what the consumers have to do.
+/// Returns the renewal of the first lease after `place` that is due. If no such renewal is due, returns the next
+/// command of the consumers' part.
 pub fn from_renewals<P: Processor>(
     consumers: &[Consumer<P>],
     held: &[Held],
@@ -66,7 +67,8 @@ pub fn from_renewals<P: Processor>(
     }
 }
 
-/// The first taking that is left, or else what is to be renewed.
+/// Returns the next step of the take plan. If no step is left, returns the next command of the renewals, which come
+/// after the take plan in a worker's round.
 pub fn from_takes<P: Processor>(
     made: &WorkerMade,
     takes: &[TakeStep],
@@ -94,7 +96,7 @@ pub fn from_takes<P: Processor>(
     }
 }
 
-/// The command of a step that brings the rows in line with the shards.
+/// Returns the command of a step of the sync plan.
 fn sync_command(step: &SyncStep) -> Command
     ensures command { result ≡ sync_command step.now }
     ensures lawful { IsLeaseCommand result }
@@ -111,7 +113,7 @@ fn sync_command(step: &SyncStep) -> Command
     }
 }
 
-/// The first step that is left of those that bring the rows in line with the shards, or else what is to be taken.
+/// Returns the next step of the sync plan. If no step is left, returns the next command of the take plan's part.
 pub fn from_sync<P: Processor>(
     made: &WorkerMade,
     syncs: &[SyncStep],
@@ -133,8 +135,9 @@ pub fn from_sync<P: Processor>(
     }
 }
 
-/// The give of the first consumer that has a batch, or else the freeing of the first lease.
-pub fn at_stopping<P: Processor>(
+/// Returns the next command of a worker that was stopped: the Give of the first consumer that has a batch to give. If
+/// no consumer has, returns the Free of the first lease.
+pub fn next_while_stopping<P: Processor>(
     consumers: &[Consumer<P>],
     held: &[Held],
 ) -> Option<(Asked, Command)>
@@ -161,8 +164,8 @@ pub fn at_stopping<P: Processor>(
     }
 }
 
-/// What comes next in this part of the round, if there is anything.
-pub fn given<P: Processor>(
+/// Returns the next command in this part of the round, if this part has a command.
+pub fn next_in_part<P: Processor>(
     made: &WorkerMade,
     part: Part,
     syncs: &[SyncStep],
@@ -190,6 +193,6 @@ pub fn given<P: Processor>(
             made.settings.failover,
         )),
         Part::Consumers(place) => Some(from_consumers(consumers, held, place)),
-        Part::Stopping => at_stopping(consumers, held),
+        Part::Stopping => next_while_stopping(consumers, held),
     }
 }

@@ -3,7 +3,7 @@ use Rattle.kcl_defs.specs.Workers.{is_past}
 use Rattle.kcl_worker_lists.specs.Lists.{id_in}
 use Rattle.kcl_worker.specs.Outlook.{IsReady}
 use Rattle.kcl_worker.proofs.Outlooks.{all_found, consumer_as, survey_given}
-use Rattle.kcl_worker.proofs.nexts.from_consumers.Goals as goal
+use Rattle.kcl_worker.proofs.next_command.from_consumers.Goals as goal
 
 pub next-requires-clause-none_due : goal.next-requires-clause-none_due
 next-requires-clause-none_due g c =
