@@ -1,4 +1,4 @@
-//! What tells the time.
+//! Clocks.
 ghost use Rattle.std.specs.Prelude.{◌≡◌, ◌∷◌, [], ◌<◌, List, ℕ, None, Some, length, unwrap_or};
 ghost use Rattle.std.specs.declared.option.Option.{Option};
 ghost use Rattle.kds_ends.specs.Moments.{Gives, current, later};
@@ -8,21 +8,23 @@ use std::marker::Model;
 use std::rt::Clock as Timer;
 use std::time::{SystemTime, UNIX_EPOCH};
 
-/// What tells the time.
+/// A source of moments.
 pub trait Clock {
-    /// The moments that it will give, the last one again and again, where the clock tells them.
+    /// The moments that the clock will give, one after another, if its contract knows them. Once all are given, the
+    /// clock repeats the last moment.
     ghost moments: { Self → Option (List ℕ) };
 
-    /// The moment now.
+    /// The present moment.
     fn now(&mut self) -> Moment
         ensures { Gives (moments self.old) (result ∷ []) (moments self.new) };
 }
 
-/// Gives the listed moments in turn, then the last one. Contracts see those that are left.
+/// A clock that gives the listed moments, one after another, and then repeats the last moment. Contracts see the
+/// remaining moments.
 #[derive(Drop)]
 pub struct MemClock {
     moments: Items<Moment>,
-    place: usize,
+    next: usize,
 }
 
 impl Model for MemClock {
@@ -30,18 +32,18 @@ impl Model for MemClock {
 
     ghost Value = { List ℕ };
 
-    ghost view = { λ c. drop c.place c.moments };
+    ghost view = { λ c. drop c.next c.moments };
 
-    ghost invariant = { λ c. c.place < length c.moments };
+    ghost invariant = { λ c. c.next < length c.moments };
 }
 
 impl MemClock {
-    /// Condition: there is a moment.
+    /// A clock that gives these moments. Precondition: `moments` isn't empty.
     pub fn new(moments: Items<Moment>) -> MemClock
         requires { 0 < length moments }
         ensures { result ≡ moments }
     {
-        MemClock { moments, place: 0 }
+        MemClock { moments, next: 0 }
     }
 }
 
@@ -54,30 +56,30 @@ impl Clock for MemClock {
         ensures gives { Gives (Some self.old) (result ∷ []) (Some self.new) }
     {
         let moments = self.moments.as_slice();
-        let moment = moments[self.place];
-        if self.place + 1 < moments.len() {
-            self.place += 1;
+        let moment = moments[self.next];
+        if self.next + 1 < moments.len() {
+            self.next += 1;
         }
         moment
     }
 }
 
-/// A clock over the machine's clock, which tells no moments: the milliseconds since 1970. Where the machine's clock
-/// fails or gives no moment, the last answer comes again, at first 0.
+/// The machine's clock, in milliseconds since 1970. The contract knows none of its moments. If the machine's clock
+/// fails or shows a time that is no moment, `now` returns the same moment as the last time, or 0 at first.
 #[derive(Drop)]
 pub struct SystemClock<R> {
     rt: R,
     last: Moment,
 }
 
-/// The moment that the machine's clock gives, where it gives one.
+/// The moment that the machine's clock shows, or `None` if the clock fails or its time is no moment.
 fn read_clock<R: Timer>(rt: &R) -> Option<Moment> {
     let now = SystemTime::now(rt).ok()?;
     let since = now.duration_since(UNIX_EPOCH).ok()?;
     Moment::new(u64::try_from(since.as_millis()).ok()?)
 }
 
-/// What a clock answers that read this moment: where it read none, its last answer again.
+/// The moment that the clock gives: `read`, or `last` again if `read` is `None`.
 fn moment_after(last: Moment, read: Option<Moment>) -> Moment
     ensures { result ≡ unwrap_or read last }
 {
@@ -85,7 +87,7 @@ fn moment_after(last: Moment, read: Option<Moment>) -> Moment
 }
 
 impl<R: Timer> SystemClock<R> {
-    /// A clock over the system's time, whose last answer is the moment 0.
+    /// A clock that reads the machine's time. If the first reading fails, it gives moment 0.
     pub fn new(rt: R) -> SystemClock<R>
         ensures { result.last ≡ 0 }
     {

@@ -1,28 +1,28 @@
-//! Where connections come in.
+//! Listeners for connections.
 ghost use Rattle.std.specs.Prelude.{ℕ, OnOk};
 ghost use Rattle.kds_ends.specs.Causes.{HasCause};
 
 use crate::sink::Sink;
 use crate::source::{Failed, Source};
 
-/// Where connections come in. Each has an input and an output.
+/// A listener. Each accepted connection has an input and an output.
 pub trait Door {
     type Input: Source + Drop;
 
     type Output: Sink + Drop;
 
-    /// How often it has failed. The count rises with a failure alone, and stops at its type's end.
+    /// The number of the listener's failures. It rises only with a failure, and saturates.
     ghost faults: { Self → ℕ };
 
-    /// That it listens at this port.
+    /// States that the listener listens at this port.
     ghost listens: { Self → ℕ → Type 0 };
 
-    /// Listens at a port, from which connections are then accepted.
+    /// Starts to listen at the port, so that connections to it can be accepted.
     fn listen(&mut self, port: u16) -> Result<(), Failed>
         ensures cause { HasCause (faults self.old) (faults self.new) result }
         ensures listens { OnOk result (listens self.new port) };
 
-    /// The ends of the next connection. Where it listened it listens still.
+    /// The input and output of the next connection. The listener continues to listen at its port.
     fn accept(&mut self) -> Result<(Self::Input, Self::Output), Failed>
         ensures cause { HasCause (faults self.old) (faults self.new) result }
         ensures listens { (port : ℕ) → listens self.old port → listens self.new port };

@@ -1,11 +1,12 @@
-//! What is true of all bytes that are written: a function without parameters, whose contract is the law.
+//! A law that holds for all written bytes. It is the contract of a function without parameters.
 ghost use Rattle.std.specs.Prelude.{ℕ, ◌<◌, List, [], ◌++◌, length, Option};
 ghost use Rattle.std.specs.Io.KnownBytes.{Appends};
 ghost use Rattle.kds_ends.specs.Causes.{AppendsFront, AppendsPart};
 
-/// What is written one after the other was written; and a write that ended early after others, or before more, left a
-/// front of all of it. A part, which is a front and not all, stays one after others and before more, and a front is
-/// one before more that has a byte.
+/// Consecutive writes append the concatenation of their bytes. If a write ends early, after complete writes and before
+/// bytes that aren't written, a prefix of all these bytes is appended. A proper prefix remains proper when both texts
+/// get the same bytes in front, or the longer text gets bytes behind. A prefix becomes proper when the longer text
+/// gets at least one byte behind.
 pub fn appends()
     ensures nothing { (held : Option (List ℕ)) → Appends held held [] }
     ensures more { (a b c : Option (List ℕ)) (xs ys : List ℕ) → Appends a b xs → Appends b c ys → Appends a c (xs ++ ys) }

@@ -1,4 +1,4 @@
-//! Connections in memory.
+//! A listener with connections in memory, for tests.
 ghost use Rattle.std.specs.Prelude.{ℕ, ◌≡◌, ◌≤◌, ◌↔◌, ◌⊎◌, ◌<◌, length, true, false, None, Some, IsErr, IsOk, IfOk, OnOk};
 ghost use Rattle.std.specs.Io.{ReadsAtMost};
 ghost use Rattle.std.specs.Io.KnownBytes.{ReadConsumes};
@@ -16,14 +16,14 @@ use std::marker::Model;
 use std::sync::{Arc, Mutex, Wait};
 use std::thread::yield_now;
 
-/// How often a held connection looks whether the next one has written.
+/// The number of times that the input of a held connection checks whether another connection has written.
 const LOOKS: u32 = 10_000_000;
 
-/// What a connection wrote, which its door can copy.
+/// The sink of a connection's output. The door shares it, so that tests can copy the written bytes.
 type Written = Arc<Mutex<MemSink>>;
 
-/// The input of a connection in memory. Where it is held, it gives its bytes once another connection has written, and its end
-/// where that one hasn't within 10,000,000 looks, so that a test ends.
+/// The input of a connection in memory. If the connection is held, its first read waits until another connection has
+/// written. After 10,000,000 checks without such a write, the read returns the end of the input, so that a test ends.
 #[derive(Drop)]
 pub struct MemInput<R: Wait + Drop> {
     rt: R,
@@ -39,13 +39,14 @@ pub struct MemOutput<R: Wait + Drop> {
     faults: u64,
 }
 
-/// A door with connections in memory. Contracts see how many of them are still to be accepted, and its faults.
+/// A listener with connections in memory. Contracts see its port, the number of connections that are still to be
+/// accepted, and the number of its failures.
 #[derive(Drop)]
 pub struct MemDoor<R: Wait + Drop> {
     rt: R,
     written: Vec<Written>,
     waiting: VecDeque<(MemInput<R>, MemOutput<R>)>,
-    /// The port at which it listens.
+    /// The port at which the door listens, if any.
     port: Option<u16>,
     faults: u64,
 }
@@ -59,7 +60,7 @@ impl<R: Wait + Drop> Model for MemDoor<R> {
     ghost view = { λ d. record { port = d.port; waiting = length d.waiting.items; faults = d.faults } };
 }
 
-/// Whether the connection writes, within so many looks.
+/// Whether the connection writes anything before `LOOKS` checks have passed.
 fn writes_soon<R: Wait>(rt: &R, written: &Written) -> bool {
     for _ in 0..LOOKS {
         if !written.lock(rt).held().is_empty() {
@@ -106,20 +107,20 @@ impl<R: Wait + Drop> Sink for MemOutput<R> {
     }
 }
 
-/// A place for what each connection writes.
-fn places(alloc: Global, count: usize, room: usize) -> Result<Vec<Written>, Memory>
+/// A sink of `room` bytes for the output of each of `count` connections.
+fn new_sinks(alloc: Global, count: usize, room: usize) -> Result<Vec<Written>, Memory>
     ensures { IfOk result (λ v. length v.items ≡ count) }
 {
-    let mut places = Vec::with_capacity(alloc, count)?;
+    let mut sinks = Vec::with_capacity(alloc, count)?;
     for made in 0..count {
         let sink = MemSink::new(alloc, room, usize::MAX, Items::new(alloc))?;
-        places.push(Arc::new(alloc, Mutex::new(sink))?)?;
+        sinks.push(Arc::new(alloc, Mutex::new(sink))?)?;
     }
-    Ok(places)
+    Ok(sinks)
 }
 
-/// The ends of a connection with this input, which writes to this place. Where one is awaited, its input waits until
-/// that one has written.
+/// The input and output of a connection that reads the bytes `call` and writes to `written`. If `awaited` is the
+/// output of another connection, the input waits until that connection has written.
 fn connection<R: Wait + Clone + Drop>(
     alloc: Global,
     rt: &R,
@@ -141,8 +142,9 @@ fn connection<R: Wait + Clone + Drop>(
 }
 
 impl<R: Wait + Clone + Drop> MemDoor<R> {
-    /// A connection for each of these inputs, with so many bytes of room to write into. Where the door is held, the
-    /// first one is not read until the second one has written. Condition: a door that is held has two connections.
+    /// A listener with one connection for each of these inputs. The output of each connection holds at most `room`
+    /// bytes. If `held` is true, reads of the first connection wait until the second connection has written.
+    /// Precondition: if `held`, there are at least two connections.
     pub fn new(
         alloc: Global,
         rt: R,
@@ -154,15 +156,15 @@ impl<R: Wait + Clone + Drop> MemDoor<R> {
         ensures { IfOk result (λ d. d ≡ record { port = None; waiting = length calls; faults = 0 }) }
     {
         let calls = calls.as_slice();
-        let written = places(alloc, calls.len(), room)?;
+        let written = new_sinks(alloc, calls.len(), room)?;
         let mut waiting = VecDeque::new(alloc);
-        for place in 0..calls.len() {
-            let awaited = if held && place == 0 {
+        for index in 0..calls.len() {
+            let awaited = if held && index == 0 {
                 Some(written[1].clone()?)
             } else {
                 None
             };
-            waiting.push_back(connection(alloc, &rt, &calls[place], &written[place], awaited)?)?;
+            waiting.push_back(connection(alloc, &rt, &calls[index], &written[index], awaited)?)?;
         }
         Ok(MemDoor {
             rt,
@@ -175,7 +177,8 @@ impl<R: Wait + Clone + Drop> MemDoor<R> {
 }
 
 impl<R: Wait + Drop> MemDoor<R> {
-    /// A copy of what the connection at a place wrote, from 0, which is empty where there is no such connection.
+    /// A copy of the bytes that the connection with the index `place` wrote. It is empty if no connection has this
+    /// index.
     pub fn written(&self, alloc: Global, place: usize) -> Result<Octets, Memory> {
         match self.written.as_slice().get(place) {
             Some(written) => Octets::of(alloc, written.lock(&self.rt).held()),

@@ -1,4 +1,4 @@
-//! Room in memory, as a sink.
+//! A bounded sink in memory.
 ghost use Rattle.std.specs.Prelude.{◌≡◌, [], ◌≤◌, ◌<◌, ◌↔◌, ◌⊎◌, ◌+◌, ◌^◌, List, ℕ, length, drop, Some, Contains, IsErr, IfOk, min};
 ghost use Rattle.std.specs.Io.{WritesAtMost};
 ghost use Rattle.std.specs.Io.KnownBytes.{WriteAppends};
@@ -10,8 +10,9 @@ use kds_base::{Items, Memory};
 use std::alloc::Global;
 use std::marker::Model;
 
-/// Room in memory, taken when it is made, that takes at most `step` bytes at a time. The calls with
-/// these numbers, from 1, fail, and so does one that finds no room.
+/// A sink in memory for at most `room` bytes, which are allocated when the sink is made. It takes at most `step` bytes
+/// in one call. Calls are numbered from 1: the calls whose numbers are in `failing` fail, and so does each write to a
+/// full sink.
 #[derive(Drop)]
 pub struct MemSink {
     held: Vec<u8>,
@@ -34,8 +35,9 @@ impl Model for MemSink {
 }
 
 impl MemSink {
-    /// Room for so many bytes, none of which is written yet. It takes at most `step` bytes at a time, and the calls with the numbers
-    /// in `failing`, from 1, fail. Condition: `step` is at least 1. The error is want of memory.
+    /// An empty sink for at most `room` bytes. It takes at most `step` bytes in one call, and the calls whose numbers
+    /// are in `failing`, counted from 1, fail. Precondition: `step` is at least 1. The error means that memory ran
+    /// out.
     pub fn new(
         alloc: Global,
         room: usize,
@@ -55,7 +57,7 @@ impl MemSink {
         })
     }
 
-    /// The bytes that were written.
+    /// The bytes that were written so far.
     pub fn held(&self) -> &[u8]
         ensures { result.now ≡ self.now.held }
     {

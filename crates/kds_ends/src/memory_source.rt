@@ -8,7 +8,8 @@ use crate::source::{Failed, Source};
 use kds_base::{Items, Octets};
 use std::marker::Model;
 
-/// Bytes in memory, given at most `step` at a time. The calls with these numbers, from 1, fail.
+/// A source of bytes in memory. It gives at most `step` bytes in one call. The calls whose numbers are in `failing`,
+/// counted from 1, fail.
 #[derive(Drop)]
 pub struct MemSource {
     bytes: Octets,
@@ -30,7 +31,8 @@ impl Model for MemSource {
     ghost invariant = { λ s. (s.next ≤ length s.bytes) × (0 < s.step) };
 }
 
-/// Copies a front of the bytes into the room, at most `step` of them.
+/// Copies the first bytes of `bytes` into `room`, at most `step` bytes and at most the length of `room`. Returns the
+/// number of copied bytes.
 pub fn copy_front(bytes: &[u8], room: &mut [u8], step: usize) -> usize
     ensures count { result ≡ min (min (length bytes.now) (length room.old)) step }
     ensures copied { take result room.new ≡ take result bytes.now }
@@ -42,8 +44,8 @@ pub fn copy_front(bytes: &[u8], room: &mut [u8], step: usize) -> usize
 }
 
 impl MemSource {
-    /// These bytes, given at most `step` at a time. The calls with the numbers in `failing`, from 1, fail. Condition: `step` is at
-    /// least 1.
+    /// A source of these bytes. It gives at most `step` bytes in one call, and the calls whose numbers are in
+    /// `failing`, counted from 1, fail. Precondition: `step` is at least 1.
     pub fn new(bytes: Octets, step: usize, failing: Items<u64>) -> MemSource
         requires { 0 < step }
         ensures { result ≡ record { left = bytes; step = step; failing = failing; calls = 0; faults = 0 } }

@@ -10,7 +10,7 @@ use crate::source::{Failed, Source};
 use kds_base::Octets;
 use std::marker::Model;
 
-/// Bytes in memory, whose reads never fail. Contracts see those that are left.
+/// A source of bytes in memory whose reads never fail. Contracts see the remaining bytes.
 #[derive(Drop)]
 pub struct SureSource {
     bytes: Octets,
@@ -28,7 +28,7 @@ impl Model for SureSource {
 }
 
 impl SureSource {
-    /// These bytes, none of which was given.
+    /// A source of these bytes, whose reads never fail.
     pub fn new(bytes: Octets) -> SureSource
         ensures { result ≡ bytes }
     {
@@ -54,12 +54,12 @@ impl Source for SureSource {
     }
 }
 
-/// Takes every piece whole, keeps nothing, and tells nothing of what it took.
+/// A sink that takes every piece as a whole and drops it. Its contract exposes no bytes.
 #[derive(Drop)]
 pub struct SureSink;
 
 impl SureSink {
-    /// A sink for bytes that nobody wants.
+    /// A sink that drops all written bytes.
     pub fn new() -> SureSink {
         SureSink
     }

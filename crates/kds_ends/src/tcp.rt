@@ -9,55 +9,64 @@ use std::io::Read;
 use std::net::{Net, OpenListener, OpenStream, Shutdown, SocketAddr};
 use std::time::Duration;
 
-/// How long a read waits for a byte, in milliseconds, before it is a fault: so an idle client's connection ends. It is
-/// shorter than the time for which an SDK waits for a response, 30 or 60 seconds, so a client that finds idle ones in all
-/// places is served before it gives up.
+/// How long a read waits for a byte before it fails, in milliseconds. This ends the connection of an idle client. The
+/// time is shorter than the 30 or 60 seconds for which an SDK waits for a response: if idle clients hold all
+/// connections, a new client is still served before it gives up.
 const IDLE_WAIT: u64 = 10_000;
 
-/// How long a write waits for room, in milliseconds: for a client that reads none of its answers. A write that has put a
-/// part of its bytes into the machine's buffer tells so when its time is out, and the next one waits anew; that buffer was
-/// seen to grow once under a client that reads nothing. So the third write is the fault, and all three take less than the
-/// 30 seconds for which an SDK waits.
+/// How long a write waits for free space, in milliseconds, if the client reads no responses. If a write has put a part
+/// of its bytes into the machine's send buffer when the time is over, it succeeds with that part, and the next write
+/// waits anew. For a client that reads nothing, the buffer was seen to grow once, so the third write fails. All three
+/// writes together take less than the 30 seconds for which an SDK waits.
 const FULL_WAIT: u64 = 9_000;
 
-/// How many pieces of what a client still sends are taken in at most, once its connection has ended.
-const LAST_READS: u32 = 256;
-
-/// The bytes of such a piece.
+/// The most bytes of a piece that is read and dropped after the connection has ended.
 const LAST_PIECE: usize = 65_536;
 
-/// How long the next piece is waited for, in milliseconds.
-const LAST_WAIT: u64 = 500;
+/// After the connection has ended, at most `FIRST_PIECES` pieces are read and dropped first. The read of each piece
+/// waits at most `FIRST_WAIT` milliseconds. If the client pauses longer, nothing more is read from it.
+const FIRST_PIECES: u32 = 8;
 
-/// The input of a connection, which counts its faults and tells no content. Where it is let go while the client may
-/// still send, the writing side is shut first, and a bounded rest is taken in and dropped: else the machine would reset
-/// the connection, and the client could lose the last answer (RFC 9112, section 9.6).
+const FIRST_WAIT: u64 = 500;
+
+/// Then at most `LATER_PIECES` further pieces are read and dropped, enough for a body of the greatest size. The read
+/// of each piece waits at most `LATER_WAIT` milliseconds. The reads of all pieces together take at most seven seconds,
+/// however slowly the client sends.
+const LATER_PIECES: u32 = 256;
+
+const LATER_WAIT: u64 = 10;
+
+/// The input of a connection. It counts its failures; its contract exposes no bytes. If it is dropped while the client
+/// may still send, it first shuts down the writing side, and then reads and drops a bounded number of bytes. Otherwise
+/// the machine would reset the connection, and the client could lose the last response (RFC 9112, section 9.6).
 pub struct TcpInput<S: Read + OpenStream + Drop> {
     source: StdSource<S>,
-    /// Whether no more can come.
+    /// Whether no more bytes can arrive on the connection.
     ended: bool,
 }
 
-/// Takes in what still comes, and drops it.
-fn drop_rest<S: Read>(stream: &mut S) {
-    let mut room = [0u8; LAST_PIECE];
-    for _ in 0..LAST_READS {
-        match stream.read(&mut room) {
-            Ok(0) => return,
+/// Reads and drops at most `count` pieces. Each read waits at most `wait` milliseconds. Returns whether the client may
+/// still send bytes.
+fn drop_pieces<S: Read + OpenStream>(stream: &mut S, count: u32, wait: u64) -> bool {
+    let wait = Some(Duration::from_millis(wait));
+    if stream.set_read_timeout(wait).is_err() {
+        return false;
+    }
+    let mut buffer = [0u8; LAST_PIECE];
+    for _ in 0..count {
+        match stream.read(&mut buffer) {
+            Ok(0) => return false,
             Ok(_) => {}
-            Err(_) => return,
+            Err(_) => return false,
         }
     }
+    true
 }
 
-/// Shuts the writing side, and takes in what still comes.
+/// Shuts down the writing side, and then reads and drops the bytes that still arrive.
 fn end<S: Read + OpenStream>(stream: &mut S) {
-    if stream.shutdown(Shutdown::Write).is_ok()
-        && stream
-            .set_read_timeout(Some(Duration::from_millis(LAST_WAIT)))
-            .is_ok()
-    {
-        drop_rest(stream);
+    if stream.shutdown(Shutdown::Write).is_ok() && drop_pieces(stream, FIRST_PIECES, FIRST_WAIT) {
+        drop_pieces(stream, LATER_PIECES, LATER_WAIT);
     }
 }
 
@@ -87,17 +96,18 @@ impl<S: Read + OpenStream + Drop> Source for TcpInput<S> {
     }
 }
 
-/// A door over the machine's sockets, which counts their faults and tells no content.
+/// A listener over the machine's sockets. It counts the failures of the sockets; its contract exposes no bytes.
 #[derive(Drop)]
 pub struct TcpDoor<R: Net> {
     rt: R,
     listener: Option<R::Listener>,
-    /// The port at which the listener listens.
+    /// The port at which the listener listens, if any.
     port: Option<u16>,
     faults: u64,
 }
 
-/// Both ends of a connection. What is written goes out at once, and neither end waits without bound for the client.
+/// The input and output of a connection. Written bytes are sent without delay. Reads and writes wait only for a
+/// bounded time for the client.
 fn ends_of<S: Read + OpenStream + Drop>(stream: S) -> io::Result<(TcpInput<S>, S)> {
     stream.set_nodelay(true)?;
     stream.set_read_timeout(Some(Duration::from_millis(IDLE_WAIT)))?;
@@ -110,7 +120,8 @@ fn ends_of<S: Read + OpenStream + Drop>(stream: S) -> io::Result<(TcpInput<S>, S
     Ok((input, other))
 }
 
-/// Whether a connection was given up by its client before it was accepted, so that the next one may be.
+/// Whether the error says that the client gave up the connection before it was accepted. The next connection can then
+/// still be accepted.
 fn is_given_up(error: &io::Error) -> bool {
     match error.kind() {
         io::ErrorKind::ConnectionAborted
@@ -120,7 +131,8 @@ fn is_given_up(error: &io::Error) -> bool {
     }
 }
 
-/// Both ends of the next connection. One that is given up before it is whole ends alone.
+/// The input and output of the next connection. It skips each connection that the client gives up before the
+/// connection is accepted and set up.
 fn accept_on<S: Read + OpenStream + Drop, L: OpenListener<Stream = S> + Drop>(
     listener: &Option<L>,
 ) -> io::Result<(TcpInput<S>, S)> {
@@ -145,7 +157,7 @@ fn accept_on<S: Read + OpenStream + Drop, L: OpenListener<Stream = S> + Drop>(
 }
 
 impl<R: Net> TcpDoor<R> {
-    /// A door that doesn't listen yet. It listens at 127.0.0.1 alone.
+    /// A listener that doesn't listen yet. It will listen only at the address 127.0.0.1.
     pub fn new(rt: R) -> TcpDoor<R>
         ensures { result.faults ≡ 0 }
     {

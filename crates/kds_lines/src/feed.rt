@@ -1,4 +1,4 @@
-//! Feeds a piece of the input.
+//! Splits a piece of the input into lines.
 ghost use Rattle.std.specs.Prelude.{◌≡◌, [], ◌∷◌, ◌++◌, ◌+◌, ◌≤◌, ◌<◌, List, ℕ, length, true, false, OnOk, OnErr, IfOk, IfErr, IsErrOf, MatchOption};
 ghost use Rattle.std.specs.declared.option.Option.{Option};
 ghost use Rattle.kds_ends.specs.Causes.{Rose};
@@ -17,21 +17,21 @@ use kds_ends::Sink;
 use memchr::memchr;
 use std::alloc::Global;
 
-/// The place of the first line feed.
+/// The index of the first line feed in `bytes`, if any.
 fn first_feed(bytes: &[u8]) -> Option<usize>
     ensures { MatchOption result (NoFeed bytes.now) (HasFeedAt bytes.now) }
 {
     memchr(b'\n', bytes)
 }
 
-/// Whether a line of this length, or the input with it, is too long.
+/// Whether a line of `len` bytes exceeds the limit of a line, or an input of `total` bytes the limit of an input.
 fn over(len: usize, total: u64) -> bool
     ensures { result ≡ is_over len total }
 {
     len as u64 > LINE_BYTES || total > INPUT_BYTES
 }
 
-/// The length of what is held with these bytes.
+/// The length of the held line once `tail` is appended.
 fn joined_length(held: &Octets, tail: &[u8]) -> usize
     requires { length held.now ≤ LINE_BYTES }
     ensures { result ≡ length (held.now ++ tail.now) }
@@ -39,7 +39,7 @@ fn joined_length(held: &Octets, tail: &[u8]) -> usize
     held.as_slice().len() + tail.len()
 }
 
-/// Hands over the line that is held and this tail. A line that lies whole in the tail isn't copied.
+/// Hands the line that consists of `held` and `tail` to the taker. If `held` is empty, no bytes are copied.
 fn take_joined<T: Taker>(
     alloc: Global,
     taker: &mut T,
@@ -64,7 +64,7 @@ fn take_joined<T: Taker>(
     taker.take(alloc, held.as_slice(), output)
 }
 
-/// The line that is held comes to its end by these bytes and a line feed.
+/// Completes the held line with `tail` and a line feed, and hands it to the taker.
 fn end_line<T: Taker>(
     alloc: Global,
     taker: &mut T,
@@ -96,7 +96,7 @@ fn end_line<T: Taker>(
     }
 }
 
-/// The same, and writes the output that waits where it is long.
+/// Completes a line as `end_line` does, and then writes the pending output if it has `OUTPUT_BYTES` bytes or more.
 fn next_line<T: Taker, K: Sink>(
     alloc: Global,
     taker: &mut T,
@@ -122,7 +122,8 @@ fn next_line<T: Taker, K: Sink>(
     }
 }
 
-/// Ends each line that the piece ends, and gives the rest. Condition: less output than `OUTPUT_BYTES` waits.
+/// Completes each line whose line feed is in the piece, and returns the bytes after the last line feed. Precondition:
+/// fewer than `OUTPUT_BYTES` bytes of output are pending.
 fn feed_lines<'a, T: Taker, K: Sink>(
     alloc: Global,
     taker: &mut T,
@@ -155,7 +156,7 @@ fn feed_lines<'a, T: Taker, K: Sink>(
     Ok(rest)
 }
 
-/// Keeps bytes that end no line.
+/// Appends `rest`, which has no line feed, to the held line.
 fn hold(reading: &mut LineBuffer, rest: &[u8]) -> Result<(), Outcome>
     ensures ok { OnOk result ((fed : List ℕ) (texts : List (List ℕ)) → Fed fed texts reading.old.used reading.old.held → NoFeed rest.now
         → Fed (fed ++ rest.now) texts reading.new.used reading.new.held) }
@@ -176,7 +177,8 @@ fn hold(reading: &mut LineBuffer, rest: &[u8]) -> Result<(), Outcome>
     }
 }
 
-/// Feeds the next piece of the input. Condition: less output than `OUTPUT_BYTES` waits, and so it stays.
+/// Takes the next piece of the input. Precondition: fewer than `OUTPUT_BYTES` bytes of output are pending. This also
+/// holds afterwards.
 pub fn feed<T: Taker, K: Sink>(
     alloc: Global,
     taker: &mut T,

@@ -1,4 +1,4 @@
-//! Reads the lines of an input, under limits, and writes their output.
+//! Reads the lines of an input, within limits, and writes their output.
 #![tactic(auto)]
 
 mod feed;

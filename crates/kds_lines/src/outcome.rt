@@ -3,11 +3,11 @@
 /// How the reading of an input ended. Lines are counted from 1.
 #[derive(Clone, Copy, Debug, PartialEq, Eq)]
 pub enum Outcome {
-    /// All bytes were whole lines, and all were taken.
+    /// The input ended with a whole line or was empty, and all lines were taken.
     Whole,
-    /// The line of this number has no line feed.
+    /// The input ended in the middle of the line with this number, before its line feed.
     Unfinished(u64),
-    /// What takes the lines stopped at the line of this number.
+    /// The taker stopped at the line with this number.
     Stopped(u64),
     /// A line or the input is longer than the limits.
     TooLong,

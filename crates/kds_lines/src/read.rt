@@ -15,22 +15,23 @@ use crate::taker::Taker;
 use kds_ends::{Failed, Sink, Source};
 use std::alloc::Global;
 
-/// Reads a piece. Condition: no output waits, since who sees an answer late may send no more before it comes.
+/// Reads a piece of the input. Precondition: no output is pending, because a client that waits for an answer may send
+/// nothing before the answer arrives.
 fn read_piece<S: Source>(
     _reading: &LineBuffer,
     input: &mut S,
-    room: &mut [u8],
+    buffer: &mut [u8],
 ) -> Result<usize, Failed>
     requires { _reading.now.output ≡ [] }
-    ensures bound { ReadsAtMost result room.new }
-    ensures bytes { ReadConsumes (S.left input.old) (S.left input.new) result room.new }
+    ensures bound { ReadsAtMost result buffer.new }
+    ensures bytes { ReadConsumes (S.left input.old) (S.left input.new) result buffer.new }
     ensures cause { HasCause (S.faults input.old) (S.faults input.new) result }
 {
-    input.read(room)
+    input.read(buffer)
 }
 
-/// How the reading ends where the output of a piece that was fed can't be written: with want of memory where that came
-/// before, since a line may have been taken in part.
+/// The outcome after the output for a piece couldn't be written. It is `Memory` if memory ran out while the piece was
+/// taken, because a line may have been taken in part; otherwise it is `Write`.
 fn lost_after(fed: Result<(), Outcome>) -> Outcome
     ensures { result ≡ lost_after fed }
 {
@@ -40,17 +41,17 @@ fn lost_after(fed: Result<(), Outcome>) -> Outcome
     }
 }
 
-/// Reads a piece, feeds it, and writes the output of its lines. The answer is whether there was one. Condition: no
-/// output waits.
-fn step<T: Taker, S: Source, K: Sink>(
+/// Reads a piece, hands its lines to the taker, and writes their output. Returns `false` at the end of the input.
+/// Precondition: no output is pending.
+fn next_piece<T: Taker, S: Source, K: Sink>(
     alloc: Global,
     taker: &mut T,
     reading: &mut LineBuffer,
     input: &mut S,
-    room: &mut [u8],
+    buffer: &mut [u8],
     out: &mut K,
 ) -> Result<bool, Outcome>
-    requires room { 0 < length room.old }
+    requires room { 0 < length buffer.old }
     requires written { reading.old.output ≡ [] }
     ensures goes_on { IfOk result (λ more. RunsOn (T.took taker.old) (T.took taker.new) T.output
         (S.left input.old) (S.left input.new) (K.held out.old) (K.held out.new) reading.old reading.new) }
@@ -64,10 +65,10 @@ fn step<T: Taker, S: Source, K: Sink>(
     ensures write { IsErrOf result Outcome.Write → Rose (K.faults out.old) (K.faults out.new) }
     ensures kinds { IfErr result IsStop }
 {
-    match read_piece(reading, input, room) {
+    match read_piece(reading, input, buffer) {
         Ok(0) => Ok(false),
         Ok(count) => {
-            let (piece, _) = room.split_at(count);
+            let (piece, _) = buffer.split_at(count);
             let fed = feed(alloc, taker, reading, piece, out);
             match reading.flush(out) {
                 Ok(()) => {}
@@ -82,7 +83,7 @@ fn step<T: Taker, S: Source, K: Sink>(
     }
 }
 
-/// How the reading ends at the end of the input: a line that is held has no line feed.
+/// The outcome at the end of the input: `Unfinished` if a line without a line feed is held, otherwise `Whole`.
 fn last(reading: &LineBuffer) -> Outcome
     ensures { result ≡ (if length reading.now.held == 0 then Outcome.Whole else Outcome.Unfinished (reading.now.count + 1)) }
 {
@@ -93,10 +94,11 @@ fn last(reading: &LineBuffer) -> Outcome
     }
 }
 
-/// Hands the lines of the input, one after another, to what takes them, and writes their output: that of all lines of
-/// a piece at once, before it reads on. A line's length is judged first, then the input's, and then the line is taken;
-/// the first line that decides ends it. Condition: no line was taken before. Read, Write: the source or the sink
-/// failed. Memory: want of memory.
+/// Hands the lines of the input to the taker, one after another, and writes their output. The output for all lines of
+/// a piece is written before the next piece is read. For each line it first checks the line's length, then the input's
+/// length so far, and then hands the line to the taker. Reading ends at the first line that fails a check or at which
+/// the taker stops. Precondition: the taker took no line before. The outcomes `Read` and `Write` mean that the source
+/// or the sink failed, and `Memory` that memory ran out.
 pub fn read_lines<T: Taker, S: Source, K: Sink>(
     alloc: Global,
     taker: &mut T,
@@ -110,10 +112,10 @@ pub fn read_lines<T: Taker, S: Source, K: Sink>(
     ensures write { result ≡ Outcome.Write → Rose (K.faults out.old) (K.faults out.new) }
     ensures later { K.faults out.old ≤ K.faults out.new }
 {
-    let mut room = [0u8; PIECE_BYTES];
+    let mut buffer = [0u8; PIECE_BYTES];
     let mut reading = LineBuffer::new(alloc);
     loop {
-        match step(alloc, taker, &mut reading, input, &mut room, out) {
+        match next_piece(alloc, taker, &mut reading, input, &mut buffer, out) {
             Ok(true) => {}
             Ok(false) => return last(&reading),
             Err(outcome) => return outcome,

@@ -1,4 +1,4 @@
-//! An input that comes in pieces.
+//! The state of an input that arrives in pieces.
 ghost use Rattle.std.specs.Prelude.{◌≡◌, ℕ, List, [], ◌≤◌, ◌<◌, ◌+◌, length, OnOk, OnErr};
 ghost use Rattle.std.specs.declared.option.Option.{Option};
 ghost use Rattle.kds_defs.specs.declared.limits.TheConstants.{LINE_BYTES, INPUT_BYTES};
@@ -10,12 +10,12 @@ use kds_base::Octets;
 use kds_ends::{Failed, Sink, write_all};
 use std::alloc::Global;
 
-/// The line that is not yet whole, and the output that waits.
+/// The line that has no line feed so far, and the pending output.
 #[derive(Drop)]
 pub struct LineBuffer {
     pub held: Octets,
     pub output: Octets,
-    /// How many lines were whole, and how many bytes they took.
+    /// The number of whole lines so far, and the number of their bytes.
     pub count: u64,
     pub used: u64,
     ghost short: { length held ≤ LINE_BYTES },
@@ -24,7 +24,7 @@ pub struct LineBuffer {
 }
 
 impl LineBuffer {
-    /// Nothing was read.
+    /// The state before the first piece is read.
     pub fn new(alloc: Global) -> LineBuffer
         ensures held { result.held ≡ [] }
         ensures output { result.output ≡ [] }
@@ -39,7 +39,7 @@ impl LineBuffer {
         }
     }
 
-    /// Writes the output that waits. After a fault what was not written is lost.
+    /// Writes the pending output. If this fails, the unwritten rest of the output is lost.
     pub fn flush<K: Sink>(&mut self, out: &mut K) -> Result<(), Failed>
         ensures held { self.new.held ≡ self.old.held }
         ensures output { self.new.output ≡ [] }
@@ -54,7 +54,8 @@ impl LineBuffer {
         written
     }
 
-    /// Writes the output that waits where it is long: then less than `OUTPUT_BYTES` waits. After a fault what was not written is lost.
+    /// Writes the pending output if it has `OUTPUT_BYTES` bytes or more, so that fewer than `OUTPUT_BYTES` bytes are
+    /// pending. If this fails, the unwritten rest of the output is lost.
     pub fn spill<K: Sink>(&mut self, out: &mut K) -> Result<(), Failed>
         ensures held { self.new.held ≡ self.old.held }
         ensures count { self.new.count ≡ self.old.count }

@@ -1,13 +1,13 @@
-//! How many bytes are read at once, and how many may wait to be written.
+//! The sizes of reads and of pending output.
 ghost use Rattle.std.specs.Prelude.{◌≡◌};
 
-/// The bytes of one read.
+/// The most bytes that one read returns.
 pub const PIECE_BYTES: usize = 65_536;
 
-/// Once a line was taken, fewer bytes of output than these wait.
+/// After each line, fewer than this number of bytes of output are pending.
 pub const OUTPUT_BYTES: usize = 65_536;
 
-/// Both in numbers, since the contracts name them by the constants of the code.
+/// The sizes in numbers. Contracts name the constants, so a changed constant contradicts this law.
 pub fn line_sizes()
     ensures piece { PIECE_BYTES ≡ 65536 }
     ensures output { OUTPUT_BYTES ≡ 65536 }

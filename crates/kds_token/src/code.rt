@@ -8,7 +8,7 @@ use base64::engine::general_purpose::STANDARD;
 use kds_base::{Memory, Octets};
 use std::alloc::Global;
 
-/// The text of bytes (RFC 4648, section 4).
+/// The base64 text of `bytes`, with padding (RFC 4648, section 4).
 pub fn encoded(alloc: Global, bytes: &[u8]) -> Result<Octets, Memory>
     ensures { IfOk result (λ o. o ≡ encode_of standard bytes.now) }
 {
@@ -16,7 +16,8 @@ pub fn encoded(alloc: Global, bytes: &[u8]) -> Result<Octets, Memory>
     Ok(Octets::unshared(text.into_bytes()))
 }
 
-/// The bytes of a text in a vector (RFC 4648, section 4). `None` exactly where it is the text of no bytes.
+/// The bytes that a base64 text stands for, as a vector (RFC 4648, section 4). `None` exactly if the text isn't valid
+/// base64.
 pub fn bytes_of(alloc: Global, text: &[u8]) -> Result<Option<Vec<u8>>, Memory>
     ensures { IfOk result (λ o. option_map (λ v. v.items) o ≡ decoded_of standard text.now) }
 {
@@ -27,7 +28,7 @@ pub fn bytes_of(alloc: Global, text: &[u8]) -> Result<Option<Vec<u8>>, Memory>
     }
 }
 
-/// The bytes of a text (RFC 4648, section 4). `None` exactly where it is the text of no bytes.
+/// The bytes that a base64 text stands for (RFC 4648, section 4). `None` exactly if the text isn't valid base64.
 pub fn decoded(alloc: Global, text: &[u8]) -> Result<Option<Octets>, Memory>
     ensures { IfOk result (λ o. o ≡ decoded_of standard text.now) }
 {

@@ -1,4 +1,4 @@
-//! The fields of a token, which colons part.
+//! The fields of a token, which are separated by colons.
 ghost use Rattle.std.specs.Prelude.{◌≡◌, ◌≤◌, ◌+◌, ◌++◌, decimal, option_map};
 ghost use Rattle.arrayvec.specs.ArrayString.{array_string_len};
 ghost use Rattle.kds_token.specs.Fields.{field, moment_of};
@@ -8,8 +8,8 @@ use itoa::Buffer;
 use kds_base::{Moment, read_u64};
 use memchr::memchr;
 
-/// The part before the first colon, and what follows that colon.
-pub fn cut(text: &[u8]) -> Option<(&[u8], &[u8])>
+/// The part of the text before its first colon, and the part after it. `None` if the text has no colon.
+pub fn split_at_colon(text: &[u8]) -> Option<(&[u8], &[u8])>
     ensures { option_map (λ p. (p.0.now, p.1.now)) result ≡ field text.now }
 {
     match memchr(b':', text) {
@@ -22,7 +22,7 @@ pub fn cut(text: &[u8]) -> Option<(&[u8], &[u8])>
     }
 }
 
-/// Adds a number. Condition: there is room for 20 digits.
+/// Appends the number `n` to `text` in decimal. Precondition: `text` has space for 20 more characters.
 pub fn put_number(text: &mut ArrayString<96>, n: u64)
     requires { array_string_len text.old ≤ 76 }
     ensures bytes { text.new.bytes ≡ text.old.bytes ++ decimal n }
@@ -32,7 +32,7 @@ pub fn put_number(text: &mut ArrayString<96>, n: u64)
     text.push_str(digits.format(n));
 }
 
-/// The moment of a number text.
+/// The moment that the text gives as a decimal number of milliseconds. `None` if the text isn't such a number.
 pub fn moment(text: &[u8]) -> Option<Moment>
     ensures { result ≡ moment_of text.now }
 {

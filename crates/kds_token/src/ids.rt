@@ -1,4 +1,4 @@
-//! The ids of shards, as they are printed and read, without memory.
+//! Writing and reading the ids of shards, without allocating memory.
 ghost use Rattle.std.specs.Prelude.{◌≡◌, ◌<◌, ◌≤◌, ◌-◌, ◌+◌, ◌++◌, ◌^◌, ℕ, List, Some, codes, length, replicate};
 ghost use Rattle.arrayvec.specs.ArrayString.{array_string_len};
 ghost use Rattle.kds_token.specs.Ids.{shard_id as id_text, id_of};
@@ -7,13 +7,13 @@ use arrayvec::ArrayString;
 use itoa::Buffer;
 use kds_base::{ShardNo, read_digits};
 
-/// What stands before the number.
+/// The text before the number in a shard's id.
 const PREFIX: &[u8] = b"shardId-";
 
-/// The digits to which the number of a shard is padded.
+/// The least number of digits in a shard's id; a shorter number is padded with zeros.
 const DIGITS: usize = 12;
 
-/// What stands before so many digits of a number.
+/// The text before a shard number of `digits` digits: `shardId-` and the zeros that pad the number.
 fn before(digits: usize) -> ArrayString<28>
     requires { digits ≤ 20 }
     ensures bytes { result.bytes ≡ codes "shardId-" ++ replicate (12 - digits) 48 }
@@ -29,8 +29,8 @@ fn before(digits: usize) -> ArrayString<28>
     id
 }
 
-/// A shard's id: `shardId-` and its number, padded with zeros to twelve digits
-/// (Kinesis API Reference, Shard, ShardId).
+/// The id of a shard: `shardId-` and the shard's number, padded with zeros to twelve digits (Kinesis API Reference,
+/// Shard, ShardId).
 pub fn shard_id(shard: ShardNo) -> ArrayString<28>
     ensures { result.bytes ≡ id_text shard }
 {
@@ -41,7 +41,7 @@ pub fn shard_id(shard: ShardNo) -> ArrayString<28>
     id
 }
 
-/// The number of the digits after the prefix. Where the text is an id, it is that shard's number.
+/// The number that the digits after the prefix spell. If the text is a shard's id, it is the number of that shard.
 fn number_of(text: &[u8]) -> Option<u64>
     ensures { (n : ℕ) → n < 2 ^ 64 → text.now ≡ id_text n → result ≡ Some n }
 {
@@ -49,7 +49,7 @@ fn number_of(text: &[u8]) -> Option<u64>
     read_digits(digits)
 }
 
-/// The shard whose id the text is, in its one spelling. `None` exactly where it is no shard's id.
+/// The number of the shard with this id. `None` exactly if the text isn't the text that `shard_id` writes for a shard.
 pub fn read_shard_id(text: &[u8]) -> Option<ShardNo>
     ensures { result ≡ id_of text.now }
 {
@@ -65,7 +65,8 @@ pub fn read_shard_id(text: &[u8]) -> Option<ShardNo>
     }
 }
 
-/// Each id is that of one shard number, and what a text reads as is the number whose id it is.
+/// The id of a shard reads back as the shard's number, and every text that reads as a shard's number is the id of that
+/// shard.
 pub fn one_id()
     ensures reads { (n : ℕ) → n < 2 ^ 64 → id_of (id_text n) ≡ Some n }
     ensures spells { (text : List ℕ) (n : ℕ) → id_of text ≡ Some n → text ≡ id_text n }

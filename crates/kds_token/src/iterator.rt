@@ -3,13 +3,13 @@ ghost use Rattle.std.specs.Prelude.{◌≡◌, IfOk};
 ghost use Rattle.kds_token.specs.Tokens.{iter_text, iter_token, iter_from, iter_in, iter_of, ReadsAsIter};
 
 use crate::code::{bytes_of, encoded};
-use crate::fields::{cut, moment, put_number};
+use crate::fields::{moment, put_number, split_at_colon};
 use arrayvec::ArrayString;
 use kds_base::{Memory, Octets, ShardNo, StreamNo, read_u64};
 use kds_defs::Iter;
 use std::alloc::Global;
 
-/// What an iterator's token begins with, before its first colon.
+/// The first field of the token of a shard iterator.
 const KIND: &[u8] = b"KI1";
 
 fn text_of(iter: &Iter) -> ArrayString<96>
@@ -27,7 +27,7 @@ fn text_of(iter: &Iter) -> ArrayString<96>
     text
 }
 
-/// The token of an iterator (Kinesis API Reference, GetShardIterator, ShardIterator).
+/// The token of a shard iterator (Kinesis API Reference, GetShardIterator, ShardIterator).
 pub fn write_iter(alloc: Global, iter: &Iter) -> Result<Octets, Memory>
     ensures { IfOk result (λ t. t ≡ iter_token iter.now) }
 {
@@ -54,10 +54,10 @@ fn from_fields(stream: &[u8], shard: &[u8], position: &[u8], issued: &[u8]) -> O
 fn in_text(text: &[u8]) -> Option<Iter>
     ensures { result ≡ iter_in text.now }
 {
-    let (kind, rest) = cut(text)?;
-    let (stream, rest) = cut(rest)?;
-    let (shard, rest) = cut(rest)?;
-    let (position, issued) = cut(rest)?;
+    let (kind, rest) = split_at_colon(text)?;
+    let (stream, rest) = split_at_colon(rest)?;
+    let (shard, rest) = split_at_colon(rest)?;
+    let (position, issued) = split_at_colon(rest)?;
     if kind == KIND {
         from_fields(stream, shard, position, issued)
     } else {
@@ -65,7 +65,7 @@ fn in_text(text: &[u8]) -> Option<Iter>
     }
 }
 
-/// The iterator whose token the text is. `None` exactly where it is no iterator's token.
+/// The shard iterator that the token stands for. `None` exactly if the text isn't the token of a shard iterator.
 pub fn read_iter(alloc: Global, text: &[u8]) -> Result<Option<Iter>, Memory>
     ensures exact { IfOk result (λ o. ReadsAsIter text.now o) }
     ensures value { IfOk result (λ o. o ≡ iter_of text.now) }

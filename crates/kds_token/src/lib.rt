@@ -1,5 +1,5 @@
-//! The texts that stand for shards, for shard iterators and for places in a listing, both ways, how long iterators and places are good,
-//! and the base64 in which they are written.
+//! Reading and writing of shard ids, and of the tokens of shard iterators and listings; how long tokens are valid; and
+//! the base64 in which tokens are written.
 #![tactic(auto)]
 
 mod code;

@@ -1,15 +1,15 @@
-//! The tokens of places in a listing of shards.
+//! The tokens of positions in a listing of shards.
 ghost use Rattle.std.specs.Prelude.{◌≡◌, IfOk};
 ghost use Rattle.kds_token.specs.Tokens.{page_text, page_token, page_from, page_in, page_of, ReadsAsPage};
 
 use crate::code::{bytes_of, encoded};
-use crate::fields::{cut, moment, put_number};
+use crate::fields::{moment, put_number, split_at_colon};
 use arrayvec::ArrayString;
 use kds_base::{Memory, Octets, ShardNo, StreamNo, read_u64};
 use kds_defs::Page;
 use std::alloc::Global;
 
-/// What a listing's token begins with, before its first colon.
+/// The first field of the token of a listing.
 const KIND: &[u8] = b"KT1";
 
 fn text_of(page: &Page) -> ArrayString<96>
@@ -25,7 +25,7 @@ fn text_of(page: &Page) -> ArrayString<96>
     text
 }
 
-/// The token of a place in a listing (Kinesis API Reference, ListShards, NextToken).
+/// The token of a position in a listing of shards (Kinesis API Reference, ListShards, NextToken).
 pub fn write_page(alloc: Global, page: &Page) -> Result<Octets, Memory>
     ensures { IfOk result (λ t. t ≡ page_token page.now) }
 {
@@ -50,9 +50,9 @@ fn from_fields(stream: &[u8], after: &[u8], issued: &[u8]) -> Option<Page>
 fn in_text(text: &[u8]) -> Option<Page>
     ensures { result ≡ page_in text.now }
 {
-    let (kind, rest) = cut(text)?;
-    let (stream, rest) = cut(rest)?;
-    let (after, issued) = cut(rest)?;
+    let (kind, rest) = split_at_colon(text)?;
+    let (stream, rest) = split_at_colon(rest)?;
+    let (after, issued) = split_at_colon(rest)?;
     if kind == KIND {
         from_fields(stream, after, issued)
     } else {
@@ -60,7 +60,8 @@ fn in_text(text: &[u8]) -> Option<Page>
     }
 }
 
-/// The place in a listing whose token the text is. `None` exactly where it is no listing's token.
+/// The position in a listing of shards that the token stands for. `None` exactly if the text isn't the token of a
+/// listing.
 pub fn read_page(alloc: Global, text: &[u8]) -> Result<Option<Page>, Memory>
     ensures exact { IfOk result (λ o. ReadsAsPage text.now o) }
     ensures value { IfOk result (λ o. o ≡ page_of text.now) }

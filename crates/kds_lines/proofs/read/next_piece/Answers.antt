@@ -1,7 +1,7 @@
 use Rattle.std.proofs.Common.{◌++◌}
 use Rattle.std.proofs.KnownBytes.{Consumes-trans}
 use Rattle.kds_lines.proofs.Feeds.{halted_read, halted_written, fed_lost, stands_written}
-use Rattle.kds_lines.proofs.read.step.Goals as goal
+use Rattle.kds_lines.proofs.read.next_piece.Goals as goal
 
 pub returns-in-Err-clause-err : goal.returns-in-Err-clause-err
 returns-in-Err-clause-err g c = λ all start r.

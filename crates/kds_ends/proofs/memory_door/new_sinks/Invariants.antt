@@ -1,0 +1,5 @@
+use Rattle.std.proofs.Common.{◌≡◌, length}
+use Rattle.kds_ends.proofs.memory_door.new_sinks.Given as goal
+
+abbrev pub invariant-loop-made : goal.invariant-loop-made
+invariant-loop-made l = length l.sinks.items ≡ l.made
