@@ -7,22 +7,22 @@ ghost use Rattle.kds_defs.specs.Streams.{floor_of};
 ghost use Rattle.kds_log.specs.Log.{first_arrival, first_number, log_of, since, FirstFits, IsLeast, IsOrderly};
 
 use crate::batch::batch_from;
-use crate::place::{drop_below, first_since, place};
 use crate::record::floor_of;
+use crate::search::{drop_below, first_index, first_since};
 use kds_base::{Items, Memory, Moment, Seq};
 use kds_defs::Stored;
 use std::alloc::Global;
 use std::collections::VecDeque;
 use std::marker::Model;
 
-/// The records of a shard that are kept, in the order of their numbers. A record that arrived at or before the
-/// cut counts as trimmed also where it is still kept. Contracts see the kept records, the greatest number ever
-/// appended, and for how many records more memory is reserved.
+/// The kept records of a shard, in the order of their numbers. A record that arrived at or before the cut counts as
+/// trimmed, even while the log still keeps it. Contracts see the kept records, the greatest number ever appended, and
+/// the number of further records for which memory is reserved.
 #[derive(Drop)]
 pub struct ShardLog {
     records: VecDeque<Stored>,
     last: Option<Seq>,
-    /// For how many records more memory is reserved.
+    /// The number of further records for which memory is reserved.
     reserved: usize,
 }
 
@@ -41,8 +41,8 @@ impl Model for ShardLog {
 }
 
 impl ShardLog {
-    /// The empty log of a shard. Nothing here depends on the shard's starting number, which is at or below the
-    /// numbers to come.
+    /// The empty log of a shard. It doesn't depend on the shard's starting number, which is at most the number of each
+    /// record to come.
     pub fn new(alloc: Global, _start: Seq) -> ShardLog
         ensures { log_of result ≡ record { kept = []; last = None } }
     {
@@ -53,8 +53,9 @@ impl ShardLog {
         }
     }
 
-    /// Adds a record, whose number is above all before and which arrived no earlier than they did. After
-    /// `Memory` the log is as before. What was reserved is given up.
+    /// Appends a record. Precondition: the record's number is greater than every number appended before, and the
+    /// record arrived no earlier than any kept record. After `Memory` the log is as before. The reservation of memory
+    /// is given up in any case.
     pub fn append(&mut self, item: Stored) -> Result<(), Memory>
         requires number { IfSome self.old.last (λ n. n < item.seq) }
         requires arrival { AllByRecursion (λ r. r.arrival ≤ item.arrival) self.old.kept }
@@ -72,7 +73,8 @@ impl ShardLog {
         }
     }
 
-    /// Reserves memory for one record more than it is reserved for. The log is as before, whatever the answer.
+    /// Reserves memory for one further record, in addition to earlier reservations. The log is as before, even after
+    /// `Memory`.
     pub fn reserve_one(&mut self) -> Result<(), Memory>
         ensures same { log_of self.new ≡ log_of self.old }
         ensures room { OnOk result (self.new.room ≡ self.old.room + 1) }
@@ -83,7 +85,7 @@ impl ShardLog {
         Ok(())
     }
 
-    /// Gives up what was reserved. The log is as before.
+    /// Gives up the reservation of memory. The records are as before.
     pub fn release(&mut self)
         ensures same { log_of self.new ≡ log_of self.old }
         ensures none { self.new.room ≡ 0 }
@@ -91,7 +93,7 @@ impl ShardLog {
         self.reserved = 0;
     }
 
-    /// Adds a record as `append` does, in memory that was reserved.
+    /// Appends a record as `append` does, but in reserved memory, so that memory can't run out.
     pub fn append_reserved(&mut self, item: Stored)
         requires room { 1 ≤ self.old.room }
         requires number { IfSome self.old.last (λ n. n < item.seq) }
@@ -104,8 +106,8 @@ impl ShardLog {
         self.reserved -= 1;
     }
 
-    /// Removes the records that arrived at or before the cut, and no others. What was reserved is given up, and a log
-    /// without records keeps no memory.
+    /// Removes exactly the records that arrived at or before the cut. The reservation is given up, and an empty log
+    /// keeps no memory.
     pub fn trim(&mut self, cut: Moment)
         ensures none { self.new.room ≡ 0 }
         ensures value { log_of self.new ≡ record { kept = left_among (floor_of (Some cut)) 0 self.old.kept; last = self.old.last } }
@@ -114,9 +116,9 @@ impl ShardLog {
         drop_below(&mut self.records, floor_of(Some(cut)));
     }
 
-    /// The longest beginning of the untrimmed records at or above the position, of at most `limit` records and
-    /// `BATCH_BYTES` payload and key bytes together (Kinesis API Reference, GetRecords). It isn't empty where a record may be
-    /// in it and the first one that is left has at most that many.
+    /// The longest run of untrimmed records from `position` on that has at most `limit` records, and whose payloads
+    /// and keys together have at most `BATCH_BYTES` bytes (Kinesis API Reference, GetRecords). It isn't empty if
+    /// `limit` is at least 1 and the first untrimmed record from `position` on fits in `BATCH_BYTES`.
     pub fn batch(
         &self,
         alloc: Global,
@@ -128,24 +130,25 @@ impl ShardLog {
         ensures some { 1 ≤ limit → FirstFits BATCH_BYTES (left_among (floor_of cut) position self.now.kept) → IfOk result (λ b. b ≢ []) }
         ensures orderly { IsOrderly (log_of self.now) }
     {
-        let start = place(&self.records, floor_of(cut), position);
+        let start = first_index(&self.records, floor_of(cut), position);
         batch_from(alloc, &self.records, start, limit)
     }
 
-    /// When the first untrimmed record at or above the position arrived. `None` exactly where there is none.
+    /// The arrival time of the first untrimmed record whose number is at least `position`, or `None` if there is no
+    /// such record.
     pub fn first_left(&self, cut: Option<Moment>, position: u64) -> Option<Moment>
         ensures value { result ≡ first_arrival (left_among (floor_of cut) position self.now.kept) }
         ensures orderly { IsOrderly (log_of self.now) }
     {
-        let start = place(&self.records, floor_of(cut), position);
+        let start = first_index(&self.records, floor_of(cut), position);
         match self.records.get(start) {
             Some(item) => Some(item.arrival),
             None => None,
         }
     }
 
-    /// The least number of an untrimmed record that arrived at or after the moment (Kinesis API Reference,
-    /// GetShardIterator, AT_TIMESTAMP). `None` exactly where there is none.
+    /// The least number of the untrimmed records that arrived at or after `moment`, or `None` if there is no such
+    /// record (Kinesis API Reference, GetShardIterator, AT_TIMESTAMP).
     pub fn at_time(&self, cut: Option<Moment>, moment: Moment) -> Option<Seq>
         ensures least { IsLeast (numbers_of (since moment (left_among (floor_of cut) 0 self.now.kept))) result }
         ensures value { result ≡ first_number (since moment (left_among (floor_of cut) 0 self.now.kept)) }
@@ -154,7 +157,8 @@ impl ShardLog {
         first_since(&self.records, floor_of(cut).max(moment.ms()))
     }
 
-    /// The greatest number ever appended, also where its record is trimmed. `None` exactly where there was none.
+    /// The greatest number that was ever appended, even if its record has been trimmed. `None` before the first
+    /// record.
     pub fn last(&self) -> Option<Seq>
         ensures value { result ≡ self.now.last }
         ensures orderly { IsOrderly (log_of self.now) }

@@ -1,5 +1,5 @@
 use Rattle.std.proofs.Common.{rules}
-use Rattle.kds_log.proofs.place.drop_below.Goals as goal
+use Rattle.kds_log.proofs.search.drop_below.Goals as goal
 
 pub returns-clause-freed : goal.returns-clause-freed
 returns-clause-freed c = search rules
