@@ -16,6 +16,8 @@ use Rattle.std.specs.List.{AllByRecursion, filter}
 use Rattle.std.specs.List.Sorted.{IsNonDecreasingBy, IsPermutation}
 use Rattle.std.proofs.lemmas.Bool.{and_parts}
 use Rattle.kds_tree.specs.Families.{AreFamilies}
+use Rattle.kds_tree.specs.Front.{AreExpired}
+use Rattle.kds_tree.proofs.FrontLemmas.{front_append, front_set, open_beyond}
 use Rattle.kds_tree.specs.Starts.{AreStarts, own_start, stays}
 use Rattle.kds_tree.specs.declared.start.OpenStart.{OpenStart}
 use Rattle.kds_tree.proofs.Families.{after_birth, merge_families, split_families}
@@ -304,6 +306,25 @@ both_known xs firsts kept sh other range joint answer families is =
     let can = can_merge xs sh other (answered (merge_refusal xs sh other) range joint answer).0 in
     let long : length kept ≡ length xs = ap length is ∙ families.long in
     (omega (arith, slice_get_within xs sh can.state can.made, long), omega (arith, slice_get_within xs other can.beside can.other_made, long))
+
+-- the expired shards at the front stay, as only open shards are closed
+pub front_split : (xs zs : List ShardState) (sh i at f n : ℕ) (ranges : Span × Span) (low high y : ShardState)
+    → Ok ranges ≡ answer_by (split_refusal xs sh at) (halves (range_of (slice_get xs sh)) at) → i ≡ sh → zs ≡ xs ++ low ∷ high ∷ []
+    → AreExpired f n xs → AreExpired f n (slice_set zs i y)
+front_split xs zs sh i at f n ranges low high y answer is_i is front =
+    let can = can_split xs sh at (answered (split_refusal xs sh at) ranges (halves (range_of (slice_get xs sh)) at) answer).0 in
+    let beyond : n ≤ sh = open_beyond f n sh xs can.state can.made can.is_open_now front in
+    front_set f n i zs y (omega (arith, beyond, is_i)) (subst (AreExpired f n) (sym is) (front_append f n xs (low ∷ high ∷ []) front))
+
+pub front_merge : (xs zs : List ShardState) (sh other i j f n : ℕ) (range joint : Span) (child y z : ShardState)
+    → Ok range ≡ answer_by (merge_refusal xs sh other) joint → i ≡ sh → j ≡ other → zs ≡ xs ++ child ∷ []
+    → AreExpired f n xs → AreExpired f n (slice_set (slice_set zs i y) j z)
+front_merge xs zs sh other i j f n range joint child y z answer is_i is_j is front =
+    let can = can_merge xs sh other (answered (merge_refusal xs sh other) range joint answer).0 in
+    let beyond : n ≤ sh = open_beyond f n sh xs can.state can.made can.is_open_now front in
+    let beyond' : n ≤ other = open_beyond f n other xs can.beside can.other_made can.other_open front in
+    front_set f n j (slice_set zs i y) z (omega (arith, beyond', is_j))
+    (front_set f n i zs y (omega (arith, beyond, is_i)) (subst (AreExpired f n) (sym is) (front_append f n xs (child ∷ []) front)))
 
 -- the value after an accepted call
 by_none : (o : Option Refusal) (before after zs : List ShardState) → o ≡ None → zs ≡ after → zs ≡ value_by o before after

@@ -1,4 +1,5 @@
-//! Where the children of shards stand: those of one shard are two at most, and stand together.
+//! An index that finds the children of a shard. A shard has at most two children, which are adjacent in the list of
+//! shards (decision 118).
 ghost use Rattle.std.specs.Prelude.{◌≡◌, ◌<◌, ◌≤◌, drop, length, map, replicate, slice_get, slice_set, take, vec_capacity, vec_len, IfOk, None, Some};
 ghost use Rattle.kds_defs.specs.Shards.{children_among, shown};
 ghost use Rattle.kds_tree.specs.Families.{AreFamilies, told_of};
@@ -8,14 +9,15 @@ use kds_base::{Items, Memory, ShardNo};
 use kds_defs::Shard;
 use std::alloc::Global;
 
-/// The first children of so many shards that have none.
+/// The index for `count` shards that have no children.
 pub fn no_children(alloc: Global, count: usize) -> Result<Vec<Option<ShardNo>>, Memory>
     ensures { IfOk result (λ them. them.items ≡ replicate count None) }
 {
     Ok(Vec::from_elem(alloc, None, count)?)
 }
 
-/// Shards among which all children of one are, from what is known of the first child of each: two at most.
+/// At most two shards that include all children of shard `no`. They are found with `first_children`, the list of each
+/// shard's first child.
 pub fn family_of<'a>(
     shards: &'a [KeptShard],
     first_children: &[Option<ShardNo>],
@@ -30,7 +32,7 @@ pub fn family_of<'a>(
     }
 }
 
-/// The first child of a shard, where it was made and has one.
+/// The first child of shard `no`, or `None` if the shard doesn't exist or has no child.
 fn first_child(first_children: &[Option<ShardNo>], no: ShardNo) -> Option<ShardNo>
     ensures { result ≡ told_of (slice_get first_children.now no) }
 {
@@ -40,7 +42,7 @@ fn first_child(first_children: &[Option<ShardNo>], no: ShardNo) -> Option<ShardN
     }
 }
 
-/// The shard of a number and the one behind it, as far as they are there.
+/// The shard with the number `first` and the shard after it, if they exist.
 fn pair_at(shards: &[KeptShard], first: ShardNo) -> &[KeptShard]
     ensures { result.now ≡ take 2 (drop first shards.now) }
 {
@@ -49,7 +51,7 @@ fn pair_at(shards: &[KeptShard], first: ShardNo) -> &[KeptShard]
     pair
 }
 
-/// Those of these shards whose parent or adjacent parent is the one of this number, as they are shown.
+/// The shards among `shards` whose parent or adjacent parent is shard `no`, as replies show them.
 pub fn children_in(alloc: Global, shards: &[KeptShard], no: ShardNo) -> Result<Items<Shard>, Memory>
     ensures { IfOk result (λ children. children ≡ map shown (children_among no shards.now)) }
 {
@@ -62,7 +64,7 @@ pub fn children_in(alloc: Global, shards: &[KeptShard], no: ShardNo) -> Result<I
     Ok(children)
 }
 
-/// Writes down the first child of two shards.
+/// Records `child` as the first child of the shards `shard` and `other`.
 pub fn set_first_child(
     first_children: &mut Vec<Option<ShardNo>>,
     shard: ShardNo,

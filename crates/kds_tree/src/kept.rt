@@ -10,7 +10,7 @@ use kds_base::{Moment, Range, Seq, ShardNo};
 use kds_defs::Shard;
 use std::marker::Model;
 
-/// A shard, and when it was closed. Contracts see all that is known of it.
+/// A shard, and the moment at which it was closed, if it is closed. Contracts see all its values.
 #[derive(Clone, Copy)]
 pub struct KeptShard {
     shard: Shard,
@@ -34,7 +34,7 @@ impl Model for KeptShard {
 }
 
 impl KeptShard {
-    /// An open shard.
+    /// A new open shard.
     pub fn new(
         no: ShardNo,
         range: Range,
@@ -57,21 +57,21 @@ impl KeptShard {
         }
     }
 
-    /// As it is shown.
+    /// The shard as replies show it.
     pub fn shard(&self) -> &Shard
         ensures { result.now ≡ shown self.now }
     {
         &self.shard
     }
 
-    /// Its range of hash keys.
+    /// The shard's range of hash keys.
     pub fn range(&self) -> Range
         ensures { result ≡ self.now.range }
     {
         self.shard.range
     }
 
-    /// Where its range starts.
+    /// The shard's number, and the hash key at which its range starts.
     pub fn start(&self) -> OpenStart
         ensures { result ≡ start_of self.now self.now.no }
     {
@@ -81,21 +81,21 @@ impl KeptShard {
         }
     }
 
-    /// Whether it takes records: it wasn't split or merged.
+    /// Whether the shard is open, so that it accepts records: it hasn't been split or merged.
     pub fn is_open(&self) -> bool
         ensures { result ≡ is_open self.now }
     {
         self.closed.is_none()
     }
 
-    /// Whether a shard is its parent or its adjacent parent.
+    /// Whether shard `no` is the parent or the adjacent parent of this shard.
     pub fn is_child_of(&self, no: ShardNo) -> bool
         ensures { result ≡ is_child no self.now }
     {
         self.shard.parent == Some(no) || self.shard.adjacent == Some(no)
     }
 
-    /// Whether it was closed at or before the cut.
+    /// Whether the shard has expired at the cut: it was closed at or before the cut.
     pub fn is_expired(&self, cut: &Option<Moment>) -> bool
         ensures { result ≡ is_closed_below (floor_of cut.now) self.now }
     {
@@ -105,7 +105,7 @@ impl KeptShard {
         }
     }
 
-    /// Closes it.
+    /// Closes the shard at `clock`, with the ending sequence number `seq`.
     pub fn close(&mut self, seq: Seq, clock: Moment)
         ensures { self.new ≡ record self.old { closing = Some (record { number = seq; clock = clock }) } }
     {

@@ -1,5 +1,5 @@
-//! The shards of a stream: their making, the home of a key, listings, splits and merges.
-ghost use Rattle.std.specs.Prelude.{◌≡◌, ◌+◌, ◌-◌, ◌^◌, ◌<◌, ◌≤◌, ℕ, min, length, map, take, slice_get, Some, IsSome, IfOk, IfSome, OnOk, OnErr, IsOk};
+//! The shards of a stream: creation, finding the shard of a hash key, listings, splits and merges.
+ghost use Rattle.std.specs.Prelude.{◌≡◌, ◌+◌, ◌-◌, ◌^◌, ◌<◌, ◌≤◌, ℕ, drop, min, length, map, take, slice_get, Some, IsSome, IfOk, IfSome, OnOk, OnErr, IsOk};
 ghost use Rattle.std.specs.List.{AllByRecursion, filter};
 ghost use Rattle.std.specs.Option.{option_map};
 ghost use Rattle.kds_base.specs.Span.{joined};
@@ -14,28 +14,33 @@ ghost use Rattle.kds_tree.specs.Starts.{AreStarts, starting_keys};
 ghost use Rattle.kds_tree.specs.Tree.{IsHome, IsWithinKeys, after_merge, after_split, answer_by, merge_refusal, split_parts, split_refusal, was_expired};
 
 use crate::family::{children_in, family_of, no_children, set_first_child};
+use crate::front::{ExpiredFront, moved_on, passed_at};
 use crate::kept::KeptShard;
-use crate::start::{OpenStart, home_of, put_in_order, take_away};
+use crate::start::{OpenStart, home_of, remove_starts, sort_starts};
 use kds_base::{Items, Memory, Moment, Range, Seq, ShardNo};
 use kds_defs::{Refusal, Shard};
 use std::alloc::Global;
 use std::marker::Model;
 
-/// The shards of one stream in the order of their numbers, which begin with 0. Contracts see all that is
-/// known of each, and for how many shards more there is memory. At every moment the ranges of the open ones
-/// partition the hash keys.
+/// The shards of one stream in the order of their numbers, from 0. Contracts see the values of each shard, and the
+/// number of further shards for which memory is reserved. The ranges of the open shards always partition the hash
+/// keys.
 #[derive(Drop)]
 pub struct ShardTree {
     shards: Vec<KeptShard>,
-    /// The starts of the open shards, in order.
+    /// The starts of the open shards, in rising order.
     starts: Vec<OpenStart>,
-    /// The first child of each shard, in the order of their numbers, where it has one.
+    /// The first child of each shard, if any, in the order of the shards' numbers (decision 118).
     first_children: Vec<Option<ShardNo>>,
+    /// The expired shards at the front of the stream.
+    front: ExpiredFront,
 }
 
 impl Model for ShardTree {
     ghost use Rattle.std.specs.Prelude.{min, vec_capacity, vec_len, ◌-◌};
+    ghost use Rattle.kds_defs.specs.Streams.{floor_of};
     ghost use Rattle.kds_tree.specs.Families.{AreFamilies};
+    ghost use Rattle.kds_tree.specs.Front.{AreExpired};
     ghost use Rattle.kds_tree.specs.Starts.{AreStarts};
     ghost use Rattle.kds_tree.specs.Tree.{IsTree, TreeValue};
 
@@ -46,11 +51,12 @@ impl Model for ShardTree {
       spare = min (vec_capacity t.shards - vec_len t.shards) (min (vec_capacity t.starts - vec_len t.starts) (vec_capacity t.first_children - vec_len t.first_children));
     } };
 
-    ghost invariant = { λ t. IsTree t.shards.items × AreStarts t.starts.items t.shards.items × AreFamilies t.first_children.items t.shards.items };
+    ghost invariant = { λ t. IsTree t.shards.items × AreStarts t.starts.items t.shards.items × AreFamilies t.first_children.items t.shards.items
+        × AreExpired (floor_of t.front.cut) t.front.count t.shards.items };
 }
 
 impl ShardTree {
-    /// The shards of a new stream: `n` of them, with uniform ranges.
+    /// The shards of a new stream: `n` open shards with uniform ranges.
     pub fn new(alloc: Global, n: u32) -> Result<ShardTree, Memory>
         requires least { 1 ≤ n }
         requires most { n ≤ MOST_SHARDS }
@@ -67,10 +73,14 @@ impl ShardTree {
             shards,
             starts,
             first_children,
+            front: ExpiredFront {
+                count: 0,
+                cut: None,
+            },
         })
     }
 
-    /// How many shards were made, the closed ones included.
+    /// The number of shards that were ever made, including closed shards.
     pub fn len(&self) -> u64
         ensures value { result ≡ length self.now.shards }
         ensures numbered { AreNumbered 0 self.now.shards }
@@ -81,14 +91,14 @@ impl ShardTree {
         self.shards.len() as u64
     }
 
-    /// How many shards are open, and the greatest number of a `u32` where they are more.
+    /// The number of open shards, or `u32::MAX` if there are more.
     pub fn open_count(&self) -> u32
         ensures { result ≡ min (length (filter is_open self.now.shards)) (2 ^ 32 - 1) }
     {
         self.starts.len().min(u32::MAX as usize) as u32
     }
 
-    /// The shard of this number. `None` exactly where it was never made.
+    /// The shard with the number `no`. `None` exactly if it was never made.
     pub fn shard(&self, no: ShardNo) -> Option<&Shard>
         ensures value { option_map (λ s. s.now) result ≡ option_map shown (slice_get self.now.shards no) }
         ensures numbered { IfSome result (λ s. s.now.no ≡ no) }
@@ -96,7 +106,7 @@ impl ShardTree {
         shown_at(&self.shards, no)
     }
 
-    /// The open shard whose range contains the key.
+    /// The open shard whose range contains the hash key `hash`.
     pub fn home(&self, hash: u128) -> ShardNo
         ensures value { result ≡ home_among (filter is_open self.now.shards) hash }
         ensures found { IsHome self.now.shards hash result }
@@ -105,7 +115,7 @@ impl ShardTree {
         home_of(&self.starts, hash)
     }
 
-    /// Whether the shard was closed at or before the cut.
+    /// Whether the shard has expired at the cut: it was closed at or before the cut.
     pub fn expired(&self, no: ShardNo, cut: Option<Moment>) -> bool
         ensures { result ≡ was_expired (floor_of cut) (slice_get self.now.shards no) }
     {
@@ -115,8 +125,8 @@ impl ShardTree {
         }
     }
 
-    /// At most `limit` of the shards that aren't expired at the cut and come after a number, in order, and
-    /// whether more of them follow (Kinesis API Reference, ListShards).
+    /// At most `limit` shards that haven't expired at the cut, in order and beginning after the shard `after`; and
+    /// whether more such shards follow (Kinesis API Reference, ListShards).
     pub fn listed(
         &self,
         cut: Option<Moment>,
@@ -128,11 +138,21 @@ impl ShardTree {
         ensures more { let xs = map shown (filter (is_after_shard after) (listed_among (floor_of cut) self.now.shards))
             in IfOk result (λ r. r.1 ≡ are_more limit xs) }
     {
-        let behind = shards_behind(&self.shards, after);
-        page_of(*self.shards.allocator(), behind, &cut, limit)
+        let passed = passed_at(&self.front, &self.shards, &cut);
+        let start = start_behind(&self.shards, after).max(passed);
+        let (_, shards) = self.shards.split_at(start);
+        page_of(*self.shards.allocator(), shards, &cut, limit)
     }
 
-    /// The children of a shard in order: it is their parent or their adjacent parent.
+    /// Remembers how many shards at the front of the stream have expired at the cut, so that listings can skip them.
+    /// The shards themselves are unchanged.
+    pub fn pass_expired(&mut self, cut: Option<Moment>)
+        ensures { self.new ≡ self.old }
+    {
+        self.front = moved_on(&self.front, &self.shards, cut);
+    }
+
+    /// The children of shard `no`, in order: the shards whose parent or adjacent parent is shard `no`.
     pub fn children(&self, no: ShardNo) -> Result<Items<Shard>, Memory>
         ensures { IfOk result (λ shards. shards ≡ map shown (children_among no self.now.shards)) }
     {
@@ -140,7 +160,7 @@ impl ShardTree {
         children_in(*self.shards.allocator(), family, no)
     }
 
-    /// Where the ranges of the open shards start, in rising order: the starts of a partition of the hash keys.
+    /// The hash keys at which the ranges of the open shards start, in rising order.
     pub fn starts(&self) -> Result<Items<u128>, Memory>
         ensures value { IfOk result (λ starts. starts ≡ starts_among (filter is_open self.now.shards)) }
         ensures partition { scaling.AreStarts (starts_among (filter is_open self.now.shards)) }
@@ -148,7 +168,7 @@ impl ShardTree {
         keys_of(*self.shards.allocator(), &self.starts)
     }
 
-    /// Takes memory for so many shards more. The shards are as before, whatever the answer.
+    /// Reserves memory for `shards` further shards. The existing shards are unchanged, even after `Memory`.
     pub fn reserve(&mut self, shards: u32) -> Result<(), Memory>
         ensures same { self.new.shards ≡ self.old.shards }
         ensures spare { OnOk result (shards ≤ self.new.spare) }
@@ -160,7 +180,7 @@ impl ShardTree {
         Ok(())
     }
 
-    /// The two ranges of a split, or why it is refused.
+    /// The ranges of the two children of a split, or the reason why the split is refused.
     fn split_ranges(&self, shard: ShardNo, at: u128) -> Result<(Range, Range), Refusal>
         ensures { result ≡ answer_by (split_refusal self.now.shards shard at) (split_parts self.now.shards shard at) }
     {
@@ -171,17 +191,17 @@ impl ShardTree {
         }
     }
 
-    /// Why a split of the shard at the key is refused, if it is: `NoShard` where it was never made,
-    /// `ShardClosed` where it is closed, `BadSplit` where a part would be empty.
+    /// The reason why a split of the shard at the hash key `at` is refused, or `None` if it isn't: `NoShard` if the
+    /// shard was never made, `ShardClosed` if it is closed, `BadSplit` if one part of its range would be empty.
     pub fn split_refusal(&self, shard: ShardNo, at: u128) -> Option<Refusal>
         ensures { result ≡ split_refusal self.now.shards shard at }
     {
         self.split_ranges(shard, at).err()
     }
 
-    /// Splits a shard at a key, by a line that drew the number `seq` at `clock`: the shard is closed, and
-    /// its children come last, the lower one first. Refused as `split_refusal` says. With memory reserved for
-    /// two shards it doesn't answer `Memory` (Kinesis API Reference, SplitShard).
+    /// Splits a shard at the hash key `at`. The shard is closed at `clock` with the sequence number `seq`, and its two
+    /// children are added at the end, the lower child first. `split_refusal` says when the split is refused. If memory
+    /// is reserved for two shards, `Memory` isn't returned (Kinesis API Reference, SplitShard).
     pub fn split(
         &mut self,
         shard: ShardNo,
@@ -210,17 +230,17 @@ impl ShardTree {
         self.first_children.reserve(2)?;
         self.shards.extend_from_slice(&[lower_child, upper_child])?;
         self.shards[shard.0 as usize].close(seq, clock);
-        take_away(&mut self.starts, shard, shard);
+        remove_starts(&mut self.starts, shard, shard);
         self.starts.push_reserved(lower_child.start());
         self.starts.push_reserved(upper_child.start());
-        put_in_order(&mut self.starts);
+        sort_starts(&mut self.starts);
         set_first_child(&mut self.first_children, shard, shard, low);
         self.first_children.push_reserved(None);
         self.first_children.push_reserved(None);
         Ok(Ok((low, high)))
     }
 
-    /// The range of a merge, or why it is refused.
+    /// The range of the child of a merge, or the reason why the merge is refused.
     fn merged_range(&self, shard: ShardNo, other: ShardNo) -> Result<Range, Refusal>
         ensures { result ≡ answer_by (merge_refusal self.now.shards shard other)
             (joined (range_of (slice_get self.now.shards shard)) (range_of (slice_get self.now.shards other))) }
@@ -242,18 +262,18 @@ impl ShardTree {
         }
     }
 
-    /// Why a merge of the shard with the other is refused, if it is: `NoShard` where one was never made,
-    /// `ShardClosed` where one is closed, `NotAdjacent` where neither range starts right after the other.
+    /// The reason why a merge of the shards `shard` and `other` is refused, or `None` if it isn't: `NoShard` if either
+    /// was never made, `ShardClosed` if either is closed, `NotAdjacent` if neither shard's range starts right after
+    /// the other's ends.
     pub fn merge_refusal(&self, shard: ShardNo, other: ShardNo) -> Option<Refusal>
         ensures { result ≡ merge_refusal self.now.shards shard other }
     {
         self.merged_range(shard, other).err()
     }
 
-    /// Merges a shard with the one beside it, by a line that drew the number `seq` at `clock`: both are
-    /// closed, and their child comes last, with the shard as its parent and the other as its adjacent
-    /// parent. Refused as `merge_refusal` says. With memory reserved for a shard it doesn't answer `Memory`
-    /// (Kinesis API Reference, MergeShards).
+    /// Merges two adjacent shards. Both are closed at `clock` with the sequence number `seq`, and their child is added
+    /// at the end; its parent is `shard`, its adjacent parent `other`. `merge_refusal` says when the merge is refused.
+    /// If memory is reserved for one shard, `Memory` isn't returned (Kinesis API Reference, MergeShards).
     pub fn merge(
         &mut self,
         shard: ShardNo,
@@ -281,16 +301,16 @@ impl ShardTree {
         self.shards.push(born)?;
         self.shards[shard.0 as usize].close(seq, clock);
         self.shards[other.0 as usize].close(seq, clock);
-        take_away(&mut self.starts, shard, other);
+        remove_starts(&mut self.starts, shard, other);
         self.starts.push_reserved(born.start());
-        put_in_order(&mut self.starts);
+        sort_starts(&mut self.starts);
         set_first_child(&mut self.first_children, shard, other, child);
         self.first_children.push_reserved(None);
         Ok(Ok(child))
     }
 }
 
-/// The starts of the open ones of these shards, in order.
+/// The starts of the open shards among `shards`, in rising order.
 fn open_starts(alloc: Global, shards: &[KeptShard]) -> Result<Vec<OpenStart>, Memory>
     ensures { AreNumbered 0 shards.now → IfOk result (λ starts. AreStarts starts.items shards.now) }
 {
@@ -300,11 +320,11 @@ fn open_starts(alloc: Global, shards: &[KeptShard]) -> Result<Vec<OpenStart>, Me
             starts.push(kept.start())?;
         }
     }
-    put_in_order(&mut starts);
+    sort_starts(&mut starts);
     Ok(starts)
 }
 
-/// The keys of these starts.
+/// The hash keys of the starts, in the same order.
 fn keys_of(alloc: Global, starts: &[OpenStart]) -> Result<Items<u128>, Memory>
     ensures { IfOk result (λ keys. keys ≡ starting_keys starts.now) }
 {
@@ -315,19 +335,20 @@ fn keys_of(alloc: Global, starts: &[OpenStart]) -> Result<Items<u128>, Memory>
     Ok(keys)
 }
 
-/// The shards behind the one of a number, and all of them where there is no number: each stands at its own.
-fn shards_behind(shards: &[KeptShard], after: Option<ShardNo>) -> &[KeptShard]
-    ensures { AreNumbered 0 shards.now → result.now ≡ filter (is_after_shard after) shards.now }
+/// The index of the shard that follows the shard with the number `after`, or 0 if `after` is `None`. A shard's number
+/// is its index.
+fn start_behind(shards: &[KeptShard], after: Option<ShardNo>) -> usize
+    ensures there { result ≤ length shards.now }
+    ensures behind { AreNumbered 0 shards.now → drop result shards.now ≡ filter (is_after_shard after) shards.now }
 {
-    let from = match after {
+    match after {
         Some(no) if (no.0 as usize) < shards.len() => no.0 as usize + 1,
         Some(_) => shards.len(),
         None => 0,
-    };
-    shards.split_at(from).1
+    }
 }
 
-/// At most `limit` of the shards that aren't expired at the cut, and whether more of them follow.
+/// At most `limit` shards that haven't expired at the cut, in order; and whether more such shards follow.
 fn page_of(
     alloc: Global,
     shards: &[KeptShard],
@@ -349,7 +370,7 @@ fn page_of(
     Ok((listed, false))
 }
 
-/// The shard of this number as it is shown.
+/// The shard with the number `no`, as replies show it.
 fn shown_at(shards: &[KeptShard], no: ShardNo) -> Option<&Shard>
     ensures { option_map (λ s. s.now) result ≡ option_map shown (slice_get shards.now no) }
 {

@@ -3,12 +3,14 @@ use Rattle.std.specs.List.{filter}
 use Rattle.std.specs.Vec.{vec_len}
 use Rattle.kds_defs.specs.Shards.{ShardState, Closing}
 use Rattle.std.specs.Prelude.{slice_set}
+use Rattle.kds_defs.specs.Streams.{floor_of}
 use Rattle.kds_tree.specs.Families.{AreFamilies}
+use Rattle.kds_tree.specs.Front.{AreExpired}
 use Rattle.kds_tree.specs.Starts.{AreStarts, own_start, stays}
 use Rattle.kds_tree.specs.Tree.{IsTree, TreeValue}
 use Rattle.kds_tree.proofs.Families.{one_place}
 use Rattle.kds_tree.proofs.OpenStarts.{one_more}
-use Rattle.kds_tree.proofs.Reshards.{both_known, both_within, merges, merge_value, refused_answer, refused_value}
+use Rattle.kds_tree.proofs.Reshards.{both_known, both_within, front_merge, merges, merge_value, refused_answer, refused_value}
 use Rattle.kds_tree.proofs.tree.ShardTree.merge.Goals as goal
 
 pub invariant_of-self-2 : goal.invariant_of-self-2
@@ -21,18 +23,22 @@ invariant_of-self-2 c =
     c.in-Ok.ensures c.shard.view_is c.other.view_is c.len.ensures.value c.seq.view_is c.new-born.ensures pushed c.index_mut.ensures.value c.close.ensures c.index_mut-2.ensures.value c.close-2.ensures in
     let ss = c.self.inside.starts.items in
     let starts : AreStarts ss xs = subst (AreStarts ss) (ap (λ (t : TreeValue). t.shards) c.self.view_is) c.self.invariant.1 in
-    let away = one_more (filter (stays c.args.shard c.args.other) ss) c.take_away.new.starts.items c.push_reserved.new.self.items c.start.result (own_start born)
-    (c.take_away.ensures.left ∙ ap (filter (stays c.args.shard c.args.other)) c.reserve.ensures.items) c.push_reserved.ensures.items c.start.ensures in
+    let away = one_more (filter (stays c.args.shard c.args.other) ss) c.remove_starts.new.starts.items c.push_reserved.new.self.items c.start.result (own_start born)
+    (c.remove_starts.ensures.left ∙ ap (filter (stays c.args.shard c.args.other)) c.reserve.ensures.items) c.push_reserved.ensures.items c.start.ensures in
     let tree = subst IsTree (ap (λ (t : TreeValue). t.shards) c.self.view_is) c.self.invariant.0 in
     let firsts = c.self.inside.first_children.items in
     let families : AreFamilies firsts xs = subst (AreFamilies firsts) (ap (λ (t : TreeValue). t.shards) c.self.view_is) c.self.invariant.2 in
+    let front : AreExpired (floor_of c.self.inside.front.cut) c.self.inside.front.count xs =
+    subst (AreExpired (floor_of c.self.inside.front.cut) c.self.inside.front.count) (ap (λ (t : TreeValue). t.shards) c.self.view_is) c.self.invariant.3 in
     let places = one_place firsts c.reserve-2.new.self.items c.set_first_child.new.first_children.items
     c.push_reserved-2.new.self.items c.args.shard c.args.other c.len.result _
     c.reserve-2.ensures.items c.set_first_child.ensures.items c.len.ensures.value c.push_reserved-2.ensures.items in
     let zs = slice_set (slice_set c.push.new.self.items c.shard.inside.0 c.close.new.self) c.other.inside.0 c.close-2.new.self in (
       s.tree tree,
-      s.starts tree ss c.push_reserved.new.self.items c.put_in_order.new.starts.items starts away c.put_in_order.ensures.same c.put_in_order.ensures.order,
+      s.starts tree ss c.push_reserved.new.self.items c.sort_starts.new.starts.items starts away c.sort_starts.ensures.same c.sort_starts.ensures.order,
       subst (λ (fs : List (Option ℕ)). AreFamilies fs zs) (sym places) (s.families firsts families),
+      front_merge xs c.push.new.self.items c.args.shard c.args.other c.shard.inside.0 c.other.inside.0 (floor_of c.self.inside.front.cut) c.self.inside.front.count c.in-Ok.range _ born c.close.new.self c.close-2.new.self
+          c.in-Ok.ensures c.shard.view_is c.other.view_is pushed front,
     )
 
 pub set_first_child-requires-clause-shard : goal.set_first_child-requires-clause-shard
