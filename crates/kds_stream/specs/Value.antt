@@ -1,6 +1,7 @@
 -- What contracts see of a stream.
-use Rattle.std.specs.Prelude.{ℕ, ◌≡◌, ◌+◌, ◌<◌, ◌≤◌, ◌-◌, ◌*◌, ◌^◌, max, Bool, false, not, nat_lt, if◌then◌else◌, List, length, Option, Some, None}
+use Rattle.std.specs.Prelude.{ℕ, ◌≡◌, ◌<◌, ◌≤◌, ◌-◌, ◌*◌, ◌^◌, max, Bool, false, not, nat_lt, if◌then◌else◌, List, length, Option, Some, None}
 use Rattle.std.specs.List.{AllByRecursion, filter}
+use Rattle.kds_base.specs.Circle.{next_of}
 use Rattle.kds_defs.specs.declared.limits.TheConstants.{HOUR, OPEN_SHARDS}
 use Rattle.kds_defs.specs.Lawful.{IsRetention}
 use Rattle.kds_defs.specs.Shards.{Closing, ShardState, is_closed_below, is_open}
@@ -79,10 +80,6 @@ pub record IsKeptAt (wanted : ℕ) (old new : StreamValue) : Type 0 where
   pub cut : new.cut ≡ later_cut old.cut (cut_at old.clock wanted)
   pub clock_before : new.clock_before ≡ old.clock
   pub cut_before : new.cut_before ≡ new.cut
-
--- the place after this one of so many, in a circle
-abbrev pub next_of : ℕ → ℕ → ℕ
-next_of count n = if nat_lt (n + 1) count then n + 1 else 0
 
 -- the stream where the log whose turn it is is without the records that are trimmed; it remembers no earlier clock
 abbrev pub settled : StreamValue → StreamValue

@@ -1,4 +1,4 @@
-//! One stream: its shards, their records, its numbers, and what is trimmed.
+//! One stream: its shards, their records, its numbers, and the trimming of its records.
 #![tactic(auto)]
 
 mod laws;

@@ -1,4 +1,4 @@
-//! A stream.
+//! A stream, and what it holds.
 ghost use Rattle.std.specs.Prelude.{◌≡◌, ◌∷◌, ℕ, length, IfOk};
 ghost use Rattle.std.specs.List.{filter};
 ghost use Rattle.kds_defs.specs.declared.entry.Entry.TheVariants as entry;
@@ -30,8 +30,8 @@ use kds_tree::ShardTree;
 use std::alloc::Global;
 use std::marker::Model;
 
-/// One stream: its shards, the log and the window of each, and the numbers and moments that it goes by. Contracts see its
-/// values, and say which journals it shows.
+/// One stream: its shards, a log and a throughput window for each shard, its numbers and its clock. Contracts see
+/// these values, and state which journals the stream shows.
 #[derive(Drop)]
 pub struct Stream {
     no: StreamNo,
@@ -40,16 +40,16 @@ pub struct Stream {
     hours: u32,
     tree: ShardTree,
     logs: Vec<ShardLog>,
-    /// What each shard takes within a second.
+    /// For each shard, how much it accepted within the second.
     windows: Vec<Window>,
-    /// Whether the limits on throughput are on.
+    /// Whether the limits on the throughput of shards are on.
     enforced: bool,
     next: Seq,
     clock: Moment,
     cut: Option<Moment>,
     clock_before: Moment,
     cut_before: Option<Moment>,
-    /// The place of the log that is settled next.
+    /// The index of the log whose trimmed records are dropped next.
     turn: usize,
 }
 
@@ -65,7 +65,7 @@ impl Model for Stream {
 }
 
 impl Stream {
-    /// A new stream, made at its clock (Kinesis API Reference, CreateStream).
+    /// A new stream, created at the moment `made` (Kinesis API Reference, CreateStream).
     pub fn new(
         alloc: Global,
         no: StreamNo,
@@ -101,35 +101,35 @@ impl Stream {
         })
     }
 
-    /// Its number.
+    /// The stream's number.
     pub fn no(&self) -> StreamNo
         ensures { result ≡ self.now.no }
     {
         self.no
     }
 
-    /// Its name.
+    /// The stream's name.
     pub fn name(&self) -> &Name
         ensures { result.now ≡ self.now.name }
     {
         &self.name
     }
 
-    /// Its shards.
+    /// The stream's shards.
     pub fn tree(&self) -> &ShardTree
         ensures { result.now.shards ≡ self.now.tree }
     {
         &self.tree
     }
 
-    /// The moment at or below which everything is trimmed, if it isn't before all moments.
+    /// The cut: the moment at or before which each record is trimmed. `None` if the cut would lie before moment 0.
     pub fn cut(&self) -> Option<Moment>
         ensures { result ≡ self.now.cut }
     {
         self.cut
     }
 
-    /// How many of its shards are open.
+    /// The number of the stream's open shards.
     pub fn open_count(&self) -> u32
         ensures { result ≡ length (filter is_open self.now.tree) }
     {

@@ -11,7 +11,7 @@ use kds_defs::Stored;
 use kds_log::ShardLog;
 use std::alloc::Global;
 
-/// The empty logs of the shards of a new stream, whose numbers begin with 1.
+/// Empty logs for the `n` shards of a new stream, whose sequence numbers begin with 1.
 pub fn new_logs(alloc: Global, n: u32) -> Result<Vec<ShardLog>, Memory>
     ensures { IfOk result (λ logs. map log_of logs.items ≡ replicate n empty_log) }
 {
@@ -22,7 +22,8 @@ pub fn new_logs(alloc: Global, n: u32) -> Result<Vec<ShardLog>, Memory>
     Ok(logs)
 }
 
-/// Adds a record to the log at a place. Its number is above all others, and it arrived no earlier than they did.
+/// Appends a record to the log at the index `i`. Precondition: the record's number is greater than all numbers in the
+/// logs of the stream, and the record arrived no earlier than any record in these logs.
 fn append_at(logs: &mut [ShardLog], i: usize, item: Stored) -> Result<(), Memory>
     requires within { i < length logs.old }
     requires number { AllByRecursion (IsBelow item.seq) (map log_of logs.old) }
@@ -33,7 +34,7 @@ fn append_at(logs: &mut [ShardLog], i: usize, item: Stored) -> Result<(), Memory
     logs[i].append(item)
 }
 
-/// Drops the trimmed records of the log at a place, if there is one.
+/// Drops the trimmed records of the log at the index `i`, if this log exists.
 pub fn settle_at(logs: &mut [ShardLog], i: usize, cut: &Option<Moment>)
     ensures { map log_of logs.new ≡ settled_at (floor_of cut.now) i (map log_of logs.old) }
 {
@@ -45,7 +46,7 @@ pub fn settle_at(logs: &mut [ShardLog], i: usize, cut: &Option<Moment>)
     }
 }
 
-/// Adds a record as `append_at` does, and drops the trimmed ones of its log.
+/// Appends a record as `append_at` does, and then drops the trimmed records of the same log.
 pub fn put_at(
     logs: &mut [ShardLog],
     i: usize,

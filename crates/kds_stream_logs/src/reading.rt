@@ -1,4 +1,4 @@
-//! What is read of one shard.
+//! Reading of one shard.
 ghost use Rattle.std.specs.Prelude.{◌≡◌, ◌&&◌, is_some, ◌-◌, ◌^◌, ◌<◌, ◌≤◌, map, if◌then◌else◌, IfOk, Some, None, true};
 ghost use Rattle.std.specs.List.{AllByRecursion};
 ghost use Rattle.kds_defs.specs.Listings.{is_good_after, is_good_at, is_good_start, last_no};
@@ -15,7 +15,8 @@ use kds_defs::{Origin, Shard, Start, Stored, place_after};
 use kds_log::ShardLog;
 use std::alloc::Global;
 
-/// Whether reading may begin at the number: it is one of the shard's, or the next one while the shard is open.
+/// Whether reading of the shard may begin at the number `q`: it is one of the shard's numbers, or, while the shard is
+/// open, the stream's next number `next`.
 fn is_good_at(q: Seq, next: Seq, shard: &Shard) -> bool
     ensures { (x : ShardState) → shard.now ≡ shown x → result ≡ is_good_at x.start next q x.closing }
 {
@@ -26,7 +27,7 @@ fn is_good_at(q: Seq, next: Seq, shard: &Shard) -> bool
         }
 }
 
-/// Whether reading may begin after the number: it is one of the shard's.
+/// Whether reading of the shard may begin after the number `q`: it is one of the shard's numbers.
 fn is_good_after(q: Seq, next: Seq, shard: &Shard) -> bool
     ensures below { IsUnder next shard.now.end → result ≡ true → q < next }
     ensures value { (x : ShardState) → shard.now ≡ shown x → result ≡ is_good_after x.start next q x.closing }
@@ -38,7 +39,8 @@ fn is_good_after(q: Seq, next: Seq, shard: &Shard) -> bool
         }
 }
 
-/// The number of the first untrimmed record of a log that arrived at or after the moment, or else the next one.
+/// The number of the first untrimmed record in the log that arrived at or after `moment`, or `next` if there is no
+/// such record.
 fn first_since(log: &ShardLog, cut: Option<Moment>, moment: Moment, next: Seq) -> u64
     ensures { result ≡ first_at (left_among (floor_of cut) 0 log.now.kept) moment next }
 {
@@ -48,8 +50,8 @@ fn first_since(log: &ShardLog, cut: Option<Moment>, moment: Moment, next: Seq) -
     }
 }
 
-/// The position where reading begins from an origin. `next` is the stream's next number, `log` the shard's, whose
-/// records up to the cut are trimmed.
+/// The position at which reading of a shard begins for the origin `from`. `next` is the stream's next number. `log` is
+/// the shard's log, in which the records up to `cut` are trimmed.
 pub fn origin_position(from: Origin, next: Seq, log: &ShardLog, cut: Option<Moment>) -> u64
     ensures { result ≡ position_from next (left_among (floor_of cut) 0 log.now.kept) (iterator_start from) }
 {
@@ -60,8 +62,9 @@ pub fn origin_position(from: Origin, next: Seq, log: &ShardLog, cut: Option<Mome
     }
 }
 
-/// The position where reading of a shard begins. `None` exactly where the number lies outside of the shard's.
-/// `next` is the stream's next number, `log` the shard's, whose records up to the cut are trimmed.
+/// The position at which reading of a shard begins for `from`. `None` exactly if `from` names a sequence number that
+/// doesn't belong to the shard. `next` is the stream's next number. `log` is the shard's log, in which the records up
+/// to the cut are trimmed.
 pub fn position(
     from: Start,
     next: Seq,
@@ -89,7 +92,7 @@ pub fn position(
     }
 }
 
-/// A batch of a log at a position, and the place where reading goes on after it.
+/// The batch that a read of the log at `position` returns, and the position after this batch.
 pub fn batch_at(
     log: &ShardLog,
     alloc: Global,
@@ -107,15 +110,15 @@ pub fn batch_at(
     Ok((batch, place))
 }
 
-/// Whether a shard is at its end: it is closed, and none of its records is left.
+/// Whether reading has reached the end of the shard: the shard is closed, and no record is left to read.
 pub fn is_end(shard: &Shard, none_left: bool) -> bool
     ensures { result ≡ (is_some shard.now.end && none_left) }
 {
     shard.end.is_some() && none_left
 }
 
-/// How long before the clock the first record that is left arrived, in milliseconds: 0 where none is left.
-pub fn behind(clock: Moment, first_left: Option<Moment>) -> u64
+/// How many milliseconds before `clock` the first remaining record arrived, or 0 if no record remains.
+pub fn millis_behind(clock: Moment, first_left: Option<Moment>) -> u64
     ensures { result ≡ behind_by clock first_left }
 {
     match first_left {
@@ -124,7 +127,7 @@ pub fn behind(clock: Moment, first_left: Option<Moment>) -> u64
     }
 }
 
-/// The number of the last shard of a page, and 0 of an empty one.
+/// The number of the last shard in a page of a listing, or 0 if the page is empty.
 pub fn last_no(shards: &[Shard]) -> ShardNo
     ensures { result ≡ last_no shards.now }
 {

@@ -1,15 +1,17 @@
-//! Records on their way to the logs of their shards.
+//! Routing of records to the logs of their shards.
 ghost use Rattle.std.specs.Prelude.{◌≡◌, ◌+◌, ◌^◌, ◌<◌, ◌≤◌, ◌∷◌, ◌++◌, ◌&&◌, [], true, false, ℕ, List, length, map, IfNone, IfOk, IfSome, OnErr, OnOk};
 ghost use Rattle.std.specs.List.{AllByRecursion, count_by};
 ghost use Rattle.kds_defs.specs.Lawful.{item_bytes};
 ghost use Rattle.kds_defs.specs.Rates.{SizedPut, is_throttled};
 ghost use Rattle.kds_defs.specs.Streams.{floor_of};
 ghost use Rattle.kds_log.specs.Log.{log_of};
+ghost use Rattle.kds_rate.specs.Windows.{WindowValue};
 ghost use Rattle.kds_stream_logs.specs.Rating.{ForPutsOf, IsCounted, StandFor, with_put};
 ghost use Rattle.kds_stream_logs.specs.Routes.{AreInTurn, ArePlaced, AreRouted, CanTake, CanTakeAll, IsRouted, is_held, is_place_of, place_of, room_at, settled_each, stored_item, taken, with_each};
+ghost use Rattle.kds_stream_logs.specs.Saved.{DiffersAt, restored};
 
 use crate::logs::settle_at;
-use crate::windows::{admits_at, count_at};
+use crate::windows::{SavedWindow, admits_at, count_at, restore_windows};
 use kds_base::{Items, Memory, Moment, Seq, ShardNo};
 use kds_defs::{NewItem, Outcome, Place, Stored};
 use kds_log::ShardLog;
@@ -18,64 +20,85 @@ use kds_tree::ShardTree;
 use std::alloc::Global;
 use std::collections::VecDeque;
 
-/// A record, and the open shard whose range contains its hash key.
+/// A record, together with the open shard whose range contains its hash key.
 #[derive(Drop)]
 pub struct Routed {
     pub shard: ShardNo,
     pub item: Stored,
 }
 
-/// The payload and key bytes of an item.
+/// The number of bytes that the item's payload and key have together.
 pub fn item_bytes(item: &NewItem) -> u64
     ensures { result ≡ item_bytes item.now }
 {
     item.payload.as_slice().len() as u64 + item.key.as_slice().len() as u64
 }
 
-/// What is made of items that are put together: the records of those that are taken, and where these stand; what
-/// becomes of each item; and the next number.
+/// Where the items of one put request go: the records of the accepted items with their places, the outcome of each
+/// item, the next number, and the earlier values of the windows that were changed.
 #[derive(Drop)]
 pub struct Routes {
     pub routed: VecDeque<Routed>,
     pub places: Items<Place>,
     pub outcomes: Items<Outcome>,
     pub next: u64,
+    pub saved: Vec<SavedWindow>,
 }
 
 impl Routes {
-    /// Those of no items.
-    fn new(alloc: Global, next: u64) -> Routes
-        ensures routed { result.routed.items ≡ [] }
-        ensures places { result.places ≡ [] }
-        ensures outcomes { result.outcomes ≡ [] }
-        ensures next { result.next ≡ next }
+    /// The routes before the first item, with capacity for `count` items.
+    fn new(alloc: Global, next: u64, count: usize) -> Result<Routes, Memory>
+        ensures routed { IfOk result (λ r. r.routed.items ≡ []) }
+        ensures places { IfOk result (λ r. r.places ≡ []) }
+        ensures outcomes { IfOk result (λ r. r.outcomes ≡ []) }
+        ensures next { IfOk result (λ r. r.next ≡ next) }
+        ensures saved { IfOk result (λ r. r.saved.items ≡ []) }
     {
-        Routes {
-            routed: VecDeque::new(alloc),
-            places: Items::new(alloc),
-            outcomes: Items::new(alloc),
+        Ok(Routes {
+            routed: VecDeque::with_capacity(alloc, count)?,
+            places: Items::from_vec(Vec::with_capacity(alloc, count)?),
+            outcomes: Items::from_vec(Vec::with_capacity(alloc, count)?),
             next,
-        }
+            saved: Vec::with_capacity(alloc, count)?,
+        })
     }
 
-    /// Adds an item that the limits hold back from its shard.
+    /// Saves the window of a shard, so that it can be restored later.
+    fn save(&mut self, windows: &[Window], shard: ShardNo) -> Result<(), Memory>
+        requires { shard < length windows.now }
+        ensures routed { self.new.routed.items ≡ self.old.routed.items }
+        ensures places { self.new.places ≡ self.old.places }
+        ensures outcomes { self.new.outcomes ≡ self.old.outcomes }
+        ensures next { self.new.next ≡ self.old.next }
+        ensures saved { OnOk result ((ws : List WindowValue) → DiffersAt shard ws windows.now
+            → restored self.new.saved.items ws ≡ restored self.old.saved.items windows.now) }
+        ensures unsaved { OnErr result (self.new.saved.items ≡ self.old.saved.items) }
+    {
+        let window = windows[shard.0 as usize];
+        self.saved.push(SavedWindow { shard, window })?;
+        Ok(())
+    }
+
+    /// Adds an outcome for an item that is throttled by the limits of its shard.
     fn hold_back(&mut self, shard: ShardNo) -> Result<(), Memory>
         ensures routed { self.new.routed.items ≡ self.old.routed.items }
         ensures places { self.new.places ≡ self.old.places }
         ensures outcomes { OnOk result (self.new.outcomes ≡ self.old.outcomes ++ Outcome.Throttled shard ∷ []) }
         ensures next { self.new.next ≡ self.old.next }
+        ensures saved { self.new.saved ≡ self.old.saved }
     {
         self.outcomes.push(Outcome::Throttled(shard))
     }
 
-    /// Adds the record of an item that its shard takes, stored at the clock with the next number. Key and payload are
-    /// moved.
+    /// Adds the record of an item that its shard accepts. The record has the next number and arrives at `clock`. The
+    /// item's key and payload are moved and not copied.
     fn store(&mut self, shard: ShardNo, item: NewItem, clock: Moment) -> Result<(), Memory>
         requires { self.old.next + 1 < 2 ^ 64 }
         ensures routed { OnOk result (self.new.routed.items ≡ self.old.routed.items ++ stored_item shard clock self.old.next item ∷ []) }
         ensures places { OnOk result (self.new.places ≡ self.old.places ++ record { shard = shard; seq = self.old.next } ∷ []) }
         ensures outcomes { OnOk result (self.new.outcomes ≡ self.old.outcomes ++ Outcome.Stored (record { shard = shard; seq = self.old.next }) ∷ []) }
         ensures next { OnOk result (self.new.next ≡ self.old.next + 1) }
+        ensures saved { self.new.saved ≡ self.old.saved }
     {
         let seq = Seq(self.next);
         self.places.push(Place { shard, seq })?;
@@ -92,8 +115,8 @@ impl Routes {
     }
 }
 
-/// Whether the limits are on, and the shard takes no record of so many payload and key bytes now. One that is taken
-/// is counted.
+/// Whether the limits are on and the shard doesn't accept, at `clock`, a record whose payload and key together have
+/// `bytes` bytes. If the shard accepts the record, its window counts it.
 fn holds_back(
     windows: &mut [Window],
     enforced: bool,
@@ -108,6 +131,7 @@ fn holds_back(
     ensures stand { result ≡ false → (f : ℕ → List SizedPut) → StandFor f 0 windows.old
         → StandFor (with_put shard (record { clock = clock; bytes = bytes }) f) 0 windows.new }
     ensures counted { AllByRecursion (IsCounted clock) windows.new }
+    ensures saved { DiffersAt shard windows.new windows.old }
 {
     if enforced && !admits_at(windows, shard.0 as usize, clock, bytes) {
         return true;
@@ -116,8 +140,8 @@ fn holds_back(
     false
 }
 
-/// Adds an item to the routes: its record, which its home takes, or that it is held back. `false` where it would be
-/// taken and the numbers are used up.
+/// Routes one item: adds its record, or the outcome that its shard throttles it. Returns `false` if the shard would
+/// accept the item but the stream's numbers are used up.
 fn route_one(
     routes: &mut Routes,
     tree: &ShardTree,
@@ -135,9 +159,11 @@ fn route_one(
     ensures placed { IfOk result (λ more. more ≡ true → (first : ℕ)
         → ArePlaced tree.now.shards clock first routes.old → ArePlaced tree.now.shards clock first routes.new) }
     ensures counted { AllByRecursion (IsCounted clock) windows.new }
+    ensures saved { restored routes.new.saved.items windows.new ≡ restored routes.old.saved.items windows.old }
 {
     let shard = tree.home(item.hash);
     let bytes = item_bytes(&item);
+    routes.save(windows, shard)?;
     if holds_back(windows, enforced, shard, clock, bytes) {
         routes.hold_back(shard)?;
         return Ok(true);
@@ -149,8 +175,9 @@ fn route_one(
     Ok(true)
 }
 
-/// What is made of items, of which the first that is taken gets the number `first`: each is judged and counted after
-/// those before. `None` exactly where the numbers don't suffice.
+/// Routes items in order. The first accepted item gets the number `first`. Each item is checked and counted after the
+/// items before it. `None` exactly if the stream's numbers don't suffice. After `None` and after `Memory` the windows
+/// are as before; otherwise `restore_windows` can restore them.
 pub fn route_all(
     alloc: Global,
     tree: &ShardTree,
@@ -167,17 +194,28 @@ pub fn route_all(
     ensures placed { IfOk result (λ o. IfSome o (λ r. ArePlaced tree.now.shards clock first r)) }
     ensures spent { IfOk result (λ o. IfNone o (ForPutsOf windows.old (λ f. 2 ^ 64 ≤ first + length (taken tree.now.shards clock enforced f items.items)))) }
     ensures counted { AllByRecursion (IsCounted clock) windows.new }
+    ensures saved { IfOk result (λ o. IfSome o (λ r. restored r.saved.items windows.new ≡ windows.old)) }
+    ensures none { IfOk result (λ o. IfNone o (windows.new ≡ windows.old)) }
+    ensures err { OnErr result (windows.new ≡ windows.old) }
 {
-    let mut routes = Routes::new(alloc, first);
+    let mut routes = Routes::new(alloc, first, items.len())?;
     while let Some(item) = items.pop_front() {
-        if !route_one(&mut routes, tree, windows, enforced, item, clock)? {
+        let more = match route_one(&mut routes, tree, windows, enforced, item, clock) {
+            Ok(more) => more,
+            Err(memory) => {
+                restore_windows(windows, routes.saved);
+                return Err(memory);
+            }
+        };
+        if !more {
+            restore_windows(windows, routes.saved);
             return Ok(None);
         }
     }
     Ok(Some(routes))
 }
 
-/// Gives up what the log of each place has reserved. The logs are as before.
+/// Gives up the reservations in the logs of all these places. The records in the logs are as before.
 fn release_all(logs: &mut [ShardLog], places: &[Place])
     requires { AllByRecursion (λ p. p.shard < length logs.old) places.now }
     ensures { map log_of logs.new ≡ map log_of logs.old }
@@ -188,8 +226,7 @@ fn release_all(logs: &mut [ShardLog], places: &[Place])
     }
 }
 
-/// Reserves memory for a record at each of these places, and for no more. The logs are as before, whatever the
-/// answer.
+/// Reserves memory for a record at each of these places. The records in the logs are as before, even after `Memory`.
 fn reserve_all(logs: &mut [ShardLog], places: &[Place]) -> Result<(), Memory>
     requires { AllByRecursion (λ p. p.shard < length logs.old) places.now }
     ensures same { map log_of logs.new ≡ map log_of logs.old }
@@ -202,7 +239,7 @@ fn reserve_all(logs: &mut [ShardLog], places: &[Place]) -> Result<(), Memory>
     Ok(())
 }
 
-/// Adds each record to the log of its shard, in memory that was reserved.
+/// Appends each record to the log of its shard. Memory for the records is already reserved.
 fn append_all(logs: &mut [ShardLog], mut routed: VecDeque<Routed>)
     requires { CanTakeAll logs.old routed.items }
     ensures { map log_of logs.new ≡ with_each routed.items (map log_of logs.old) }
@@ -213,7 +250,7 @@ fn append_all(logs: &mut [ShardLog], mut routed: VecDeque<Routed>)
     }
 }
 
-/// Drops the trimmed records of the log of each place.
+/// Drops the trimmed records in the logs of all these places.
 fn settle_each(logs: &mut [ShardLog], places: &[Place], cut: &Option<Moment>)
     ensures { map log_of logs.new ≡ settled_each (floor_of cut.now) places.now (map log_of logs.old) }
 {
@@ -223,8 +260,8 @@ fn settle_each(logs: &mut [ShardLog], places: &[Place], cut: &Option<Moment>)
     }
 }
 
-/// Adds each record to the log of its shard, and drops what is trimmed there. All memory is taken before the first
-/// record is added. After `Memory` the logs are as before.
+/// Appends each record to the log of its shard, and drops the trimmed records of these logs. All memory is allocated
+/// before the first record is appended. After `Memory` the logs are as before.
 pub fn put_all(
     logs: &mut [ShardLog],
     routed: VecDeque<Routed>,

@@ -1,4 +1,4 @@
-//! The steps of a scaling.
+//! The merges and splits of a scaling.
 ghost use Rattle.std.specs.Prelude.{OnOk, ◌≡◌, ◌+◌, ◌-◌, ◌*◌, ◌^◌, ◌<◌, ◌≤◌, ◌++◌, ◌∷◌, ◌||◌, [], true, false, ℕ, List, length, map, nat_lt, replicate, vec_capacity, vec_len};
 ghost use Rattle.kds_defs.specs.ScaleCommands.{made_by};
 ghost use Rattle.kds_defs.specs.Scaling.{LeadTo, MayStep, after_step, is_start, with_start, without};
@@ -14,7 +14,7 @@ use kds_rate::Window;
 use kds_tree::ShardTree;
 use std::alloc::Global;
 
-/// How many shards the steps make: a merge one, a split two.
+/// The number of shards that the steps make: one for each merge, two for each split.
 pub fn made_by(steps: &[ScaleStep]) -> u32
     requires { length steps.now ≤ 2 ^ 30 }
     ensures { result ≡ made_by steps.now }
@@ -29,16 +29,17 @@ pub fn made_by(steps: &[ScaleStep]) -> u32
     made
 }
 
-/// Whether a stream whose next number is this one, with so many shards, lacks the numbers for so many steps that make
-/// so many shards.
+/// Whether too few numbers are left for `steps` steps that make `made` shards, if the stream's next sequence number is
+/// `next` and it has `shards` shards.
 pub fn is_spent(next: u64, steps: u64, shards: u64, made: u64) -> bool
     ensures { result ≡ (nat_lt last_number (next + steps) || nat_lt last_number (shards + made)) }
 {
     next.checked_add(steps).is_none() || shards.checked_add(made).is_none()
 }
 
-/// Merges the shard that ends before a start with the one that starts there, in memory that was reserved.
-fn join(tree: &mut ShardTree, no: StreamNo, start: u128, seq: Seq, clock: Moment) -> Entry
+/// Merges the shard that ends right before the key `start` with the shard that starts at this key. Memory for the
+/// child is already reserved.
+fn take_merge(tree: &mut ShardTree, no: StreamNo, start: u128, seq: Seq, clock: Moment) -> Entry
     requires above { 0 < start }
     requires there { is_start (starts_in tree.old.shards) start ≡ true }
     requires room { 1 ≤ tree.old.spare }
@@ -51,7 +52,7 @@ fn join(tree: &mut ShardTree, no: StreamNo, start: u128, seq: Seq, clock: Moment
     let child = ShardNo(tree.len());
     let shard = tree.home(start - 1);
     let other = tree.home(start);
-    // It isn't refused, and memory was reserved.
+    // The merge isn't refused, and its memory is already reserved.
     let _child = tree.merge(shard, other, seq, clock);
     Entry::Merged {
         stream: no,
@@ -62,8 +63,8 @@ fn join(tree: &mut ShardTree, no: StreamNo, start: u128, seq: Seq, clock: Moment
     }
 }
 
-/// Splits the shard that contains a key at it, in memory that was reserved.
-fn cut(tree: &mut ShardTree, no: StreamNo, start: u128, seq: Seq, clock: Moment) -> Entry
+/// Splits the shard whose range contains the key `start` at this key. Memory for the children is already reserved.
+fn take_split(tree: &mut ShardTree, no: StreamNo, start: u128, seq: Seq, clock: Moment) -> Entry
     requires absent { is_start (starts_in tree.old.shards) start ≡ false }
     requires room { 2 ≤ tree.old.spare }
     requires number { seq + 1 < 2 ^ 64 }
@@ -75,7 +76,7 @@ fn cut(tree: &mut ShardTree, no: StreamNo, start: u128, seq: Seq, clock: Moment)
     let low = ShardNo(tree.len());
     let high = ShardNo(tree.len() + 1);
     let shard = tree.home(start);
-    // It isn't refused, and memory was reserved.
+    // The split isn't refused, and its memory is already reserved.
     let _children = tree.split(shard, start, seq, clock);
     Entry::Split {
         stream: no,
@@ -87,7 +88,7 @@ fn cut(tree: &mut ShardTree, no: StreamNo, start: u128, seq: Seq, clock: Moment)
     }
 }
 
-/// Takes a step that may be taken, in memory that was reserved.
+/// Takes one step of a scaling. Precondition: the step isn't refused. Memory for it is already reserved.
 fn take_step(tree: &mut ShardTree, no: StreamNo, step: ScaleStep, seq: Seq, clock: Moment) -> Entry
     requires may { MayStep step (starts_in tree.old.shards) }
     requires room { made_by (step ∷ []) ≤ tree.old.spare }
@@ -98,12 +99,13 @@ fn take_step(tree: &mut ShardTree, no: StreamNo, step: ScaleStep, seq: Seq, cloc
     ensures entry { result ≡ entry_in no step seq tree.old.shards }
 {
     match step {
-        ScaleStep::Join(start) => join(tree, no, start, seq, clock),
-        ScaleStep::Cut(start) => cut(tree, no, start, seq, clock),
+        ScaleStep::Join(start) => take_merge(tree, no, start, seq, clock),
+        ScaleStep::Cut(start) => take_split(tree, no, start, seq, clock),
     }
 }
 
-/// Takes the steps in turn, with numbers from `first` on, and adds their entries, all in memory that was reserved.
+/// Takes the steps in order, and adds their journal entries. The first step has the sequence number `first`. All
+/// memory is already reserved.
 pub fn take_steps(
     tree: &mut ShardTree,
     no: StreamNo,
@@ -128,7 +130,8 @@ pub fn take_steps(
     }
 }
 
-/// Takes memory for so many further shards, with their logs and windows. All are as before, whatever the answer.
+/// Reserves memory for `made` further shards, and for their logs and windows. The existing shards, logs and windows
+/// are unchanged, even after `Memory`.
 pub fn reserve_shards(
     tree: &mut ShardTree,
     logs: &mut Vec<ShardLog>,
@@ -148,7 +151,7 @@ pub fn reserve_shards(
     Ok(())
 }
 
-/// Adds the logs and the windows of so many new shards, in memory that was reserved.
+/// Adds the logs and windows of `made` new shards. Memory for them is already reserved.
 pub fn add_shards(
     alloc: Global,
     logs: &mut Vec<ShardLog>,

@@ -1,14 +1,15 @@
-//! What the shards of a stream take within a second.
+//! The throughput windows of a stream's shards.
 ghost use Rattle.std.specs.Prelude.{◌≡◌, ◌<◌, ◌==◌, ℕ, length, not, IfOk, List};
 ghost use Rattle.std.specs.List.{AllByRecursion};
 ghost use Rattle.kds_defs.specs.Rates.{SizedPut, is_throttled};
 ghost use Rattle.kds_stream_logs.specs.Rating.{IsCounted, IsUnused, StandFor, with_put};
+ghost use Rattle.kds_stream_logs.specs.Saved.{DiffersAt, restored};
 
-use kds_base::{Memory, Moment};
+use kds_base::{Memory, Moment, ShardNo};
 use kds_rate::Window;
 use std::alloc::Global;
 
-/// The windows of the shards of a new stream: of no puts.
+/// The windows for the `n` shards of a new stream, without puts.
 pub fn new_windows(alloc: Global, n: u32) -> Result<Vec<Window>, Memory>
     ensures many { IfOk result (λ windows. length windows.items ≡ n) }
     ensures unused { IfOk result (λ windows. AllByRecursion IsUnused windows.items) }
@@ -20,7 +21,7 @@ pub fn new_windows(alloc: Global, n: u32) -> Result<Vec<Window>, Memory>
     Ok(windows)
 }
 
-/// Whether the shard at a place takes a record of so many payload and key bytes now.
+/// Whether the shard at the index `i` accepts, at `clock`, a record whose payload and key together have `bytes` bytes.
 pub fn admits_at(windows: &[Window], i: usize, clock: Moment, bytes: u64) -> bool
     requires within { i < length windows.now }
     requires counted { AllByRecursion (IsCounted clock) windows.now }
@@ -29,12 +30,32 @@ pub fn admits_at(windows: &[Window], i: usize, clock: Moment, bytes: u64) -> boo
     windows[i].admits(clock, bytes)
 }
 
-/// Counts a put of so many payload and key bytes in the shard at a place.
+/// Counts, in the window at the index `i`, a put whose payload and key together have `bytes` bytes.
 pub fn count_at(windows: &mut [Window], i: usize, clock: Moment, bytes: u64)
     requires within { i < length windows.old }
     requires counted { AllByRecursion (IsCounted clock) windows.old }
     ensures stand { (f : ℕ → List SizedPut) → StandFor f 0 windows.old → StandFor (with_put i (record { clock = clock; bytes = bytes }) f) 0 windows.new }
     ensures counted { AllByRecursion (IsCounted clock) windows.new }
+    ensures saved { DiffersAt i windows.new windows.old }
 {
     windows[i].count(clock, bytes);
+}
+
+/// The value that the window of a shard had before a batch counted a record in it.
+#[derive(Drop)]
+pub struct SavedWindow {
+    pub shard: ShardNo,
+    pub window: Window,
+}
+
+/// Restores the saved values of the windows, beginning with the value that was saved last.
+pub fn restore_windows(windows: &mut [Window], mut saved: Vec<SavedWindow>)
+    ensures { windows.new ≡ restored saved.items windows.old }
+{
+    while let Some(last) = saved.pop() {
+        let i = last.shard.0 as usize;
+        if i < windows.len() {
+            windows[i] = last.window;
+        }
+    }
 }

@@ -1,4 +1,4 @@
-//! What is told of a stream as a whole.
+//! Descriptions of a stream as a whole.
 ghost use Rattle.std.specs.Prelude.{◌≡◌, IfOk};
 ghost use Rattle.kds_defs.specs.Histories.{answer_of};
 ghost use Rattle.kds_defs.specs.Journal.{Journal};
@@ -12,7 +12,7 @@ use kds_defs::{About, Answer, Reply};
 use std::alloc::Global;
 
 impl Stream {
-    /// Its name, when it was made, and its retention.
+    /// The stream's name, creation time and retention.
     fn about(&self, alloc: Global) -> Result<About, Memory>
         ensures { IfOk result (λ a. a ≡ record { name = self.now.name; made = self.now.made; hours = self.now.hours }) }
     {
@@ -24,8 +24,8 @@ impl Stream {
         })
     }
 
-    /// What it is, at most `limit` of its listed shards after a number, and whether more of them follow
-    /// (Kinesis API Reference, DescribeStream).
+    /// The description of the stream; at most `limit` of its listed shards, beginning after the shard `after`; and
+    /// whether more listed shards follow (Kinesis API Reference, DescribeStream).
     pub fn describe(
         &self,
         alloc: Global,
@@ -44,7 +44,7 @@ impl Stream {
         }))
     }
 
-    /// What it is, and how many of its shards are open (Kinesis API Reference, DescribeStreamSummary).
+    /// The description of the stream, and its number of open shards (Kinesis API Reference, DescribeStreamSummary).
     pub fn summary(&self, alloc: Global) -> Result<Answer, Memory>
         ensures { (log : Journal) → Shows self.now log → IfOk result (λ a. a ≡ answer_of (summary log self.now.no)) }
     {

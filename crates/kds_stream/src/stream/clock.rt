@@ -1,14 +1,16 @@
-//! The clock of a stream, and what it trims.
+//! The clock of a stream, and the trimming of its records.
 ghost use Rattle.std.specs.Prelude.{◌≡◌, ◌≤◌};
 ghost use Rattle.kds_defs.specs.Journal.{Journal};
 ghost use Rattle.kds_stream.specs.Showing.{Shows};
-ghost use Rattle.kds_stream.specs.Value.{cut_at, later_cut, next_of, settled};
+ghost use Rattle.kds_stream.specs.Value.{cut_at, later_cut, settled};
 
 use crate::stream::Stream;
-use kds_base::Moment;
+use kds_base::{Moment, next_of};
 use kds_defs::limits::HOUR;
+use kds_stream_logs::settle_at;
 
-/// The moment at or below which everything is trimmed at a clock, by a retention of so many hours.
+/// The cut at the moment `clock` for a retention of `hours` hours: the moment at or before which everything is
+/// trimmed.
 pub(super) fn cut_at(clock: Moment, hours: u32) -> Option<Moment>
     ensures { result ≡ cut_at clock hours }
 {
@@ -28,20 +30,8 @@ pub(super) fn later_cut(a: Option<Moment>, b: Option<Moment>) -> Option<Moment>
     }
 }
 
-/// The place after this one of so many, in a circle.
-fn next_of(count: usize, place: usize) -> usize
-    ensures { result ≡ next_of count place }
-{
-    match place.checked_add(1) {
-        Some(next) if next < count => next,
-        _ => 0,
-    }
-}
-
-use kds_stream_logs::settle_at;
-
 impl Stream {
-    /// Raises the clock and with it the cut, and drops nothing yet.
+    /// Raises the clock to `clock`, and moves the cut with it. It drops no records yet.
     pub fn advance(&mut self, clock: Moment)
         requires { self.old.clock ≤ clock }
         ensures value { self.new ≡ record self.old {
@@ -58,20 +48,21 @@ impl Stream {
         self.cut = later_cut(self.cut, cut_at(clock, self.hours));
     }
 
-    /// Drops the trimmed records of the log whose turn it is; no answer depends on it. The logs take turns, so that
-    /// each is settled once in as many calls as there are logs.
+    /// Drops the trimmed records of the next log, in rotation; no answer depends on this. Each log has its turn once
+    /// in as many calls as there are logs.
     pub fn settle(&mut self)
         ensures fields { (self.new.no ≡ self.old.no) × (self.new.name ≡ self.old.name) × (self.new.clock ≡ self.old.clock) }
         ensures shows { (log : Journal) → Shows self.old log → Shows self.new log }
         ensures dropped { self.new ≡ settled self.old }
     {
         settle_at(&mut self.logs, self.turn, &self.cut);
+        self.tree.pass_expired(self.cut);
         self.turn = next_of(self.logs.len(), self.turn);
         self.clock_before = self.clock;
         self.cut_before = self.cut;
     }
 
-    /// The clock and the cut are again what they were before the last advance, if nothing has changed since.
+    /// Sets the clock and the cut back to their values before the last `advance`, if nothing else has changed since.
     pub fn retreat(&mut self)
         ensures { self.new ≡ record self.old { clock = self.old.clock_before; cut = self.old.cut_before } }
     {

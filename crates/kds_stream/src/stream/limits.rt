@@ -12,9 +12,9 @@ use kds_defs::{Answer, Reply};
 use kds_stream_logs::admits_at;
 
 impl Stream {
-    /// LocalEnforceLimits: turns the limits on the throughput of its shards on or off. It is never refused. The
-    /// operation is this project's own; the limits are those of the Kinesis Data Streams Developer Guide, Quotas and
-    /// Limits.
+    /// LocalEnforceLimits: turns the limits on the throughput of the stream's shards on or off. It is never refused.
+    /// This project defines the operation; the limits are those of the Kinesis Data Streams Developer Guide, Quotas
+    /// and Limits.
     pub fn enforce(&mut self, on: bool) -> Answer
         ensures answered { Decides self.old self.new result (λ log by. enforce log self.old.clock by self.old.no on) }
         ensures fields { (self.new.no ≡ self.old.no) × (self.new.name ≡ self.old.name) × (self.new.clock ≡ self.old.clock) × (self.new.turn ≡ self.old.turn) }
@@ -28,7 +28,8 @@ impl Stream {
         Ok(Reply::Done)
     }
 
-    /// Whether the limits are on, and a shard takes no record of so many payload and key bytes now.
+    /// Whether the limits are on and the shard doesn't accept, at the stream's clock, a record whose payload and key
+    /// together have `bytes` bytes.
     pub(super) fn holds_back(&self, shard: ShardNo, bytes: u64) -> bool
         requires { shard < length self.now.tree }
         ensures { (f : ℕ → List SizedPut) → StandFor f 0 self.now.windows → result ≡ (self.now.enforced && is_throttled (f shard) self.now.clock bytes) }

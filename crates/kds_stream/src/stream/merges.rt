@@ -12,7 +12,7 @@ use kds_log::ShardLog;
 use kds_rate::Window;
 
 impl Stream {
-    /// Why a merge of the shard with the other is refused, if it is.
+    /// The reason why a merge of the shards `shard` and `other` is refused, or `None` if it isn't.
     fn merge_refusal(&self, shard: ShardNo, other: ShardNo) -> Option<Refusal>
         ensures decided { RefusesAs self.now result (λ log c by s. merge_line log c by s shard other) (λ log c by s. merge log c by s shard other) }
         ensures merges { IfNone result (merge_refusal self.now.tree shard other ≡ None) }
@@ -31,10 +31,10 @@ impl Stream {
         None
     }
 
-    /// Merges a shard with the one beside it: both are closed with the next number, and their child comes last.
-    /// `NoShard` where one isn't listed, `ShardClosed` where one is closed, `NotAdjacent` where neither range
-    /// starts right after the other, `Spent` where the next number is the greatest of a `u64`
-    /// (Kinesis API Reference, MergeShards).
+    /// Merges two adjacent shards. Both are closed with the stream's next number, and their child is added at the end.
+    /// `NoShard` if either isn't listed, `ShardClosed` if either is closed, `NotAdjacent` if neither shard's range
+    /// starts right after the other's ends, `Spent` if the next number is the greatest `u64` (Kinesis API Reference,
+    /// MergeShards).
     pub fn merge(&mut self, shard: ShardNo, other: ShardNo) -> Result<Answer, Memory>
         ensures answered { IfOk result (λ a. Decides self.old self.new a (λ log by. merge log self.old.clock by self.old.no shard other)) }
         ensures fields { (self.new.no ≡ self.old.no) × (self.new.name ≡ self.old.name) × (self.new.clock ≡ self.old.clock) × (self.new.turn ≡ self.old.turn) }
@@ -49,7 +49,7 @@ impl Stream {
         let alloc = *self.logs.allocator();
         self.logs.reserve(1)?;
         self.windows.reserve(1)?;
-        // The tree doesn't refuse the merge: it was asked.
+        // The tree accepts the merge: `merge_refusal` has already checked it.
         let _child = self.tree.merge(shard, other, seq, self.clock)?;
         self.next = Seq(seq.0 + 1);
         self.logs.push_reserved(ShardLog::new(alloc, self.next));

@@ -1,4 +1,4 @@
-//! Records that are put into a stream.
+//! Puts of records into a stream.
 ghost use Rattle.std.specs.Prelude.{◌≡◌, IfOk, OnErr, OnOk};
 ghost use Rattle.kds_defs.specs.Lawful.{AreItems, IsItem};
 ghost use Rattle.kds_defs.specs.PutCommands.{put, put_many};
@@ -8,14 +8,14 @@ ghost use Rattle.kds_stream.specs.Value.{IsChangedAt};
 use crate::stream::Stream;
 use kds_base::{Items, Memory, Seq};
 use kds_defs::{Answer, NewItem, Place, Refusal, Reply, Stored};
-use kds_stream_logs::{Routes, count_at, item_bytes, put_all, put_at, route_all};
+use kds_stream_logs::{Routes, count_at, item_bytes, put_all, put_at, restore_windows, route_all};
 use std::collections::VecDeque;
 
 impl Stream {
-    /// PutRecord: the record goes to the log of the open shard whose range contains its hash key, with the next
-    /// number, at the clock. `Throttled` exactly where the limits are on and that shard takes no more within the
-    /// second, `Spent` where the number is the greatest of a `u64` (Kinesis API Reference, PutRecord,
-    /// ProvisionedThroughputExceededException).
+    /// PutRecord: the record is appended to the log of the open shard whose range contains its hash key. It has the
+    /// stream's next number, and arrives at the stream's clock. `Throttled` exactly if the limits are on and the
+    /// record exceeds what the shard still accepts within the second, `Spent` if the next number is the greatest `u64`
+    /// (Kinesis API Reference, PutRecord, ProvisionedThroughputExceededException).
     pub fn put(&mut self, item: NewItem) -> Result<Answer, Memory>
         requires { IsItem item }
         ensures answered { IfOk result (λ a. Decides self.old self.new a (λ log by. put log self.old.clock by self.old.no item)) }
@@ -47,10 +47,11 @@ impl Stream {
         Ok(Ok(Reply::Put(Place { shard, seq })))
     }
 
-    /// PutRecords: each record in order goes as in a put, judged and counted after those before, with numbers that go
-    /// on by one. A record that its shard doesn't take is told so, and draws no number. All memory is taken before the
-    /// first record is stored. `Spent` exactly where the next number and the count of the records that are taken are
-    /// together above the greatest of a `u64` (Kinesis API Reference, PutRecords).
+    /// PutRecords: puts each record in order, as PutRecord does. Each record is checked and counted after the records
+    /// before it, and the accepted records have consecutive numbers. A record that its shard doesn't accept gets an
+    /// error as its result, and no number. All memory is allocated before the first record is stored. `Spent` exactly
+    /// if the next number plus the number of accepted records is above the greatest `u64` (Kinesis API Reference,
+    /// PutRecords).
     pub fn put_many(&mut self, items: Items<NewItem>) -> Result<Answer, Memory>
         requires { AreItems items }
         ensures answered { IfOk result (λ a. Decides self.old self.new a (λ log by. put_many log self.old.clock by self.old.no items)) }
@@ -62,11 +63,10 @@ impl Stream {
         let alloc = *self.logs.allocator();
         let seq = self.next;
         let items = VecDeque::from_vec(items.into_vec());
-        let mut windows = Vec::from_slice(alloc, &self.windows)?;
         let made = route_all(
             alloc,
             &self.tree,
-            &mut windows,
+            &mut self.windows,
             self.enforced,
             items,
             seq.0,
@@ -78,13 +78,16 @@ impl Stream {
                 places,
                 outcomes,
                 next,
+                saved,
             },
         ) = made
         else {
             return Ok(Err(Refusal::Spent));
         };
-        put_all(&mut self.logs, routed, places.as_slice(), self.cut)?;
-        self.windows = windows;
+        if let Err(memory) = put_all(&mut self.logs, routed, places.as_slice(), self.cut) {
+            restore_windows(&mut self.windows, saved);
+            return Err(memory);
+        }
         self.next = Seq(next);
         self.clock_before = self.clock;
         self.cut_before = self.cut;

@@ -1,4 +1,4 @@
-//! Iterators, and what is read of a stream.
+//! Shard iterators, and reads of a stream's records and shards.
 ghost use Rattle.std.specs.Prelude.{◌≡◌, ◌++◌, ◌-◌, ◌^◌, ◌<◌, ℕ, map, slice_get, true, IfOk, IfSome, OnOk};
 ghost use Rattle.std.specs.List.{AllByRecursion};
 ghost use Rattle.std.specs.Option.{option_map};
@@ -19,12 +19,12 @@ ghost use Rattle.kds_stream.specs.Value.{is_listed_at, listed_at};
 use crate::stream::Stream;
 use kds_base::{Items, Memory, ShardNo, ShardRef};
 use kds_defs::{Answer, Iter, Origin, Page, Refusal, Reply, Shard, Start, Stored};
-use kds_stream_logs::{batch_at, behind, is_end, last_no, origin_position, position};
+use kds_stream_logs::{batch_at, is_end, last_no, millis_behind, origin_position, position};
 use kds_token::{iter_expired, page_expired};
 use std::alloc::Global;
 
 impl Stream {
-    /// The shard of this number, if it is listed.
+    /// The shard with the number `no`, if it is listed.
     fn listed(&self, no: ShardNo) -> Option<Shard>
         ensures value { result ≡ option_map shown (listed_at (floor_of self.now.cut) (slice_get self.now.tree no)) }
         ensures under { IfSome result (λ x. IsUnder self.now.next x.end) }
@@ -35,14 +35,14 @@ impl Stream {
         self.tree.shard(no).copied()
     }
 
-    /// Whether the shard is listed: it was made, and wasn't closed at or before the cut.
+    /// Whether the shard is listed: it was made, and it wasn't closed at or before the cut.
     pub fn is_listed(&self, no: ShardNo) -> bool
         ensures { result ≡ is_listed_at (floor_of self.now.cut) (slice_get self.now.tree no) }
     {
         self.listed(no).is_some()
     }
 
-    /// Adds the keys of the listed shards, in the order of their numbers.
+    /// Appends the keys of the stream's listed shards, in the order of their numbers.
     pub fn add_listed(&self, keys: &mut Items<ShardRef>) -> Result<(), Memory>
         ensures { OnOk result (keys.new ≡ keys.old ++ refs_of self.now.no (listed_among (floor_of self.now.cut) self.now.tree)) }
     {
@@ -57,8 +57,9 @@ impl Stream {
         Ok(())
     }
 
-    /// Where reading of a shard begins: an iterator, issued at the clock. `NoShard` where the shard isn't listed,
-    /// `BadNumber` where the number lies outside of the shard's (Kinesis API Reference, GetShardIterator).
+    /// A shard iterator, issued at the stream's clock, for the position at which reading of the shard begins.
+    /// `NoShard` if the shard isn't listed, `BadNumber` if `from` names a sequence number that doesn't belong to the
+    /// shard (Kinesis API Reference, GetShardIterator).
     pub fn iterator(&self, shard: ShardNo, from: Start) -> Answer
         ensures { (log : Journal) → Shows self.now log → result ≡ answer_of (get_iterator log self.now.clock self.now.no shard from) }
     {
@@ -77,9 +78,9 @@ impl Stream {
         }
     }
 
-    /// At most `limit` records at an iterator of this stream, and where reading goes on; at the end of a closed
-    /// shard its children in place of that. `Expired` where the iterator is too old, `NoShard` where its shard
-    /// isn't listed (Kinesis API Reference, GetRecords).
+    /// At most `limit` records from the iterator's position on, and the next iterator, or, at the end of a closed
+    /// shard, its children instead. Precondition: the iterator belongs to this stream. `Expired` if the iterator is
+    /// too old, `NoShard` if its shard isn't listed (Kinesis API Reference, GetRecords).
     pub fn records(&self, alloc: Global, iter: &Iter, limit: u32) -> Result<Answer, Memory>
         requires stream { iter.now.stream ≡ self.now.no }
         requires limit { IsLimit limit }
@@ -96,7 +97,7 @@ impl Stream {
         let (batch, place) = batch_at(log, alloc, self.cut, iter.position, limit)?;
         let left = log.first_left(self.cut, place);
         let end = is_end(&shard, left.is_none());
-        let behind = behind(self.clock, left);
+        let behind = millis_behind(self.clock, left);
         if end {
             let children = self.tree.children(no)?;
             return Ok(Ok(Reply::Records {
@@ -120,7 +121,7 @@ impl Stream {
         }))
     }
 
-    /// At most `limit` of the listed shards after a number, and where more of them follow
+    /// At most `limit` listed shards, beginning after the shard `after`, and a token if more listed shards follow
     /// (Kinesis API Reference, ListShards).
     pub fn shards(&self, after: Option<ShardNo>, limit: u32) -> Result<Answer, Memory>
         requires { IsLimit limit }
@@ -138,8 +139,9 @@ impl Stream {
         }))
     }
 
-    /// The listing of shards goes on where a token of this stream says. `PageExpired` where the token is too old
-    /// (Kinesis API Reference, ListShards, NextToken).
+    /// The next page of a listing of this stream's shards: at most `limit` shards from the position in the token
+    /// `page`. Precondition: the token belongs to this stream. `PageExpired` if the token is too old (Kinesis API
+    /// Reference, ListShards, NextToken).
     pub fn more(&self, page: &Page, limit: u32) -> Result<Answer, Memory>
         requires stream { page.now.stream ≡ self.now.no }
         requires limit { IsLimit limit }
@@ -151,9 +153,10 @@ impl Stream {
         self.shards(Some(page.after), limit)
     }
 
-    /// The position where reading of a listed shard begins from an origin: 0 at the trim horizon, the stream's next
-    /// number at LATEST, and at a moment the number of the first untrimmed record that arrived at or after it, or
-    /// the next number where there is none (Kinesis API Reference, GetShardIterator, ShardIteratorType).
+    /// The position at which reading of a listed shard begins for the origin `from`. It is 0 for the trim horizon, and
+    /// the stream's next number for LATEST. For a moment it is the number of the first untrimmed record that arrived
+    /// at or after the moment, or the next number if there is no such record (Kinesis API Reference, GetShardIterator,
+    /// ShardIteratorType).
     pub fn position(&self, shard: ShardNo, from: Origin) -> u64
         requires { is_listed_at (floor_of self.now.cut) (slice_get self.now.tree shard) ≡ true }
         ensures { (log : Journal) → Shows self.now log → result ≡ origin_position log self.now.clock (ref self.now.no shard) from }
@@ -162,7 +165,7 @@ impl Stream {
         origin_position(from, self.next, log, self.cut)
     }
 
-    /// A batch of a listed shard at a position, and whether the shard ends after it: it is closed, and no
+    /// The batch of a listed shard at a position, and whether the shard ends after this batch: it is closed, and no
     /// record is left.
     pub fn read(
         &self,

@@ -1,4 +1,4 @@
-//! The retention of a stream.
+//! The retention period of a stream.
 ghost use Rattle.std.specs.Prelude.{◌≡◌, nat_lt, if◌then◌else◌, OnErr, OnOk};
 ghost use Rattle.kds_defs.specs.Lawful.{IsRetention};
 ghost use Rattle.kds_defs.specs.StreamCommands.{keep};
@@ -9,7 +9,8 @@ use crate::stream::Stream;
 use crate::stream::clock::{cut_at, later_cut};
 use kds_defs::{Answer, Refusal, Reply};
 
-/// Whether an increase is to fewer hours than there are, or a decrease to more.
+/// Whether a change to `hours` has the wrong direction: an increase to fewer hours than `present`, or a decrease to
+/// more hours.
 fn is_wrong_way(hours: u32, present: u32, raise: bool) -> bool
     ensures { result ≡ (if raise then nat_lt hours present else nat_lt present hours) }
 {
@@ -21,9 +22,9 @@ fn is_wrong_way(hours: u32, present: u32, raise: bool) -> bool
 }
 
 impl Stream {
-    /// Sets the retention in hours, which at this change trims beside the one before. `BadRetention` exactly where
-    /// an increase is to fewer hours than there are, or a decrease to more (Kinesis API Reference,
-    /// IncreaseStreamRetentionPeriod, DecreaseStreamRetentionPeriod).
+    /// Sets the retention to `hours` hours. At the change itself, a record is trimmed if the old or the new retention
+    /// trims it. `BadRetention` exactly if an increase is to fewer hours than at present, or a decrease is to more
+    /// (Kinesis API Reference, IncreaseStreamRetentionPeriod, DecreaseStreamRetentionPeriod).
     pub fn keep(&mut self, hours: u32, raise: bool) -> Answer
         requires { IsRetention hours }
         ensures answered { Decides self.old self.new result (λ log by. keep log self.old.clock by self.old.no hours raise) }

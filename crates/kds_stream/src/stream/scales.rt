@@ -13,10 +13,11 @@ use kds_scale::plan;
 use kds_stream_logs::{add_shards, is_spent, made_by, reserve_shards, take_steps};
 
 impl Stream {
-    /// UpdateShardCount: merges and then splits its open shards to `target` uniform ranges, by as few steps as there
-    /// are. `room` tells how many shards may be open in it beside those of the other streams. All memory is taken before
-    /// the first step. `Full` exactly where `target` is above `room`, `Spent` where the steps would draw a
-    /// number, or number a shard, above the greatest of a `u64` (Kinesis API Reference, UpdateShardCount).
+    /// UpdateShardCount: first merges and then splits the open shards, until they have `target` uniform ranges. It
+    /// takes as few steps as possible. `room` is the greatest number of shards that may be open in this stream, given
+    /// the open shards of the other streams. All memory is allocated before the first step. `Full` exactly if `target`
+    /// is above `room`, `Spent` if a step would need a sequence number or a shard number above the greatest `u64`
+    /// (Kinesis API Reference, UpdateShardCount).
     pub fn scale(&mut self, target: u32, room: u64) -> Result<Answer, Memory>
         requires { IsShardCount target }
         ensures answered { IfOk result (λ a. Decides self.old self.new a (λ log by.
@@ -47,7 +48,8 @@ impl Stream {
         Ok(Ok(reply))
     }
 
-    /// Takes the steps of a scaling to `target` ranges, which make so many shards. All memory is taken before the first.
+    /// Takes the steps of a scaling to `target` ranges. The steps make `made` shards in total. All memory is allocated
+    /// before the first step.
     fn carry_out(&mut self, steps: &[ScaleStep], made: u32, target: u32) -> Result<Reply, Memory>
         requires target { IsShardCount target }
         requires plan { IsPlan self.old target steps.now }

@@ -9,9 +9,10 @@ use kds_defs::{Answer, Command};
 use std::alloc::Global;
 
 impl Stream {
-    /// Serves a command that is for this stream, by its name or by a token of it. `room` tells how many shards may be
-    /// open in it beside those of the other streams; only SplitShard and UpdateShardCount ask for that. After `Memory`,
-    /// which is want of memory, the stream is as before (Kinesis API Reference, the operations of the commands).
+    /// Serves a command that names this stream or has a token of it. `room` is the greatest number of shards that may
+    /// be open in this stream, given the open shards of the other streams; only SplitShard and UpdateShardCount need
+    /// it. `Memory` means that memory ran out; the stream is then as before (Kinesis API Reference, the operations of
+    /// the commands).
     pub fn serve(&mut self, alloc: Global, what: Command, room: u64) -> Result<Answer, Memory>
         requires lawful { IsLawfulCommand what }
         requires own { is_of_stream what ≡ true }
@@ -20,7 +21,7 @@ impl Stream {
         ensures fields { (self.new.no ≡ self.old.no) × (self.new.name ≡ self.old.name) × (self.new.clock ≡ self.old.clock) × (self.new.turn ≡ self.old.turn) }
         ensures kept { OnErr result (self.new ≡ self.old) }
     {
-        // Each arm takes the name too: the borrow checker doesn't follow a field that is left behind.
+        // Each arm also binds the name, because the borrow checker doesn't track a field that isn't moved.
         match what {
             Command::Describe { name, after, limit } => self.describe(alloc, after, limit),
             Command::Summary { name } => self.summary(alloc),

@@ -16,7 +16,8 @@ use kds_log::ShardLog;
 use kds_rate::Window;
 
 impl Stream {
-    /// Whether no further shard may be open in it, where `room` may be, or since as many as may be at all are open.
+    /// Whether no further shard may be opened in the stream: the number of its open shards has reached `room` or
+    /// `OPEN_SHARDS`.
     fn is_full(&self, room: u64) -> bool
         ensures { result ≡ is_full self.now room }
     {
@@ -24,7 +25,7 @@ impl Stream {
         open >= room || open >= OPEN_SHARDS
     }
 
-    /// Why a split of the shard at the key is refused, if it is.
+    /// The reason why a split of the shard at the hash key `at` is refused, or `None` if it isn't.
     fn split_refusal(&self, shard: ShardNo, at: u128, room: u64) -> Option<Refusal>
         ensures decided { RefusesAs self.now result (λ log c by s. split_line log c by s shard at)
             (λ log c by s. split_where (is_full self.now room) log c by s shard at) }
@@ -48,10 +49,11 @@ impl Stream {
         None
     }
 
-    /// Splits a shard at a key: it is closed with the next number, and its two children come last. `room` tells how
-    /// many shards may be open in the stream beside those of the others. `NoShard` where the shard isn't listed, `ShardClosed`
-    /// where it is closed, `BadSplit` where a part would be empty, `Full` without room, `Spent` where the next number
-    /// is the greatest of a `u64` (Kinesis API Reference, SplitShard).
+    /// Splits a shard at the hash key `at`. The shard is closed with the stream's next number, and its two children
+    /// are added at the end. `room` is the greatest number of shards that may be open in this stream, given the open
+    /// shards of the other streams. `NoShard` if the shard isn't listed, `ShardClosed` if it is closed, `BadSplit` if
+    /// one part of its range would be empty, `Full` if `room` shards are open, `Spent` if the next number is the
+    /// greatest `u64` (Kinesis API Reference, SplitShard).
     pub fn split(&mut self, shard: ShardNo, at: u128, room: u64) -> Result<Answer, Memory>
         ensures answered { IfOk result (λ a. Decides self.old self.new a (λ log by.
             split_where (is_full self.old room) log self.old.clock by self.old.no shard at)) }
@@ -67,7 +69,7 @@ impl Stream {
         let alloc = *self.logs.allocator();
         self.logs.reserve(2)?;
         self.windows.reserve(2)?;
-        // The tree doesn't refuse the split: it was asked.
+        // The tree accepts the split: `split_refusal` has already checked it.
         let _children = self.tree.split(shard, at, seq, self.clock)?;
         self.next = Seq(seq.0 + 1);
         self.logs.push_reserved(ShardLog::new(alloc, self.next));

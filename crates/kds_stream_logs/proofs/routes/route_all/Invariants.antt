@@ -3,6 +3,7 @@ use Rattle.std.specs.List.{AllByRecursion}
 use Rattle.kds_defs.specs.Rates.{SizedPut}
 use Rattle.kds_stream_logs.specs.Rating.{IsCounted, StandFor}
 use Rattle.kds_stream_logs.specs.Routes.{ArePlaced, GoesOn}
+use Rattle.kds_stream_logs.specs.Saved.{restored}
 use Rattle.kds_stream_logs.proofs.routes.route_all.Given as goal
 
 -- the routes so far, with the items that are left, go on to those of all
@@ -13,6 +14,7 @@ invariant-loop-item l =
       placed : ArePlaced l.tree.shards l.clock l.first l.routes;
       counted : AllByRecursion (IsCounted l.clock) l.windows;
       many : length l.windows ≡ length l.tree.shards;
+      saved : restored l.routes.saved.items l.windows ≡ l.initial.windows;
     }
 
 abbrev pub decreases-loop-item : goal.decreases-loop-item

@@ -49,8 +49,8 @@ returns-then-end c log show =
     let at = subst (λ n. log_of c.index-log.result.now ≡ get_or v.logs n (log_of c.index-log.result.now)) c.no.view_is (log_at c.self.inside.logs.items c.no.inside.0 c.index-log.result.now c.index-log.ensures) in
     let end = c.if-end.ensures ∙ ap (λ b. is_some c.in-Some.shard.end && b) (none_of c.first_left-left.result c.is_none.result c.is_none.ensures) in
     answer_along (λ (u : StreamValue). get_records log u.clock c.args.iter.now c.args.limit) v c.args.self.now _ c.self.view_is
-    (records_end v log show' c.args.iter.now c.args.limit c.in_ok-batch.place c.in-Some.shard (log_of c.index-log.result.now) c.first_left-left.result c.in_ok-batch.batch c.behind-behind.result own c.if-iter_expired.ensures listed
-    (listed_within v c.args.iter.now.shard c.in-Some.shard c.self.invariant listed) at c.in_ok-batch.ensures.batch c.in_ok-batch.ensures.place c.first_left-left.ensures.value c.behind-behind.ensures c.in_ok-children.children end c.in_ok-children.ensures)
+    (records_end v log show' c.args.iter.now c.args.limit c.in_ok-batch.place c.in-Some.shard (log_of c.index-log.result.now) c.first_left-left.result c.in_ok-batch.batch c.millis_behind-behind.result own c.if-iter_expired.ensures listed
+    (listed_within v c.args.iter.now.shard c.in-Some.shard c.self.invariant listed) at c.in_ok-batch.ensures.batch c.in_ok-batch.ensures.place c.first_left-left.ensures.value c.millis_behind-behind.ensures c.in_ok-children.children end c.in_ok-children.ensures)
 
 pub returns : goal.returns
 returns c log show =
@@ -61,5 +61,5 @@ returns c log show =
     let at = subst (λ n. log_of c.index-log.result.now ≡ get_or v.logs n (log_of c.index-log.result.now)) c.no.view_is (log_at c.self.inside.logs.items c.no.inside.0 c.index-log.result.now c.index-log.ensures) in
     let end = c.if-end.ensures ∙ ap (λ b. is_some c.in-Some.shard.end && b) (none_of c.first_left-left.result c.is_none.result c.is_none.ensures) in
     answer_along (λ (u : StreamValue). get_records log u.clock c.args.iter.now c.args.limit) v c.args.self.now _ c.self.view_is
-    (records_more v log show' c.args.iter.now c.args.limit c.in_ok-batch.place c.in-Some.shard (log_of c.index-log.result.now) c.first_left-left.result c.in_ok-batch.batch c.behind-behind.result own c.if-iter_expired.ensures listed
-    (listed_within v c.args.iter.now.shard c.in-Some.shard c.self.invariant listed) at c.in_ok-batch.ensures.batch c.in_ok-batch.ensures.place c.first_left-left.ensures.value c.behind-behind.ensures c.new.result end c.new.ensures)
+    (records_more v log show' c.args.iter.now c.args.limit c.in_ok-batch.place c.in-Some.shard (log_of c.index-log.result.now) c.first_left-left.result c.in_ok-batch.batch c.millis_behind-behind.result own c.if-iter_expired.ensures listed
+    (listed_within v c.args.iter.now.shard c.in-Some.shard c.self.invariant listed) at c.in_ok-batch.ensures.batch c.in_ok-batch.ensures.place c.first_left-left.ensures.value c.millis_behind-behind.ensures c.new.result end c.new.ensures)

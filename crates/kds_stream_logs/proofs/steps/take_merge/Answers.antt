@@ -1,6 +1,6 @@
 use Rattle.kds_scale.proofs.Partitions.{IsScalable, joins}
 use Rattle.kds_stream_logs.proofs.ScaleSteps.{join_starts, join_value, ok_value}
-use Rattle.kds_stream_logs.proofs.steps.join.Goals as goal
+use Rattle.kds_stream_logs.proofs.steps.take_merge.Goals as goal
 
 pub returns-clause-value : goal.returns-clause-value
 returns-clause-value c =

@@ -1,0 +1,30 @@
+-- Windows that are saved, and put back.
+use Rattle.std.proofs.Common.{◌≡◌, ℕ, zero, suc, List, [], ◌∷◌, ◌++◌, length, ◌≤◌, refl, ap, arith}
+use Rattle.std.specs.Prelude.{slice_set}
+use Rattle.kds_rate.specs.Windows.{WindowValue}
+use Rattle.kds_stream_logs.specs.declared.windows.SavedWindow.{SavedWindow}
+use Rattle.kds_stream_logs.specs.Saved.{DiffersAt, restored}
+
+-- to put back what is there changes nothing
+pub set_same : (ws : List WindowValue) (i : ℕ) → DiffersAt i ws ws
+set_same [] i w is = refl
+set_same (v ∷ ws) zero w is = ap (λ (u : WindowValue). u ∷ ws) is
+set_same (v ∷ ws) (suc i) w is = ap (λ (us : List WindowValue). v ∷ us) (set_same ws i w is)
+
+-- nor does it after the window at that place was set
+pub set_back : (ws : List WindowValue) (i : ℕ) (u : WindowValue) → DiffersAt i (slice_set ws i u) ws
+set_back [] i u w is = refl
+set_back (v ∷ ws) zero u w is = ap (λ (x : WindowValue). x ∷ ws) is
+set_back (v ∷ ws) (suc i) u w is = ap (λ (us : List WindowValue). v ∷ us) (set_back ws i u w is)
+
+-- where there is no window, nothing is set
+pub set_outside : (ws : List WindowValue) (i : ℕ) (w : WindowValue) → length ws ≤ i → slice_set ws i w ≡ ws
+set_outside [] i w h = refl
+set_outside (v ∷ ws) zero w h = absurd (omega (arith, h))
+set_outside (v ∷ ws) (suc i) w h = ap (λ (us : List WindowValue). v ∷ us) (set_outside ws i w (omega (arith, h)))
+
+-- the newest is put back first
+pub restored_more : (saved : List SavedWindow) (s : SavedWindow) (ws : List WindowValue)
+    → restored (saved ++ s ∷ []) ws ≡ restored saved (slice_set ws s.shard s.window)
+restored_more [] s ws = refl
+restored_more (t ∷ saved) s ws = ap (λ (us : List WindowValue). slice_set us t.shard t.window) (restored_more saved s ws)
