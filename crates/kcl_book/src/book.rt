@@ -15,8 +15,8 @@ use kds_defs::Refusal;
 use std::alloc::Global;
 use std::marker::Model;
 
-/// All tenures, numbered from 1 in the order of their beginnings, and kept for good. Contracts see them in this
-/// order, and `spare`, for how many more there is memory.
+/// All tenures, numbered from 1 in the order in which they began. No tenure is ever removed. Contracts see the tenures
+/// in this order, and `spare`, the number of further tenures for which memory is reserved.
 #[derive(Drop)]
 pub struct Book {
     tenures: Vec<KeptTenure>,
@@ -32,8 +32,8 @@ impl Model for Book {
     ghost view = { λ b. record { tenures = b.tenures.items; spare = vec_capacity b.tenures - vec_len b.tenures } };
 }
 
-/// The place of the tenure of a number, if there is one.
-fn place_of(tenures: &[KeptTenure], no: TenureNo) -> Option<usize>
+/// Returns the index of the tenure with the number `no`, if there is such a tenure.
+fn index_of(tenures: &[KeptTenure], no: TenureNo) -> Option<usize>
     ensures none { IfNone result (tenure_at tenures.now no ≡ None) }
     ensures some { IfSome result (λ i. (i + 1 ≡ no) × (i < length tenures.now)) }
 {
@@ -46,7 +46,7 @@ fn place_of(tenures: &[KeptTenure], no: TenureNo) -> Option<usize>
 }
 
 impl Book {
-    /// No tenures.
+    /// Returns a book without tenures.
     pub fn new(alloc: Global) -> Book
         ensures { result.tenures ≡ [] }
     {
@@ -55,7 +55,7 @@ impl Book {
         }
     }
 
-    /// Takes the memory for one more tenure. The error is want of memory, and then the book is as before.
+    /// Reserves memory for one additional tenure. The error means out of memory; then the book is unchanged.
     pub fn reserve(&mut self) -> Result<(), Memory>
         ensures tenures { self.new.tenures ≡ self.old.tenures }
         ensures spare { OnOk result (1 ≤ self.new.spare) }
@@ -64,15 +64,16 @@ impl Book {
         Ok(())
     }
 
-    /// Whether the number of the last tenure is the greatest of a `u64`.
+    /// Whether the last tenure has the greatest `u64` as its number, so that no tenure can begin after it.
     pub fn spent(&self) -> bool
         ensures { result ≡ (length self.now.tenures == last_number) }
     {
         self.tenures.len() as u64 == u64::MAX
     }
 
-    /// Begins a tenure of a key at a checkpoint: the actor took the lease. Condition: memory was reserved, the tenures' numbers aren't
-    /// spent, and the checkpoint leaves something to read. No memory.
+    /// Begins a tenure of `key` at the checkpoint `start`: the actor `by` has taken the lease. Returns the tenure's
+    /// number. Precondition: memory is reserved, a number is left for the tenure, and the checkpoint leaves something
+    /// to read. Needs no memory.
     pub fn begin(&mut self, by: u32, key: ShardRef, start: Checkpoint) -> TenureNo
         requires spare { 1 ≤ self.old.spare }
         requires unspent { length self.old.tenures < last_number }
@@ -86,31 +87,34 @@ impl Book {
         TenureNo(self.tenures.len() as u64)
     }
 
-    /// The tenure of a number. `None` exactly where there is none.
+    /// Returns the tenure with the number `no`. `None` means exactly that there is no such tenure.
     pub fn tenure(&self, no: TenureNo) -> Option<Tenure>
         ensures { result ≡ option_map shown (tenure_at self.now.tenures no) }
     {
-        let place = place_of(&self.tenures, no)?;
-        Some(self.tenures[place].shown())
+        let index = index_of(&self.tenures, no)?;
+        Some(self.tenures[index].shown())
     }
 
-    /// The position below which the tenure's records were given. `None` exactly where there is no such tenure.
+    /// Returns the position below which the records of the tenure `no` were given. `None` means exactly that there is
+    /// no such tenure.
     pub fn delivered(&self, no: TenureNo) -> Option<u64>
         ensures { result ≡ option_map (λ t. t.delivered) (tenure_at self.now.tenures no) }
     {
-        let place = place_of(&self.tenures, no)?;
-        Some(self.tenures[place].delivered())
+        let index = index_of(&self.tenures, no)?;
+        Some(self.tenures[index].delivered())
     }
 
-    /// Whether the tenure's last read that was given ended the shard. `None` exactly where there is no such tenure.
+    /// Whether the last given read of the tenure `no` reached the shard's end. `None` means exactly that there is no
+    /// such tenure.
     pub fn at_end(&self, no: TenureNo) -> Option<bool>
         ensures { result ≡ option_map (λ t. t.at_end) (tenure_at self.now.tenures no) }
     {
-        let place = place_of(&self.tenures, no)?;
-        Some(self.tenures[place].at_end())
+        let index = index_of(&self.tenures, no)?;
+        Some(self.tenures[index].at_end())
     }
 
-    /// Opens a tenure that is there, so that it may read. `OpenedBefore` exactly where it may. No memory.
+    /// Opens the existing tenure `no`, which may read from then on. The refusal is `OpenedBefore` exactly if the
+    /// tenure is already open. Needs no memory.
     pub fn open_tenure(&mut self, no: TenureNo) -> Result<(), Refusal>
         requires { IsSome (tenure_at self.old.tenures no) }
         ensures before { IfErr result (λ r. (r ≡ refusal.OpenedBefore) × (self.new ≡ self.old)
@@ -118,16 +122,17 @@ impl Book {
         ensures opened { OnOk result (IfSome (tenure_at self.old.tenures no) (λ t. (t.opened ≡ false)
             × (self.new ≡ with_tenure no (record t { opened = true }) self.old))) }
     {
-        let place = (no.0 - 1) as usize;
-        if self.tenures[place].is_opened() {
+        let index = (no.0 - 1) as usize;
+        if self.tenures[index].is_opened() {
             return Err(Refusal::OpenedBefore);
         }
-        self.tenures[place].open();
+        self.tenures[index].open();
         Ok(())
     }
 
-    /// Notes a read of a tenure that is there, which reached this position and ended the shard or did not. Condition: the tenure
-    /// was opened, has fewer than `PENDING_READS` reads that aren't given, and doesn't reach beyond the position. No memory.
+    /// Notes a read of the existing tenure `no`: `reach` is the position after the read, and `end` says whether the
+    /// read reached the shard's end. Precondition: the tenure is open, it has fewer than `PENDING_READS` pending
+    /// reads, and its reach isn't beyond `reach`. Needs no memory.
     pub fn read(&mut self, no: TenureNo, reach: u64, end: bool)
         requires there { IsSome (tenure_at self.old.tenures no) }
         requires opened { IfSome (tenure_at self.old.tenures no) (λ t. t.opened ≡ true) }
@@ -138,18 +143,18 @@ impl Book {
         self.tenures[(no.0 - 1) as usize].read(reach, end);
     }
 
-    /// Gives the oldest read of a tenure that is there, of those that aren't given, and tells the position after
-    /// it. `NothingPending` exactly where each is given. No memory.
+    /// Gives the oldest pending read of the existing tenure `no`, and returns the position after that read. The
+    /// refusal is `NothingPending` exactly if the tenure has no pending read. Needs no memory.
     pub fn give(&mut self, no: TenureNo) -> Result<u64, Refusal>
         requires { IsSome (tenure_at self.old.tenures no) }
         ensures nothing { IfErr result (λ r. (r ≡ refusal.NothingPending) × (self.new ≡ self.old)
             × IfSome (tenure_at self.old.tenures no) (λ t. are_none t.pending ≡ true)) }
         ensures given { IfOk result (λ delivered. HasGiven no delivered self.old self.new) }
     {
-        let place = (no.0 - 1) as usize;
-        if self.tenures[place].is_given() {
+        let index = (no.0 - 1) as usize;
+        if self.tenures[index].has_nothing_pending() {
             return Err(Refusal::NothingPending);
         }
-        Ok(self.tenures[place].give())
+        Ok(self.tenures[index].give())
     }
 }

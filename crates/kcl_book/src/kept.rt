@@ -1,4 +1,4 @@
-//! A tenure as it is kept.
+//! A tenure as the book stores it.
 ghost use Rattle.std.specs.Prelude.{◌≡◌, ◌≢◌, ◌<◌, length, true, false, ℕ};
 ghost use Rattle.kds_base.specs.declared.lease_key.Checkpoint.TheVariants.{At, ShardEnd};
 ghost use Rattle.kds_defs.specs.declared.limits.TheConstants.{PENDING_READS};
@@ -12,10 +12,10 @@ use kds_base::{Checkpoint, ShardRef};
 use kds_defs::limits::PENDING_READS;
 use std::marker::Model;
 
-/// As many reads as a tenure may have that aren't given.
+/// The most pending reads that a tenure may have.
 const ROOM: usize = PENDING_READS as usize;
 
-/// A tenure, with the reads that aren't given, the oldest first.
+/// A tenure with its pending reads, the oldest first. A read is pending until it is given.
 #[derive(Drop)]
 pub struct KeptTenure {
     by: u32,
@@ -45,8 +45,8 @@ impl Model for KeptTenure {
     } };
 }
 
-/// The position where reading begins at a checkpoint.
-fn place_of(start: &Checkpoint) -> u64
+/// Returns the position at which reading begins for a checkpoint.
+fn first_position(start: &Checkpoint) -> u64
     requires { (q : ℕ) → start.now ≡ At q → q < u64.MAX }
     ensures { result ≡ place_of start.now }
 {
@@ -57,25 +57,25 @@ fn place_of(start: &Checkpoint) -> u64
 }
 
 impl KeptTenure {
-    /// A tenure that begins.
+    /// Returns a new tenure, which the actor `by` has begun at the checkpoint `start`.
     pub fn begin(by: u32, key: ShardRef, start: Checkpoint) -> KeptTenure
         requires { start ≢ At u64.MAX }
         ensures { result ≡ begun by key start }
     {
-        let place = place_of(&start);
+        let position = first_position(&start);
         KeptTenure {
             by,
             key,
             start,
             opened: false,
-            reach: place,
-            delivered: place,
+            reach: position,
+            delivered: position,
             pending: ArrayVec::new(),
             at_end: false,
         }
     }
 
-    /// As it is shown.
+    /// Returns the tenure in the form in which other crates see it.
     pub fn shown(&self) -> Tenure
         ensures { result ≡ shown self.now }
     {
@@ -91,35 +91,36 @@ impl KeptTenure {
         }
     }
 
-    /// The position below which records were given.
+    /// Returns the position below which the tenure's records were given.
     pub fn delivered(&self) -> u64
         ensures { result ≡ self.now.delivered }
     {
         self.delivered
     }
 
-    /// Whether the last read that was given ended the shard.
+    /// Whether the tenure's last given read reached the shard's end.
     pub fn at_end(&self) -> bool
         ensures { result ≡ self.now.at_end }
     {
         self.at_end
     }
 
-    /// Whether it may read.
+    /// Whether the tenure may read.
     pub fn is_opened(&self) -> bool
         ensures { result ≡ self.now.opened }
     {
         self.opened
     }
 
-    /// It may read from now on.
+    /// Allows the tenure to read from now on.
     pub fn open(&mut self)
         ensures { self.new ≡ record self.old { opened = true } }
     {
         self.opened = true;
     }
 
-    /// Notes a read.
+    /// Notes a read of the tenure: `reach` is the position after the read, and `end` says whether the read reached the
+    /// shard's end.
     pub fn read(&mut self, reach: u64, end: bool)
         requires { length self.old.pending < PENDING_READS }
         ensures { self.new ≡ with_read reach end self.old }
@@ -128,14 +129,14 @@ impl KeptTenure {
         self.pending.push(PendingRead { reach, end });
     }
 
-    /// Whether each of its reads is given.
-    pub fn is_given(&self) -> bool
+    /// Whether the tenure has no pending read.
+    pub fn has_nothing_pending(&self) -> bool
         ensures { result ≡ are_none self.now.pending }
     {
         self.pending.is_empty()
     }
 
-    /// Gives the oldest read that isn't given, and tells the position after it.
+    /// Gives the tenure's oldest pending read, and returns the position after that read.
     pub fn give(&mut self) -> u64
         requires { are_none self.old.pending ≡ false }
         ensures delivered { result ≡ self.new.delivered }

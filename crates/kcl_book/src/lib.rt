@@ -1,4 +1,4 @@
-//! The tenures of leases: who took a lease, what it read, and what of that was given to the processor.
+//! The tenures of leases: who took the lease, what was read in the tenure, and which of these reads were given.
 #![tactic(auto)]
 
 mod book;

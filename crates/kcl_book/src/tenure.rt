@@ -1,27 +1,27 @@
-//! A tenure as it is shown.
+//! A tenure in the form in which other crates see it.
 use kds_base::{Checkpoint, ShardRef};
 
-/// A tenure of a lease, from its taking on (Kinesis Client Library, lease ownership).
+/// A tenure of a lease, which begins when an actor takes the lease (Kinesis Client Library, lease ownership).
 #[derive(Clone, Copy, Debug, PartialEq, Eq)]
 pub struct Tenure {
     /// The actor that took the lease.
     pub by: u32,
     pub key: ShardRef,
-    /// Where it began.
+    /// The lease's checkpoint when the tenure began.
     pub start: Checkpoint,
-    /// Whether it may read.
+    /// Whether the tenure may read.
     pub opened: bool,
-    /// The position after its last read.
+    /// The position after the tenure's last read.
     pub reach: u64,
-    /// The position after its last read that was given.
+    /// The position after the tenure's last given read.
     pub delivered: u64,
-    /// How many of its reads aren't given.
+    /// The number of the tenure's pending reads.
     pub pending: u32,
-    /// Whether the last read that was given ended the shard.
+    /// Whether the tenure's last given read reached the shard's end.
     pub at_end: bool,
 }
 
-/// A read that isn't given: the position after it, and whether it ended the shard.
+/// A pending read, which isn't given yet: the position after the read, and whether the read reached the shard's end.
 #[derive(Clone, Copy, Debug, Default, PartialEq, Eq, Drop)]
 pub(crate) struct PendingRead {
     pub reach: u64,

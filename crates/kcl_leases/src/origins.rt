@@ -1,4 +1,4 @@
-//! Where a row that is made begins.
+//! The origin, the floor and the first checkpoint of a new row.
 ghost use Rattle.std.specs.Prelude.{◌≡◌, ◌≢◌, true};
 ghost use Rattle.kds_base.specs.declared.lease_key.Checkpoint.TheVariants.{At};
 ghost use Rattle.kds_defs.specs.Journal.{Journal};
@@ -13,7 +13,8 @@ use kcl_table::Table;
 use kds_base::{Checkpoint, Seq, ShardNo, ShardRef, StreamNo};
 use kds_defs::{Origin, Shard};
 
-/// Whether a row of this floor reads up to where the shard was closed.
+/// Whether the shard is closed and its ending number is at or above `floor`. A row with this floor then covers the
+/// shard's last number.
 fn reaches_closing(floor: Seq, shard: &Shard) -> bool
     ensures { (x : ShardState) → shard.now ≡ shown x → result ≡ reaches_closing floor x.closing }
 {
@@ -23,8 +24,8 @@ fn reaches_closing(floor: Seq, shard: &Shard) -> bool
     }
 }
 
-/// Whether a parent of a shard of the stream, if there is one, has a row whose floor is at or below the parent's
-/// ending number.
+/// Whether the given parent of a shard has a row whose floor is at or below the parent's ending number. Without a
+/// parent the result is false.
 fn parent_reaches<L: Shards>(
     shards: &L,
     table: &Table,
@@ -37,7 +38,7 @@ fn parent_reaches<L: Shards>(
         return false;
     };
     let key = ShardRef { stream, shard };
-    // borrowed, so that it can be handed on more than once
+    // The key is borrowed, because it is passed on more than once.
     let key = &key;
     let Some(row) = table.row(*key) else {
         return false;
@@ -48,8 +49,8 @@ fn parent_reaches<L: Shards>(
     }
 }
 
-/// The origin that counts for a shard of the stream: TRIM_HORIZON where the row of a parent reaches the parent's
-/// end, so that the shard is read from its first record, and else the given one.
+/// Returns the origin at which the row of a shard begins. If a parent's row covers the parent's last number, the
+/// origin is TRIM_HORIZON, so that the shard is read from its first record. Otherwise the origin is `from`.
 pub fn counting<L: Shards>(
     shards: &L,
     table: &Table,
@@ -67,7 +68,8 @@ pub fn counting<L: Shards>(
     from
 }
 
-/// The number where the row of a listed shard begins, whose first number is `start`.
+/// Returns the floor of the row of a listed shard: the number at which the row begins. `start` is the shard's first
+/// number.
 pub fn floor_from<L: Shards>(shards: &L, key: &ShardRef, start: Seq, from: Origin) -> Seq
     requires { L.lists shards.now key.now ≡ true }
     ensures { (log : Journal) → L.shows shards.now log → start ≡ start_of (shard_at log key.now.stream key.now.shard)
@@ -79,7 +81,7 @@ pub fn floor_from<L: Shards>(shards: &L, key: &ShardRef, start: Seq, from: Origi
     }
 }
 
-/// The checkpoint of a row of this floor that was never marked.
+/// Returns the first checkpoint of a row that begins at the origin `from` and has this floor.
 pub fn start_from(from: Origin, floor: Seq) -> Checkpoint
     ensures value { result ≡ start_from from floor }
     ensures bounded { result ≢ At last_number }

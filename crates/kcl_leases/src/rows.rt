@@ -1,4 +1,4 @@
-//! The commands on rows: they are made, taken, renewed, freed and cut.
+//! The commands that make, take, renew, free and cut rows.
 ghost use Rattle.std.specs.Prelude.{◌≡◌, ◌≤◌, ℕ, List, length, IfOk, OnErr};
 ghost use Rattle.kds_defs.specs.declared.command.Command.TheVariants as command;
 ghost use Rattle.kds_defs.specs.StreamCommands.{last_number};
@@ -7,7 +7,7 @@ ghost use Rattle.kcl_table.specs.Rows.{row_of};
 ghost use Rattle.kcl_leases.specs.Conditions.{start_answer, write_command};
 ghost use Rattle.kcl_leases.specs.Standing.{AreBounded, LeadsOver};
 
-use crate::actors::own;
+use crate::actors::own_tenure;
 use crate::origins::{counting, floor_from, start_from};
 use crate::shards::Shards;
 use kcl_book::Book;
@@ -15,7 +15,8 @@ use kcl_table::{Change, Table};
 use kds_base::{Checkpoint, Memory, ShardRef, TenureNo, WorkerNo};
 use kds_defs::{Answer, Origin, Refusal, Reply};
 
-/// Makes the row of a listed shard. From the origin that counts it has its floor and its first checkpoint.
+/// Makes the row of a listed shard. The row's floor and first checkpoint follow from the origin that `counting`
+/// returns.
 pub fn make<L: Shards>(
     shards: &L,
     table: &mut Table,
@@ -34,7 +35,7 @@ pub fn make<L: Shards>(
         return Ok(Err(Refusal::ShardGone));
     }
     let counts = counting(shards, table, key.stream, shard, from);
-    // borrowed, so that it can be handed on more than once
+    // The value is borrowed, because it is passed on more than once.
     let from = &counts;
     let floor = floor_from(shards, key, shard.start, *from);
     let start = start_from(*from, floor);
@@ -44,10 +45,10 @@ pub fn make<L: Shards>(
     }
 }
 
-/// Where the tenure of a worker begins that takes the row of a key at its counter. `NoLease` where there is no
-/// row, `Moved` where the counter differs, `Ended` where the checkpoint is the shard's end, `Spent` where the
-/// counter is the greatest of a `u64`, or `spent` tells that the numbers of tenures are used up.
-pub fn start(
+/// Returns the checkpoint at which a new tenure begins if a worker takes the row of `key` at `counter`. Refusals:
+/// `NoLease` if there is no row, `Moved` if the row's counter isn't `counter`, `Ended` if the checkpoint is the
+/// shard's end, `Spent` if the counter is the greatest `u64` or if `spent` says that no tenure number is left.
+pub fn take_start(
     table: &Table,
     key: &ShardRef,
     counter: u64,
@@ -70,7 +71,7 @@ pub fn start(
     Ok(row.checkpoint)
 }
 
-/// A worker takes a row, and a tenure begins.
+/// Has a worker take the row of `key` at `counter`, which begins a new tenure.
 pub fn take<L: Shards>(
     shards: &L,
     table: &mut Table,
@@ -87,11 +88,11 @@ pub fn take<L: Shards>(
     ensures kept { OnErr result ((table.new ≡ table.old) × (book.new.tenures ≡ book.old.tenures)) }
 {
     shards.lease_lines();
-    let start = match start(table, key, counter, book.spent()) {
+    let start = match take_start(table, key, counter, book.spent()) {
         Ok(start) => start,
         Err(refusal) => return Ok(Err(refusal)),
     };
-    // borrowed, so that it can be handed on more than once
+    // The value is borrowed, because it is passed on more than once.
     let from = &start;
     book.reserve()?;
     let tenure = book.begin(by, *key, *from);
@@ -105,7 +106,7 @@ pub fn take<L: Shards>(
     }
 }
 
-/// The tenure's row is changed so.
+/// Renews or frees the row of a tenure, as `change` says.
 fn write<L: Shards>(
     shards: &L,
     table: &mut Table,
@@ -119,12 +120,12 @@ fn write<L: Shards>(
         by (write_command change tenure counter) result }
 {
     shards.lease_lines();
-    let own = own(book, by, tenure)?;
+    let own = own_tenure(book, by, tenure)?;
     let next = table.write(own.key, tenure, counter, change)?;
     Ok(Reply::Counter(next))
 }
 
-/// The tenure's row is renewed.
+/// Renews the row of a tenure.
 pub fn renew<L: Shards>(
     shards: &L,
     table: &mut Table,
@@ -139,7 +140,7 @@ pub fn renew<L: Shards>(
     write(shards, table, book, by, tenure, counter, Change::Renewed)
 }
 
-/// The tenure's row is freed.
+/// Frees the row of a tenure.
 pub fn free<L: Shards>(
     shards: &L,
     table: &mut Table,

@@ -1,18 +1,19 @@
-//! The commands on tenures: they are opened, given and marked.
+//! The commands that open a tenure, give its reads and set the checkpoint of its row.
 ghost use Rattle.std.specs.Prelude.{◌≡◌, ℕ, List, IfOk, OnErr};
 ghost use Rattle.kds_defs.specs.declared.command.Command.TheVariants as command;
 ghost use Rattle.kds_defs.specs.declared.reply.Row.{Row};
 ghost use Rattle.kds_defs.specs.Journal.{Journal};
 ghost use Rattle.kcl_leases.specs.Standing.{LeadsOver};
 
-use crate::actors::{held, own, past_parent};
+use crate::actors::{holding_tenure, own_tenure, past_parent};
 use crate::shards::Shards;
 use kcl_book::Book;
 use kcl_table::Table;
 use kds_base::{Memory, TenureNo};
 use kds_defs::{Answer, Refusal, Reply, Target};
 
-/// The tenure may read from now on, once the shard's parents are processed.
+/// Opens a tenure, which may read from then on. The parents of its shard must have been processed to their ends or
+/// have expired.
 pub fn open<L: Shards>(
     shards: &L,
     table: &Table,
@@ -23,11 +24,11 @@ pub fn open<L: Shards>(
     ensures { LeadsOver (L.clock shards.now) (L.shows shards.now) table.now book.old.tenures table.now book.new.tenures by (command.OpenShard tenure) result }
 {
     shards.lease_lines();
-    let own = held(table, book, by, tenure)?;
+    let own = holding_tenure(table, book, by, tenure)?;
     if own.opened {
         return Err(Refusal::OpenedBefore);
     }
-    // borrowed, so that it can be handed on more than once
+    // The key is borrowed, because it is passed on more than once.
     let key = &own.key;
     let Some(shard) = shards.shard(*key) else {
         return Err(Refusal::ShardGone);
@@ -41,18 +42,18 @@ pub fn open<L: Shards>(
     Ok(Reply::Done)
 }
 
-/// The oldest of the tenure's reads that isn't given is given.
+/// Gives the oldest pending read of a tenure.
 pub fn give<L: Shards>(shards: &L, book: &mut Book, by: u32, tenure: TenureNo) -> Answer
     ensures { (rows : List Row)
         → LeadsOver (L.clock shards.now) (L.shows shards.now) rows book.old.tenures rows book.new.tenures by (command.Give tenure) result }
 {
     shards.lease_lines();
-    own(book, by, tenure)?;
+    own_tenure(book, by, tenure)?;
     let delivered = book.give(tenure)?;
     Ok(Reply::Given { delivered })
 }
 
-/// The checkpoint of the tenure's row is set.
+/// Sets the checkpoint of a tenure's row.
 pub fn mark<L: Shards>(
     shards: &L,
     table: &mut Table,
@@ -66,7 +67,7 @@ pub fn mark<L: Shards>(
         by (command.Mark tenure counter to) result }
 {
     shards.lease_lines();
-    let own = own(book, by, tenure)?;
+    let own = own_tenure(book, by, tenure)?;
     let next = table.mark(own.key, tenure, counter, to, own.delivered, own.at_end)?;
     Ok(Reply::Counter(next))
 }

@@ -1,7 +1,7 @@
-//! The table of leases: a row for each shard that workers process.
+//! The lease table, which has a row for each shard that workers process.
 #![tactic(auto)]
 
-mod place;
+mod search;
 mod table;
 mod writes;
 

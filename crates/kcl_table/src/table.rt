@@ -1,4 +1,4 @@
-//! The table of leases.
+//! The lease table.
 ghost use Rattle.std.specs.Prelude.{◌≡◌, ◌≢◌, ◌≤◌, [], is_some, if◌then◌else◌, None, Err, Ok, IfOk, OnErr, OnOk};
 ghost use Rattle.std.specs.Option.{option_map};
 ghost use Rattle.kds_defs.specs.declared.reply.Refusal.TheVariants as refusal;
@@ -6,17 +6,16 @@ ghost use Rattle.kds_defs.specs.Leases.{marked_row, new_row, taken_row};
 ghost use Rattle.kcl_table.specs.Rows.{changed, row_of, with_row, without_row};
 ghost use Rattle.kcl_table.specs.Writes.{cut_answer, mark_answer, renew_answer, take_answer, written_row};
 
-use crate::place::{place_of, row_of};
+use crate::search::{index_of, row_of};
 use crate::writes::{
-    Change, held, marked, next_counter, take_counter, taken, target_counter, written,
+    Change, check_owner, marked, next_counter, take_counter, taken, target_counter, written,
 };
 use kds_base::{Checkpoint, Items, Memory, Seq, ShardNo, ShardRef, TenureNo, WorkerNo};
 use kds_defs::{Refusal, Row, Target};
 use std::alloc::Global;
 use std::marker::Model;
 
-/// The rows of the leases. Contracts see the rows in the order of their keys
-/// (Kinesis Client Library, lease table).
+/// The lease table (Kinesis Client Library, lease table). Contracts see its rows in the order of their keys.
 #[derive(Drop)]
 pub struct Table {
     rows: Vec<Row>,
@@ -35,7 +34,7 @@ impl Model for Table {
 }
 
 impl Table {
-    /// A table without rows.
+    /// Returns a table without rows.
     pub fn new(alloc: Global) -> Table
         ensures { result ≡ [] }
     {
@@ -44,14 +43,14 @@ impl Table {
         }
     }
 
-    /// The row of a key. `None` exactly where it has none.
+    /// Returns the row of a key. `None` means exactly that the key has no row.
     pub fn row(&self, key: ShardRef) -> Option<&Row>
         ensures { option_map (λ r. r.now) result ≡ row_of self.now key }
     {
         row_of(&self.rows, &key)
     }
 
-    /// All rows in the order of their keys. The error is want of memory.
+    /// Returns all rows in the order of their keys. The error means out of memory.
     pub fn rows(&self) -> Result<Items<Row>, Memory>
         ensures { IfOk result (λ rows. rows ≡ self.now) }
     {
@@ -62,19 +61,20 @@ impl Table {
         Ok(rows)
     }
 
-    /// Puts a row in the place of the one of its key.
+    /// Replaces the row that has the same key as `row`.
     fn put(&mut self, row: Row)
         requires there { (row_of self.old row.key ≡ None) → ⊥ }
         requires counted { row.switches ≤ row.counter }
         ensures { self.new ≡ changed (λ _. row) row.key self.old }
     {
-        let place = place_of(&self.rows, &row.key);
-        self.rows[place] = row;
+        let index = index_of(&self.rows, &row.key);
+        self.rows[index] = row;
     }
 
-    /// Makes the row of a key, owned by nobody: `floor` is the number where the row's records begin, `start` the
-    /// checkpoint where its first tenure begins. `LeaseThere` exactly where the key has one
-    /// (Kinesis Client Library, lease, initial position in stream). The error is want of memory, and then no row is made.
+    /// Makes a row without an owner for a key. `floor` is the number at which the row's records begin. `start` is the
+    /// checkpoint at which the row's first tenure begins. The refusal is `LeaseThere` exactly if the key already has a
+    /// row (Kinesis Client Library, lease, initial position in stream). The error means out of memory; then no row was
+    /// made.
     pub fn create(
         &mut self,
         key: ShardRef,
@@ -91,15 +91,15 @@ impl Table {
         let None = row_of(&self.rows, &key) else {
             return Ok(Err(Refusal::LeaseThere));
         };
-        let place = place_of(&self.rows, &key);
+        let index = index_of(&self.rows, &key);
         self.rows
-            .insert(place, first(key, floor, start, parent, adjacent))?;
+            .insert(index, first(key, floor, start, parent, adjacent))?;
         Ok(Ok(()))
     }
 
-    /// A worker takes the row of a key at its counter, and the tenure begins. `NoLease` where there is no row,
-    /// `Moved` where the counter differs, `Ended` where the checkpoint is the shard's end, `Spent` where the
-    /// counter is the greatest of a `u64`.
+    /// Has a worker take the row of a key at `counter`, so that a new tenure holds the row. Refusals: `NoLease` if
+    /// there is no row, `Moved` if the row's counter isn't `counter`, `Ended` if the checkpoint is the shard's end,
+    /// `Spent` if the counter is the greatest `u64`.
     pub fn take(
         &mut self,
         key: ShardRef,
@@ -121,8 +121,9 @@ impl Table {
         Ok(next)
     }
 
-    /// The tenure renews its row at its counter, or frees it so that nobody owns it. `Lost` where the row's tenure is
-    /// another, or none, `Moved` where the counter differs, `Spent` where it is the greatest of a `u64`.
+    /// Has a tenure renew its row at `counter`, or free it, which leaves it without an owner. Refusals: `Lost` if the
+    /// row has another tenure or no tenure, `Moved` if the row's counter isn't `counter`, `Spent` if the counter is
+    /// the greatest `u64`.
     pub fn write(
         &mut self,
         key: ShardRef,
@@ -135,16 +136,17 @@ impl Table {
         ensures written { OnOk result (self.new ≡ changed (written_row change) key self.old) }
         ensures refused { OnErr result (self.new ≡ self.old) }
     {
-        let row = held(&self.rows, &key, tenure, counter)?;
+        let row = check_owner(&self.rows, &key, tenure, counter)?;
         let next = next_counter(&row)?;
         self.put(written(&row, change));
         Ok(next)
     }
 
-    /// The tenure sets the checkpoint of its row at its counter. `Lost` and `Moved` as in a renewal; for a number
-    /// `Ended` where the checkpoint is the shard's end, `Beyond` where the number isn't below `delivered`, `Below`
-    /// where it is less than the least that it may be; for the end `NotAtEnd` where `at_end` is false; then
-    /// `Spent` (Kinesis Client Library, checkpoint).
+    /// Has a tenure set the checkpoint of its row at `counter` (Kinesis Client Library, checkpoint). The refusals
+    /// `Lost` and `Moved` are as in a renewal. If the target is a number, further refusals are `Ended` if the
+    /// checkpoint is the shard's end, `Beyond` if the number isn't below `delivered`, and `Below` if the number is
+    /// less than the least number that may be set. If the target is the shard's end, the refusal is `NotAtEnd` if
+    /// `at_end` is false. After these checks, the refusal is `Spent` if the counter is the greatest `u64`.
     pub fn mark(
         &mut self,
         key: ShardRef,
@@ -159,14 +161,14 @@ impl Table {
         ensures marked { OnOk result (self.new ≡ changed (marked_row to) key self.old) }
         ensures refused { OnErr result (self.new ≡ self.old) }
     {
-        let row = held(&self.rows, &key, tenure, counter)?;
+        let row = check_owner(&self.rows, &key, tenure, counter)?;
         let next = target_counter(&row, &to, delivered, at_end)?;
         self.put(marked(&row, &to));
         Ok(next)
     }
 
-    /// Removes the row of a key at its counter. `NoLease` where there is none, `Moved` where the counter differs,
-    /// `ShardListed` where the shard is listed.
+    /// Removes the row of a key at `counter`. Refusals: `NoLease` if there is no row, `Moved` if the row's counter
+    /// isn't `counter`, `ShardListed` if the shard is listed.
     pub fn cut(&mut self, key: ShardRef, counter: u64, listed: bool) -> Result<(), Refusal>
         ensures value { result ≡ cut_answer (row_of self.old key) counter listed }
         ensures cut { OnOk result (self.new ≡ without_row key self.old) }
@@ -181,13 +183,13 @@ impl Table {
         if listed {
             return Err(Refusal::ShardListed);
         }
-        let place = place_of(&self.rows, &key);
-        self.rows.remove(place);
+        let index = index_of(&self.rows, &key);
+        self.rows.remove(index);
         Ok(())
     }
 }
 
-/// The row of a key as it is made.
+/// Returns a new row of a key, without an owner and with the counter 0.
 fn first(
     key: ShardRef,
     floor: Seq,

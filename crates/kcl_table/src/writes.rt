@@ -1,4 +1,4 @@
-//! The conditions of a write of one row, and the row after it.
+//! The conditions under which a row may be written, and the row after each write.
 ghost use Rattle.std.specs.Prelude.{◌≡◌, ◌≢◌, ◌<◌, ◌≤◌, ◌-◌, ◌^◌, ℕ, Some, IfErr, IfOk, Result, Err};
 ghost use Rattle.kds_defs.specs.declared.reply.Refusal.{Refusal};
 ghost use Rattle.kds_defs.specs.RowWrites.{least};
@@ -6,18 +6,18 @@ ghost use Rattle.kds_defs.specs.Leases.{checkpoint_at, marked_row, taken_row};
 ghost use Rattle.kcl_table.specs.Rows.{AreInOrder, row_of};
 ghost use Rattle.kcl_table.specs.Writes.{counted, held_answer, take_answer, target_answer, written_row};
 
-use crate::place::row_of;
+use crate::search::row_of;
 use kds_base::{Checkpoint, Seq, ShardRef, TenureNo, WorkerNo};
 use kds_defs::{Refusal, Row, Target};
 
-/// What a tenure makes of its row at its counter: it is renewed, or freed so that nobody owns it.
+/// A change that a tenure makes to its row: it renews the row, or frees it, which leaves the row without an owner.
 #[derive(Clone, Copy, Debug, PartialEq, Eq)]
 pub enum Change {
     Renewed,
     Freed,
 }
 
-/// The counter after one more write.
+/// Returns the counter after the next write. The refusal is `Spent` if `counter` is the greatest `u64`.
 fn counted(counter: u64) -> Result<u64, Refusal>
     ensures { result ≡ counted counter }
 {
@@ -27,7 +27,7 @@ fn counted(counter: u64) -> Result<u64, Refusal>
     Ok(counter + 1)
 }
 
-/// The counter after a worker took the row at its counter.
+/// Returns the row's counter after a worker takes the row at `counter`, or the refusal of the Take.
 pub fn take_counter(row: &Row, counter: u64) -> Result<u64, Refusal>
     ensures { result ≡ take_answer (Some row.now) counter }
 {
@@ -40,8 +40,13 @@ pub fn take_counter(row: &Row, counter: u64) -> Result<u64, Refusal>
     counted(row.counter)
 }
 
-/// The row of the key, where it is the tenure's and has this counter.
-pub fn held(rows: &[Row], key: &ShardRef, tenure: TenureNo, counter: u64) -> Result<Row, Refusal>
+/// Returns the row of the key if the tenure holds it at this counter. Otherwise returns the refusal.
+pub fn check_owner(
+    rows: &[Row],
+    key: &ShardRef,
+    tenure: TenureNo,
+    counter: u64,
+) -> Result<Row, Refusal>
     requires order { AreInOrder rows.now }
     requires some { tenure ≢ 0 }
     ensures refused { (next : Result ℕ Refusal) → IfErr result (λ r. held_answer (row_of rows.now key.now) tenure counter next ≡ Err r) }
@@ -60,14 +65,14 @@ pub fn held(rows: &[Row], key: &ShardRef, tenure: TenureNo, counter: u64) -> Res
     Ok(*row)
 }
 
-/// The counter after the row was renewed or freed.
+/// Returns the row's counter after it is renewed or freed.
 pub fn next_counter(row: &Row) -> Result<u64, Refusal>
     ensures { result ≡ counted row.now.counter }
 {
     counted(row.counter)
 }
 
-/// The least number that a checkpoint may be set to.
+/// Returns the least number to which the row's checkpoint may be set.
 fn least(row: &Row) -> Seq
     ensures { result ≡ least row.now.checkpoint row.now.floor }
 {
@@ -77,7 +82,7 @@ fn least(row: &Row) -> Seq
     }
 }
 
-/// The counter after the checkpoint was set.
+/// Returns the row's counter after its checkpoint is set to the target `to`, or the refusal of the Mark.
 pub fn target_counter(row: &Row, to: &Target, delivered: u64, at_end: bool) -> Result<u64, Refusal>
     ensures { result ≡ target_answer (Some row.now) to.now delivered at_end }
 {
@@ -90,9 +95,9 @@ pub fn target_counter(row: &Row, to: &Target, delivered: u64, at_end: bool) -> R
             if delivered <= q.0 {
                 return Err(Refusal::Beyond(delivered));
             }
-            let least = least(row);
-            if q < least {
-                return Err(Refusal::Below(least));
+            let lowest = least(row);
+            if q < lowest {
+                return Err(Refusal::Below(lowest));
             }
         }
         Target::End => {
@@ -104,7 +109,7 @@ pub fn target_counter(row: &Row, to: &Target, delivered: u64, at_end: bool) -> R
     counted(row.counter)
 }
 
-/// The row after a worker took it.
+/// Returns the row after a worker took it.
 pub fn taken(row: &Row, tenure: TenureNo, owner: WorkerNo) -> Row
     requires counter { row.now.counter < 2 ^ 64 - 1 }
     requires switches { row.now.switches ≤ row.now.counter }
@@ -127,7 +132,7 @@ pub fn taken(row: &Row, tenure: TenureNo, owner: WorkerNo) -> Row
     }
 }
 
-/// The row after such a change.
+/// Returns the row after it was renewed or freed.
 pub fn written(row: &Row, change: Change) -> Row
     requires { row.now.counter < 2 ^ 64 - 1 }
     ensures { result ≡ written_row change row.now }
@@ -146,7 +151,7 @@ pub fn written(row: &Row, change: Change) -> Row
     }
 }
 
-/// The checkpoint that a target sets.
+/// Returns the checkpoint that the target `to` sets.
 fn checkpoint_at(to: &Target) -> Checkpoint
     ensures { result ≡ checkpoint_at to.now }
 {
@@ -156,7 +161,7 @@ fn checkpoint_at(to: &Target) -> Checkpoint
     }
 }
 
-/// The row after its checkpoint was set.
+/// Returns the row after its checkpoint was set to the target `to`.
 pub fn marked(row: &Row, to: &Target) -> Row
     requires { row.now.counter < 2 ^ 64 - 1 }
     ensures { result ≡ marked_row to.now row.now }

@@ -1,4 +1,4 @@
-//! One command, at the service's clock.
+//! The answer to one command, at the service's clock.
 ghost use Rattle.std.specs.Prelude.{◌≡◌, true, false, IfOk, IsOk, OnErr};
 ghost use Rattle.kds_defs.specs.Journal.{Journal};
 ghost use Rattle.kds_defs.specs.Kinds.{is_service};
@@ -29,7 +29,7 @@ fn lease_answer(
     ensures kept { OnErr result ((table.new ≡ table.old) × (book.new.tenures ≡ book.old.tenures)) }
     ensures sure { NeedsNoMemory what → IsOk result }
 {
-    // borrowed, so that it can be handed on
+    // The shards are borrowed, because they are passed on more than once.
     let shards = ServiceShards { service };
     let shards = &shards;
     match what {
@@ -59,7 +59,7 @@ fn lease_answer(
     }
 }
 
-/// Answers a command. After `Memory`, which is want of memory, all is as before.
+/// Answers a command. The error `Memory` means out of memory; then nothing has changed.
 pub fn answer(
     service: &mut Service,
     table: &mut Table,

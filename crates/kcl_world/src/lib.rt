@@ -1,4 +1,4 @@
-//! The machine: the streams, the rows of leases and their tenures.
+//! The machine of this program: the streams, the rows of leases, and their tenures.
 #![tactic(auto)]
 
 mod answer;

@@ -1,4 +1,4 @@
-//! The commands on leases that read the streams: a survey, and the read of a tenure.
+//! The commands on leases that read from the streams: a survey, and the Read of a tenure.
 ghost use Rattle.std.specs.Prelude.{◌≡◌, ℕ, List, IfOk, OnErr};
 ghost use Rattle.kds_defs.specs.declared.command.Command.TheVariants as command;
 ghost use Rattle.kds_defs.specs.declared.reply.Row.{Row};
@@ -15,7 +15,7 @@ use kds_base::{Memory, TenureNo};
 use kds_defs::{Answer, Reply, place_after};
 use kds_service::Service;
 
-/// All listed shards, and all rows.
+/// Returns all listed shards and all rows.
 pub fn survey(service: &Service, table: &Table) -> Result<Answer, Memory>
     ensures { (by : ℕ) (ts : List TenureValue) → let at = world service.now table.now ts in IfOk result (Leads at at by command.Survey) }
 {
@@ -24,7 +24,8 @@ pub fn survey(service: &Service, table: &Table) -> Result<Answer, Memory>
     Ok(Ok(Reply::Survey { shards, rows }))
 }
 
-/// The tenure reads at its reach at most `limit` records.
+/// Reads at most `limit` records of the tenure's shard, from the tenure's reach on. The Read is refused if `position`
+/// isn't that reach.
 pub fn read(
     service: &Service,
     book: &mut Book,

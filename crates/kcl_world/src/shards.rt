@@ -1,10 +1,10 @@
-//! The shards of the service, as leases see them.
+//! The shards of the stream service, as the commands on leases see them.
 use kcl_leases::Shards;
 use kds_base::ShardRef;
 use kds_defs::{Origin, Shard};
 use kds_service::{Service, lease_lines};
 
-/// The shards of a service.
+/// The shards of a stream service, as the commands on leases see them.
 #[derive(Clone, Copy)]
 pub struct ServiceShards<'a> {
     pub service: &'a Service,

@@ -1,4 +1,4 @@
-//! The machine.
+//! The machine of this program.
 ghost use Rattle.std.specs.Prelude.{[], ◌≡◌, ◌≤◌, true, false};
 ghost use Rattle.kds_defs.specs.Journal.{Journal};
 ghost use Rattle.kds_service.specs.Clocks.{CanGoBack, gone_back};
@@ -14,8 +14,8 @@ use kds_service::Service;
 use std::alloc::Global;
 use std::marker::Model;
 
-/// The machine: its clock, the stream service, which stands at that clock, the rows of the leases, and their
-/// tenures. It stands for the history that it has answered.
+/// The machine: its clock, the stream service at the same clock, the rows of the leases, and their tenures. Contracts
+/// state the history that the machine stands for: the turns that it has answered.
 #[derive(Drop)]
 pub struct World {
     clock: Moment,
@@ -36,8 +36,8 @@ impl Model for World {
     ghost invariant = { λ w. (w.service.clock ≡ w.clock) × ((h : List Turn) × StandsFor (world w.service w.table w.book.tenures) h) };
 }
 
-/// Raises the clock of the service from this moment to a later one. The answer is whether it is later: then each stream
-/// is told, and else nothing is done.
+/// Raises the service's clock from `before` to `clock`, and advances each stream. If the two are equal, nothing is
+/// done. Returns whether the clock was raised.
 fn raise(service: &mut Service, before: Moment, clock: Moment) -> bool
     requires at { service.old.clock ≡ before }
     requires later { before ≤ clock }
@@ -56,7 +56,8 @@ fn raise(service: &mut Service, before: Moment, clock: Moment) -> bool
     true
 }
 
-/// Takes back what `raise` did, after which nothing was changed and nothing was settled.
+/// Undoes a call of `raise` that returned `raised`. If `raised` is true, the service must not have changed or settled
+/// anything since.
 fn lower(service: &mut Service, raised: bool)
     requires { raised ≡ true → CanGoBack service.old }
     ensures raised { raised ≡ true → service.new ≡ gone_back service.old }
@@ -68,7 +69,8 @@ fn lower(service: &mut Service, raised: bool)
 }
 
 impl World {
-    /// A machine without streams and leases, which has answered nothing. It takes its memory from `alloc`.
+    /// Returns a machine without streams and leases, which hasn't answered any turn. The machine takes its memory from
+    /// `alloc`.
     pub fn new(alloc: Global) -> World
         ensures { StandsFor result [] }
     {

@@ -1,6 +1,7 @@
 -- The streams of a service at a later clock, back at the earlier one, and without what is trimmed.
 use Rattle.std.specs.Prelude.{ℕ, zero, suc, nat_lt, if◌then◌else◌, List, [], ◌∷◌, length, map}
-use Rattle.kds_stream.specs.Value.{StreamValue, cut_at, later_cut, next_of, settled}
+use Rattle.kds_base.specs.Circle.{next_of}
+use Rattle.kds_stream.specs.Value.{StreamValue, cut_at, later_cut, settled}
 use Rattle.kds_service.specs.Shown.{AreAt, ServiceValue}
 
 -- the stream at a later clock, which remembers the earlier one

@@ -1,15 +1,14 @@
-//! The streams at a later clock, and back at the earlier one.
+//! Raises the clocks of all streams, and sets them back.
 ghost use Rattle.std.specs.Prelude.{◌≡◌, ◌≤◌, map};
 ghost use Rattle.indexmap.specs.IndexMap.{keys, values};
 ghost use Rattle.kds_defs.specs.Journal.{Journal};
-ghost use Rattle.kds_stream.specs.Value.{next_of};
 ghost use Rattle.kds_service.specs.Clocks.{advanced, in_turn, retreated, settled_in};
 ghost use Rattle.kds_service.specs.Shown.{AreAt, AreShown};
 
-use crate::places::Streams;
+use crate::streams_by_name::Streams;
 use kds_base::Moment;
 
-/// Raises the clock of every stream from the one that all stand at.
+/// Raises the clock of every stream from `before` to `clock`. Precondition: the clock of every stream is at `before`.
 pub fn advance_all(streams: &mut Streams, before: Moment, clock: Moment)
     requires at { AreAt before (values streams.old) }
     requires later { before ≤ clock }
@@ -22,7 +21,7 @@ pub fn advance_all(streams: &mut Streams, before: Moment, clock: Moment)
     }
 }
 
-/// Puts the clock of every stream back to what it was before the last advance, if nothing has changed since.
+/// Sets the clock of every stream back to its value before the last `advance_all`, if nothing else has changed since.
 pub fn retreat_all(streams: &mut Streams)
     ensures value { values streams.new ≡ map retreated (values streams.old) }
     ensures keys { keys streams.new ≡ keys streams.old }
@@ -32,25 +31,16 @@ pub fn retreat_all(streams: &mut Streams)
     }
 }
 
-/// The place whose turn it is among so many: this one, where there is one, and else the first.
+/// The index whose turn it is in a rotation over `count` indices: `turn` if it is below `count`, otherwise 0.
 pub fn in_turn(count: usize, turn: usize) -> usize
     ensures { result ≡ in_turn count turn }
 {
     if turn < count { turn } else { 0 }
 }
 
-/// The place after this one of so many, in a circle.
-pub fn next_of(count: usize, place: usize) -> usize
-    ensures { result ≡ next_of count place }
-{
-    match place.checked_add(1) {
-        Some(next) if next < count => next,
-        _ => 0,
-    }
-}
-
-/// Drops trimmed records of the stream at a place, if there is one; no answer depends on it.
-pub fn settle_at(streams: &mut Streams, i: usize)
+/// Drops the trimmed records of one shard of the stream at the index `i`, if this stream exists; no answer depends on
+/// this.
+pub fn settle_stream(streams: &mut Streams, i: usize)
     ensures value { values streams.new ≡ settled_in i (values streams.old) }
     ensures keys { keys streams.new ≡ keys streams.old }
     ensures shows { (log : Journal) → AreShown log (values streams.old) → AreShown log (values streams.new) }

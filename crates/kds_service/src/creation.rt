@@ -1,4 +1,4 @@
-//! The making and the end of streams.
+//! Creation and deletion of streams.
 ghost use Rattle.std.specs.Prelude.{◌≡◌, ℕ, IfOk, OnErr};
 ghost use Rattle.indexmap.specs.IndexMap.{values};
 ghost use Rattle.kds_defs.specs.declared.command.Command.TheVariants as command;
@@ -7,14 +7,14 @@ ghost use Rattle.kds_service.specs.Places.{ArePlaced};
 ghost use Rattle.kds_service.specs.Shown.{Leads, LeadsTo, service};
 
 use crate::laws;
-use crate::places::{Streams, find_name, is_full};
+use crate::streams_by_name::{Streams, index_by_name, is_full};
 use kds_base::{Memory, Moment, Name, StreamNo};
 use kds_defs::{Answer, Refusal, Reply};
 use kds_stream::Stream;
 use std::alloc::Global;
 
-/// CreateStream: the stream comes last, with the number after the last one that was ever given
-/// (Kinesis API Reference, CreateStream).
+/// CreateStream: adds the new stream at the end. It gets the number that follows the last number ever given to a
+/// stream (Kinesis API Reference, CreateStream).
 pub fn create(
     alloc: Global,
     streams: &mut Streams,
@@ -32,7 +32,7 @@ pub fn create(
     ensures kept { OnErr result ((values streams.new ≡ values streams.old) × (made.new ≡ made.old)) }
 {
     laws::others();
-    if find_name(streams, &name).is_some() {
+    if index_by_name(streams, &name).is_some() {
         return Ok(Err(Refusal::StreamThere));
     }
     if is_full(streams, shards as u64) {
@@ -49,14 +49,14 @@ pub fn create(
     Ok(Ok(Reply::Done))
 }
 
-/// DeleteStream: the others keep their order (Kinesis API Reference, DeleteStream).
+/// DeleteStream: removes a stream. The other streams keep their order (Kinesis API Reference, DeleteStream).
 pub fn delete(streams: &mut Streams, clock: Moment, name: &Name) -> Answer
     requires { ArePlaced clock streams.old.entries }
     ensures leads { LeadsTo clock (values streams.old) (values streams.new) (command.Delete name.now) result }
     ensures placed { ArePlaced clock streams.new.entries }
 {
     laws::others();
-    match find_name(streams, name) {
+    match index_by_name(streams, name) {
         None => Err(Refusal::NoStream),
         Some(i) => {
             streams.shift_remove_index(i);

@@ -1,4 +1,4 @@
-//! What a command to one stream, or to a lease, leaves of the other streams.
+//! Laws: a command for one stream or for a lease doesn't change the other streams.
 ghost use Rattle.std.specs.Prelude.{◌≡◌, ◌∷◌, [], ℕ, List, None};
 ghost use Rattle.kds_defs.specs.Journal.{Journal, Line};
 ghost use Rattle.kds_defs.specs.Subjects.{stream_of};
@@ -7,9 +7,10 @@ ghost use Rattle.kds_service.specs.Shown.{ServiceValue, ShowsAll, StaysShown, St
 
 use kds_stream::other_lines;
 
-/// The streams of a service show a journal with the lines of one stream, once that stream shows it; with the line
-/// of a new stream, once that stream stands last; and with the line of a stream's end, once that stream is away.
-/// A service without streams shows the empty journal.
+/// Suppose that the streams of a service show a journal. They also show it with further lines about one stream, if
+/// this stream is replaced by a state that shows the longer journal. They also show it with the line that creates a
+/// stream, if the new stream is added at the end and shows the longer journal. They also show it with the line that
+/// deletes a stream, if this stream is removed. A service without streams shows the empty journal.
 pub fn others()
     ensures changed { (c b n i : ℕ) (vs : List StreamValue) (x v : StreamValue) (log : Journal) (lines : List Line)
         → ShowsAll (service c b n vs) log → StaysShown c b n vs log i x v lines }
@@ -22,7 +23,8 @@ pub fn others()
     other_lines();
 }
 
-/// The streams of a service show a journal with a line of a lease too, at its clock.
+/// If the streams of a service show a journal, they also show this journal with one further line, provided that the
+/// line is about a lease and was written at the service's clock.
 pub fn lease_lines()
     ensures { (w : ServiceValue) (log : Journal) (line : Line) → ShowsAll w log → line.clock ≡ w.clock → stream_of line.what ≡ None → ShowsAll w (line ∷ log) }
 {

@@ -1,4 +1,4 @@
-//! Shards by their keys, over streams that all stand at the clock.
+//! Shards by their keys. All streams stand at the same clock.
 ghost use Rattle.std.specs.Prelude.{◌≡◌, ◌-◌, ◌^◌, ◌<◌, map, true, IfOk};
 ghost use Rattle.std.specs.List.{AllByRecursion};
 ghost use Rattle.std.specs.Option.{option_map};
@@ -10,22 +10,22 @@ ghost use Rattle.kds_stream.specs.Reading.{read_ends};
 ghost use Rattle.kds_service.specs.Keyed.{is_listed_in, listed_keys, state_in, stream_at};
 ghost use Rattle.kds_service.specs.Shown.{InJournalsOf};
 
-use crate::places::{Streams, find_number};
+use crate::streams_by_name::{Streams, index_by_number};
 use kds_base::{Items, Memory, ShardRef, StreamNo};
 use kds_defs::{Origin, Shard, Stored};
 use kds_stream::Stream;
 use std::alloc::Global;
 
-/// The stream of a number, if there is one.
+/// The stream with the number `no`, if it is live.
 #[tactic(auto, using(crate::proofs::KeyedShards::stream_found, crate::proofs::KeyedShards::none_found))]
 fn find(streams: &Streams, no: StreamNo) -> Option<&Stream>
     ensures { option_map (λ v. v.now) result ≡ stream_at (values streams.now) no }
 {
-    let i = find_number(streams, no)?;
+    let i = index_by_number(streams, no)?;
     Some(&streams[i])
 }
 
-/// Whether the shard of a key is listed.
+/// Whether the shard with this key is listed.
 pub fn is_listed(streams: &Streams, key: &ShardRef) -> bool
     ensures { result ≡ is_listed_in (values streams.now) key.now }
 {
@@ -35,7 +35,7 @@ pub fn is_listed(streams: &Streams, key: &ShardRef) -> bool
     }
 }
 
-/// The shard of a key.
+/// The shard with this key. `None` if its stream isn't live or the shard was never made.
 pub fn shard<'a>(streams: &'a Streams, key: &ShardRef) -> Option<&'a Shard>
     ensures { option_map (λ x. x.now) result ≡ option_map shown (state_in (values streams.now) key.now) }
 {
@@ -43,7 +43,7 @@ pub fn shard<'a>(streams: &'a Streams, key: &ShardRef) -> Option<&'a Shard>
     stream.tree().shard(key.shard)
 }
 
-/// The keys of all listed shards, in order.
+/// The keys of the listed shards of all streams, in order.
 pub fn listed(alloc: Global, streams: &Streams) -> Result<Items<ShardRef>, Memory>
     ensures { IfOk result (λ keys. keys ≡ listed_keys (values streams.now)) }
 {
@@ -54,7 +54,7 @@ pub fn listed(alloc: Global, streams: &Streams) -> Result<Items<ShardRef>, Memor
     Ok(keys)
 }
 
-/// The position where reading of a listed shard begins from an origin.
+/// The position at which reading of a listed shard begins for the origin `from`.
 pub fn position(streams: &Streams, key: &ShardRef, from: Origin) -> u64
     requires { is_listed_in (values streams.now) key.now ≡ true }
     ensures { InJournalsOf (values streams.now) (λ log c. result ≡ origin_position log c key.now from) }
@@ -65,7 +65,7 @@ pub fn position(streams: &Streams, key: &ShardRef, from: Origin) -> u64
     }
 }
 
-/// A batch of a listed shard at a position, and whether the shard ends after it.
+/// The batch of a listed shard at a position, and whether the shard ends after this batch.
 pub fn read(
     alloc: Global,
     streams: &Streams,

@@ -1,4 +1,4 @@
-//! The stream service: its streams by name, and the limits over all of them.
+//! The stream service: the streams by name, and the limits that hold for all streams together.
 #![tactic(auto)]
 
 mod clocks;
@@ -7,9 +7,9 @@ mod laws;
 mod lease_keys;
 mod listing;
 mod lookup;
-mod places;
 mod serve;
 mod service;
+mod streams_by_name;
 
 pub use laws::lease_lines;
 pub use service::Service;

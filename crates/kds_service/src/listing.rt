@@ -1,4 +1,4 @@
-//! The names of the streams.
+//! Lists the names of the streams.
 ghost use Rattle.std.specs.Prelude.{◌≡◌, IfOk, filter, map, take};
 ghost use Rattle.indexmap.specs.IndexMap.{values};
 ghost use Rattle.kds_defs.specs.declared.command.Command.TheVariants as command;
@@ -6,19 +6,19 @@ ghost use Rattle.kds_defs.specs.Lawful.{IsLimit};
 ghost use Rattle.kds_defs.specs.Listings.{are_more, is_after_name, name_before, names_in_order};
 ghost use Rattle.kds_service.specs.Shown.{LeadsTo, names_of};
 
-use crate::places::Streams;
+use crate::streams_by_name::Streams;
 use kds_base::{Items, Memory, Moment, Name};
 use kds_defs::{Answer, Reply};
 use std::alloc::Global;
 
-/// Whether a name comes before another in the order of bytes.
+/// Whether the name `a` comes before the name `b` in the order of their bytes.
 fn is_before(a: &Name, b: &Name) -> bool
     ensures { result ≡ name_before a.now b.now }
 {
     a.bytes().cmp(b.bytes()).is_lt()
 }
 
-/// The names of the streams in the order of their bytes.
+/// The names of all streams, in the order of their bytes.
 fn in_order(alloc: Global, streams: &Streams) -> Result<Vec<&Name>, Memory>
     ensures { IfOk result (λ names. map (λ n. n.now) names.items ≡ names_in_order (names_of (values streams.now))) }
 {
@@ -30,7 +30,7 @@ fn in_order(alloc: Global, streams: &Streams) -> Result<Vec<&Name>, Memory>
     Ok(names)
 }
 
-/// Whether a name comes after the one at which a listing begins.
+/// Whether a listing that begins after the name `after` contains `name`: `name` is greater, or `after` is `None`.
 fn is_after(after: &Option<Name>, name: &Name) -> bool
     ensures { result ≡ is_after_name after.now name.now }
 {
@@ -40,7 +40,7 @@ fn is_after(after: &Option<Name>, name: &Name) -> bool
     }
 }
 
-/// At most `limit` of the names, from after the one at which the listing begins, and whether more follow.
+/// At most `limit` names, beginning after the name `after`, and whether more names follow.
 fn first_after(
     alloc: Global,
     names: &[&Name],
@@ -63,7 +63,7 @@ fn first_after(
     Ok((first, false))
 }
 
-/// ListStreams (Kinesis API Reference, ListStreams).
+/// ListStreams: a page of the names of the streams (Kinesis API Reference, ListStreams).
 pub fn streams(
     alloc: Global,
     streams: &Streams,

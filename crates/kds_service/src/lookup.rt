@@ -1,4 +1,4 @@
-//! Which stream a command is for, and what it is told of the others.
+//! Finds the stream for a command, and the number of shards that may be open in this stream.
 ghost use Rattle.std.specs.Prelude.{◌≡◌, ◌<◌, ◌-◌, IfSome, length, true};
 ghost use Rattle.indexmap.specs.IndexMap.{keys, values};
 ghost use Rattle.kds_defs.specs.declared.limits.TheConstants.{OPEN_SHARDS};
@@ -6,13 +6,13 @@ ghost use Rattle.kds_stream.specs.Serving.{asks_for_room, token_of};
 ghost use Rattle.kds_service.specs.Places.{expiry, open_beside, place_for};
 ghost use Rattle.kds_service.specs.Shown.{names_of};
 
-use crate::places::{Streams, find_name, find_number, room_beside};
+use crate::streams_by_name::{Streams, index_by_name, index_by_number, open_limit};
 use kds_base::{Moment, StreamNo};
 use kds_defs::limits::OPEN_SHARDS;
 use kds_defs::{Command, Refusal};
 use kds_token::{iter_expired, page_expired};
 
-/// Why the token of a command is refused, if it is too old (Kinesis API Reference, GetRecords,
+/// The refusal of a command whose token is too old; `None` for every other command (Kinesis API Reference, GetRecords,
 /// ExpiredIteratorException; ListShards, ExpiredNextTokenException).
 pub fn expired(what: &Command, clock: Moment) -> Option<Refusal>
     ensures { result ≡ expiry clock what.now }
@@ -24,7 +24,7 @@ pub fn expired(what: &Command, clock: Moment) -> Option<Refusal>
     }
 }
 
-/// The number of the stream that the command's token is of, if it has a token.
+/// The number of the stream to which the command's token belongs, or `None` if the command has no token.
 fn token_stream(what: &Command) -> Option<StreamNo>
     ensures { result ≡ token_of what.now }
 {
@@ -35,27 +35,28 @@ fn token_stream(what: &Command) -> Option<StreamNo>
     }
 }
 
-/// The place of the stream that a command is for, by its token or by its name, if there is one.
+/// The index of the stream that the command names or to which its token belongs, if this stream is live.
 pub fn find(streams: &Streams, what: &Command) -> Option<usize>
     requires { keys streams.now ≡ names_of (values streams.now) }
     ensures value { result ≡ place_for (values streams.now) what.now }
     ensures within { IfSome result (λ i. i < length (values streams.now)) }
 {
     match token_stream(what) {
-        Some(no) => find_number(streams, no),
+        Some(no) => index_by_number(streams, no),
         None => {
             let name = what.stream_name()?;
-            find_name(streams, name)
+            index_by_name(streams, name)
         }
     }
 }
 
-/// How many shards may be open in the stream of this number beside those of the others, if the command asks for that.
-pub fn room_for(streams: &Streams, no: StreamNo, what: &Command) -> u64
+/// The number of shards that may be open in the stream with the number `no`, given the open shards of the other
+/// streams. For a command that doesn't need this number the result is `OPEN_SHARDS`.
+pub fn open_limit_for(streams: &Streams, no: StreamNo, what: &Command) -> u64
     ensures { asks_for_room what.now ≡ true → result ≡ OPEN_SHARDS - open_beside (values streams.now) no }
 {
     match what {
-        Command::Split { .. } | Command::Scale { .. } => room_beside(streams, no),
+        Command::Split { .. } | Command::Scale { .. } => open_limit(streams, no),
         _ => OPEN_SHARDS,
     }
 }

@@ -1,4 +1,4 @@
-//! One command, over streams that all stand at the clock.
+//! Serves one command. All streams stand at the same clock.
 ghost use Rattle.std.specs.Prelude.{◌≡◌, ℕ, true, IfOk, OnErr};
 ghost use Rattle.indexmap.specs.IndexMap.{values};
 ghost use Rattle.kds_defs.specs.Kinds.{is_service};
@@ -10,13 +10,13 @@ ghost use Rattle.kds_service.specs.Shown.{Leads, LeadsTo, service};
 use crate::creation::{create, delete};
 use crate::laws;
 use crate::listing::streams as list_streams;
-use crate::lookup::{expired, find, room_for};
-use crate::places::Streams;
+use crate::lookup::{expired, find, open_limit_for};
+use crate::streams_by_name::Streams;
 use kds_base::{Memory, Moment};
 use kds_defs::{Answer, Command, Refusal};
 use std::alloc::Global;
 
-/// Serves a command that isn't of leases, at the clock at which all streams stand.
+/// Serves a command for the stream service at the moment `clock`, at which all streams stand.
 pub fn serve(
     alloc: Global,
     streams: &mut Streams,
@@ -40,8 +40,8 @@ pub fn serve(
     }
 }
 
-/// Serves a command of one stream that must be there. A token that is too old is refused before its stream is looked
-/// for, and any other command with `NoStream` where there is no such stream.
+/// Serves a command for one existing stream. A command with a token that is too old is refused before its stream is
+/// looked up. Any other command is refused with `NoStream` if its stream isn't live.
 fn serve_one(
     alloc: Global,
     streams: &mut Streams,
@@ -63,8 +63,8 @@ fn serve_one(
         None => Ok(Err(Refusal::NoStream)),
         Some(i) => {
             let no = streams[i].no();
-            let room = room_for(streams, no, &what);
-            streams[i].serve(alloc, what, room)
+            let limit = open_limit_for(streams, no, &what);
+            streams[i].serve(alloc, what, limit)
         }
     }
 }

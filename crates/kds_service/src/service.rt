@@ -1,4 +1,4 @@
-//! The service.
+//! The stream service and its operations.
 ghost use Rattle.std.specs.Prelude.{◌≡◌, ◌≤◌, ◌-◌, ◌^◌, ◌<◌, ℕ, [], map, true, IfOk, OnErr};
 ghost use Rattle.std.specs.List.{AllByRecursion};
 ghost use Rattle.std.specs.Option.{option_map};
@@ -16,25 +16,25 @@ ghost use Rattle.kds_service.specs.Clocks.{CanGoBack, advanced, gone_back, settl
 ghost use Rattle.kds_service.specs.Keyed.{is_listed_in, live_shard};
 ghost use Rattle.kds_service.specs.Shown.{Leads, ShowsAll, service};
 
-use crate::clocks::{advance_all, in_turn, next_of, retreat_all, settle_at};
-use crate::places::Streams;
+use crate::clocks::{advance_all, in_turn, retreat_all, settle_stream};
 use crate::serve::serve;
+use crate::streams_by_name::Streams;
 use crate::{laws, lease_keys};
 use indexmap::IndexMap;
-use kds_base::{Items, Memory, Moment, ShardRef};
+use kds_base::{Items, Memory, Moment, ShardRef, next_of};
 use kds_defs::{Answer, Command, Origin, Shard, Stored};
 use std::alloc::Global;
 use std::marker::Model;
 
-/// The stream service: its clock, how many streams were made, and the live streams by their names, in the order
-/// of their numbers. At every moment each stream stands at the service's clock.
+/// The stream service: its clock, the number of streams ever made, and the live streams by name, in the order of their
+/// numbers. The clock of each stream always equals the service's clock.
 #[derive(Drop)]
 pub struct Service {
     clock: Moment,
     clock_before: Moment,
     made: u64,
     streams: Streams,
-    /// The place of the stream that is settled next.
+    /// The index of the stream whose trimmed records are dropped next.
     turn: usize,
 }
 
@@ -51,7 +51,7 @@ impl Model for Service {
 }
 
 impl Service {
-    /// A service without streams, at the moment 0. It takes its memory from `alloc`.
+    /// A service without streams, at moment 0. It allocates its memory from `alloc`.
     pub fn new(alloc: Global) -> Service
         ensures value { result ≡ service 0 0 0 [] }
         ensures shows { ShowsAll result [] }
@@ -66,7 +66,7 @@ impl Service {
         }
     }
 
-    /// Raises the clock of the service and of every stream, in milliseconds, and drops nothing yet.
+    /// Raises the clock of the service and of every stream to `clock`. It drops no records yet.
     pub fn advance(&mut self, clock: Moment)
         requires { self.old.clock ≤ clock }
         ensures value { self.new ≡ record self.old { clock = clock; clock_before = self.old.clock; streams = map (advanced clock) self.old.streams } }
@@ -79,8 +79,8 @@ impl Service {
         self.clock = clock;
     }
 
-    /// The clock of the service, and the clock and the cut of every stream, are again what they were before the
-    /// last advance, since which nothing was changed and nothing was settled.
+    /// Sets the clock of the service, and the clock and the cut of every stream, back to their values before the last
+    /// `advance`. Precondition: since then nothing was changed and no records were dropped.
     pub fn retreat(&mut self)
         requires { CanGoBack self.old }
         ensures { self.new ≡ gone_back self.old }
@@ -89,8 +89,8 @@ impl Service {
         self.clock = self.clock_before;
     }
 
-    /// Drops the trimmed records of one shard of the stream whose turn it is; no answer depends on it. The streams take
-    /// turns, and so do the shards of each, so that a call costs the same however many there are.
+    /// Drops the trimmed records of the next stream's next shard, in rotation; no answer depends on this. One shard is
+    /// handled in a call, so the cost of a call doesn't grow with the number of streams or shards.
     pub fn settle(&mut self)
         ensures clock { self.new.clock ≡ self.old.clock }
         ensures dropped { self.new ≡ settled_in_turn self.old }
@@ -98,13 +98,13 @@ impl Service {
     {
         let count = self.streams.len();
         let place = in_turn(count, self.turn);
-        settle_at(&mut self.streams, place);
+        settle_stream(&mut self.streams, place);
         self.turn = next_of(count, place);
         self.clock_before = self.clock;
     }
 
-    /// Serves a command that isn't of leases, at the service's clock. After `Memory`, which is want of memory, the service is as before
-    /// (Kinesis API Reference, the operations of the commands).
+    /// Serves a command for the stream service at the service's clock. `Memory` means that memory ran out; the service
+    /// is then as before (Kinesis API Reference, the operations of the commands).
     pub fn serve(&mut self, what: Command) -> Result<Answer, Memory>
         requires lawful { IsLawfulCommand what }
         requires own { is_service what ≡ true }
@@ -117,7 +117,7 @@ impl Service {
         serve(alloc, &mut self.streams, &mut self.made, self.clock, what)
     }
 
-    /// Whether the shard of a key is listed: it was made, it isn't expired, and its stream isn't gone.
+    /// Whether the shard with this key is listed: it was made, it hasn't expired, and its stream is live.
     pub fn is_listed(&self, key: ShardRef) -> bool
         ensures value { result ≡ is_listed_in self.now.streams key }
         ensures shown { (log : Journal) → ShowsAll self.now log → result ≡ is_listed_key log self.now.clock key }
@@ -125,23 +125,24 @@ impl Service {
         lease_keys::is_listed(&self.streams, &key)
     }
 
-    /// The shard of a key. `None` exactly where its stream is gone, or it was never made.
+    /// The shard with this key. `None` exactly if its stream isn't live or the shard was never made.
     pub fn shard(&self, key: ShardRef) -> Option<&Shard>
         ensures { (log : Journal) → ShowsAll self.now log → option_map (λ x. x.now) result ≡ option_map shown (live_shard log key) }
     {
         lease_keys::shard(&self.streams, &key)
     }
 
-    /// The keys of all listed shards, in order.
+    /// The keys of the listed shards of all streams, in order.
     pub fn listed(&self) -> Result<Items<ShardRef>, Memory>
         ensures { (log : Journal) → ShowsAll self.now log → IfOk result (λ keys. keys ≡ listed_in log self.now.clock (live_streams log)) }
     {
         lease_keys::listed(*self.streams.allocator(), &self.streams)
     }
 
-    /// The position where reading of a listed shard begins from an origin: 0 at the trim horizon, its stream's next
-    /// number at LATEST, and at a moment the number of the first untrimmed record that arrived at or after it, or
-    /// the next number where there is none (Kinesis API Reference, GetShardIterator, ShardIteratorType).
+    /// The position at which reading of a listed shard begins for the origin `from`. It is 0 for the trim horizon, and
+    /// the next number of the shard's stream for LATEST. For a moment it is the number of the first untrimmed record
+    /// that arrived at or after the moment, or the next number if there is no such record (Kinesis API Reference,
+    /// GetShardIterator, ShardIteratorType).
     pub fn position(&self, key: ShardRef, from: Origin) -> u64
         requires { is_listed_in self.now.streams key ≡ true }
         ensures { (log : Journal) → ShowsAll self.now log → result ≡ origin_position log self.now.clock key from }
@@ -149,7 +150,7 @@ impl Service {
         lease_keys::position(&self.streams, &key, from)
     }
 
-    /// A batch of a listed shard at a position, and whether the shard ends after it: it is closed, and no
+    /// The batch of a listed shard at a position, and whether the shard ends after this batch: it is closed, and no
     /// record is left.
     pub fn read(
         &self,

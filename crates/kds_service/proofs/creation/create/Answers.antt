@@ -15,24 +15,25 @@ use Rattle.kds_service.proofs.creation.create.Goals as goal
 pub returns-then-is_some-clause-leads : goal.returns-then-is_some-clause-leads
 returns-then-is_some-clause-leads c before =
     let a = c.args in
-    create_there a.clock before a.made.now (values a.streams.now) a.name a.shards (ap is_some (sym c.find_name.ensures.value) ∙ sym c.is_some.ensures ∙ c.if-is_some.true)
+    create_there a.clock before a.made.now (values a.streams.now) a.name a.shards
+    (ap is_some (sym c.index_by_name.ensures.value) ∙ sym c.is_some.ensures ∙ c.if-is_some.true)
 
 pub returns-then-is_full-clause-leads : goal.returns-then-is_full-clause-leads
 returns-then-is_full-clause-leads c before =
     let a = c.args in
-    create_full a.clock before a.made.now (values a.streams.now) a.name a.shards (ap is_some (sym c.find_name.ensures.value) ∙ sym c.is_some.ensures ∙ c.if-is_some.false) (sym c.is_full.ensures ∙ c.if-is_full.true)
+    create_full a.clock before a.made.now (values a.streams.now) a.name a.shards (ap is_some (sym c.index_by_name.ensures.value) ∙ sym c.is_some.ensures ∙ c.if-is_some.false) (sym c.is_full.ensures ∙ c.if-is_full.true)
 
 pub returns-then-last-clause-leads : goal.returns-then-last-clause-leads
 returns-then-last-clause-leads c before =
     let a = c.args in
-    create_spent a.clock before a.made.now (values a.streams.now) a.name a.shards (ap is_some (sym c.find_name.ensures.value) ∙ sym c.is_some.ensures ∙ c.if-is_some.false) (sym c.is_full.ensures ∙ c.if-is_full.false)
+    create_spent a.clock before a.made.now (values a.streams.now) a.name a.shards (ap is_some (sym c.index_by_name.ensures.value) ∙ sym c.is_some.ensures ∙ c.if-is_some.false) (sym c.is_full.ensures ∙ c.if-is_full.false)
     (eq-eqb a.made.now last_number c.if-last.true)
 
 pub returns-clause-leads : goal.returns-clause-leads
 returns-clause-leads c before =
     let a = c.args in
     let es = a.streams.now.entries in
-    let absent = ap is_some (sym c.find_name.ensures.value) ∙ sym c.is_some.ensures ∙ c.if-is_some.false in
+    let absent = ap is_some (sym c.index_by_name.ensures.value) ∙ sym c.is_some.ensures ∙ c.if-is_some.false in
     let none =
     ap (λ k. position_from (same_name k) 0 (keys_of es)) c.in_ok-key.ensures ∙ ap (position_from (same_name a.name) 0) c.requires.placed.named
     ∙ of_none _ absent in
@@ -46,7 +47,7 @@ pub returns-clause-placed : goal.returns-clause-placed
 returns-clause-placed c =
     let a = c.args in
     let es = a.streams.now.entries in
-    let absent = ap is_some (sym c.find_name.ensures.value) ∙ sym c.is_some.ensures ∙ c.if-is_some.false in
+    let absent = ap is_some (sym c.index_by_name.ensures.value) ∙ sym c.is_some.ensures ∙ c.if-is_some.false in
     let none =
     ap (λ k. position_from (same_name k) 0 (keys_of es)) c.in_ok-key.ensures ∙ ap (position_from (same_name a.name) 0) c.requires.placed.named
     ∙ of_none _ absent in

@@ -37,9 +37,10 @@ returns-in-Some-find-clause-leads c =
     let vs = values a.streams.now in
     let x = c.index_mut.result.now in
     let same = same_some c.index.result.now x (sym c.index.ensures ∙ c.index_mut.ensures.value) in
-    stream_leads a.clock c.in-Some-find.i vs _ x c.serve.new.self a.what c.room_for-room.result c.serve.result c.others.ensures.changed c.requires.placed.at
+    stream_leads a.clock c.in-Some-find.i vs _ x c.serve.new.self a.what c.open_limit_for-limit.result
+    c.serve.result c.others.ensures.changed c.requires.placed.at
     c.index_mut.ensures.value (sym c.in-Some-find.ensures.value) (values_set a.streams.now.entries c.in-Some-find.i c.serve.new.self) c.requires.own
-    (λ asks. c.room_for-room.ensures asks ∙ ap (λ s. OPEN_SHARDS - open_beside vs s) (c.no-no.ensures ∙ ap (λ u. u.no) same))
+    (λ asks. c.open_limit_for-limit.ensures asks ∙ ap (λ s. OPEN_SHARDS - open_beside vs s) (c.no-no.ensures ∙ ap (λ u. u.no) same))
     c.serve.ensures.fields.0 c.serve.ensures.fields.2 c.serve.ensures.answered
 
 pub returns-in-Some-find-clause-placed : goal.returns-in-Some-find-clause-placed

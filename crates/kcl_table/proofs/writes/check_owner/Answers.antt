@@ -1,5 +1,5 @@
 use Rattle.std.proofs.Common.{rules}
-use Rattle.kcl_table.proofs.writes.held.Goals as goal
+use Rattle.kcl_table.proofs.writes.check_owner.Goals as goal
 
 pub returns-then-row-counter-clause-refused : goal.returns-then-row-counter-clause-refused
 returns-then-row-counter-clause-refused c = search rules

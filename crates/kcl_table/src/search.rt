@@ -1,4 +1,4 @@
-//! Where the row of a key stands.
+//! The search for the row of a given key.
 ghost use Rattle.std.specs.Prelude.{◌≡◌, ◌≤◌, length, slice_get};
 ghost use Rattle.std.specs.Option.{option_map};
 ghost use Rattle.kds_defs.specs.Keys.{is_before};
@@ -7,7 +7,7 @@ ghost use Rattle.kcl_table.specs.Rows.{AreInOrder, if_key, place_of, row_of};
 use kds_base::ShardRef;
 use kds_defs::Row;
 
-/// Whether a comes before b: by stream, and then by shard.
+/// Whether the key `a` comes before the key `b`: by stream, and then by shard.
 fn is_before(a: &ShardRef, b: &ShardRef) -> bool
     ensures { result ≡ is_before a.now b.now }
 {
@@ -18,8 +18,8 @@ fn is_before(a: &ShardRef, b: &ShardRef) -> bool
     }
 }
 
-/// How many rows come before the key.
-pub fn place_of(rows: &[Row], key: &ShardRef) -> usize
+/// Returns the number of rows whose keys come before `key`.
+pub fn index_of(rows: &[Row], key: &ShardRef) -> usize
     requires { AreInOrder rows.now }
     ensures value { result ≡ place_of key.now rows.now }
     ensures within { result ≤ length rows.now }
@@ -27,19 +27,19 @@ pub fn place_of(rows: &[Row], key: &ShardRef) -> usize
     rows.partition_point(|row| is_before(&row.key, key))
 }
 
-/// The row at this place, if it is the key's.
-fn row_at<'a>(rows: &'a [Row], place: usize, key: &ShardRef) -> Option<&'a Row>
-    ensures { option_map (λ r. r.now) result ≡ if_key key.now (slice_get rows.now place) }
+/// Returns the row at this index, if the row's key is `key`.
+fn row_at<'a>(rows: &'a [Row], index: usize, key: &ShardRef) -> Option<&'a Row>
+    ensures { option_map (λ r. r.now) result ≡ if_key key.now (slice_get rows.now index) }
 {
-    let row = rows.get(place)?;
-    if row.key.is(key) { Some(row) } else { None }
+    let row = rows.get(index)?;
+    if row.key == *key { Some(row) } else { None }
 }
 
-/// The row of the key.
+/// Returns the row whose key is `key`, if there is such a row.
 #[tactic(auto, using(crate::proofs::Places::row_there))]
 pub fn row_of<'a>(rows: &'a [Row], key: &ShardRef) -> Option<&'a Row>
     requires { AreInOrder rows.now }
     ensures { option_map (λ r. r.now) result ≡ row_of rows.now key.now }
 {
-    row_at(rows, place_of(rows, key), key)
+    row_at(rows, index_of(rows, key), key)
 }

@@ -3,7 +3,7 @@ use Rattle.std.specs.List.{position_from}
 use Rattle.indexmap.specs.IndexMap.{values}
 use Rattle.kds_service.proofs.Lists.{drop_get}
 use Rattle.kds_service.specs.Shown.{numbers_of}
-use Rattle.kds_service.proofs.places.find_number.Goals as goal
+use Rattle.kds_service.proofs.streams_by_name.index_by_number.Goals as goal
 
 pub returns-then-eq-clause-value : goal.returns-then-eq-clause-value
 returns-then-eq-clause-value c =

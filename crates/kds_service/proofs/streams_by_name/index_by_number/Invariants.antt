@@ -3,7 +3,7 @@ use Rattle.std.specs.List.{position_from}
 use Rattle.indexmap.specs.IndexMap.{values}
 use Rattle.kds_service.specs.Places.{place_at}
 use Rattle.kds_service.specs.Shown.{numbers_of}
-use Rattle.kds_service.proofs.places.find_number.Given as goal
+use Rattle.kds_service.proofs.streams_by_name.index_by_number.Given as goal
 
 -- the search among the streams that are left is the search among all
 abbrev pub invariant-loop-i : goal.invariant-loop-i

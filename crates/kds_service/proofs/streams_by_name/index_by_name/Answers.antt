@@ -3,7 +3,7 @@ use Rattle.std.specs.List.{position_from}
 use Rattle.std.proofs.lemmas.Iterator.Adapters.{position_from-zero}
 use Rattle.indexmap.specs.IndexMap.{keys}
 use Rattle.kds_defs.specs.Streams.{same_name}
-use Rattle.kds_service.proofs.places.find_name.Goals as goal
+use Rattle.kds_service.proofs.streams_by_name.index_by_name.Goals as goal
 
 pub returns-clause-value : goal.returns-clause-value
 returns-clause-value c =

@@ -5,7 +5,7 @@ use Rattle.indexmap.specs.IndexMap.{values}
 use Rattle.kds_defs.specs.declared.limits.TheConstants.{OPEN_SHARDS}
 use Rattle.kds_service.proofs.Lists.{drop_get}
 use Rattle.kds_service.specs.Places.{open_total}
-use Rattle.kds_service.proofs.places.has_room.Goals as goal
+use Rattle.kds_service.proofs.streams_by_name.may_open.Goals as goal
 
 over : (total more left rest opened later : ℕ) → left + total + more ≡ OPEN_SHARDS + rest → rest ≡ opened + later → left < opened → false ≡ nat_le (total + more) OPEN_SHARDS
 over total more left rest opened later sum is above = grind (arith, nat_tests)

@@ -1,4 +1,4 @@
-//! Where a stream stands among those of the service.
+//! The streams of the service by name, and the limits on their number and their shards.
 ghost use Rattle.std.specs.Prelude.{◌≡◌, ◌+◌, ◌-◌, ◌<◌, IfSome, length, nat_le};
 ghost use Rattle.kds_defs.specs.declared.limits.TheConstants.{OPEN_SHARDS};
 ghost use Rattle.indexmap.specs.IndexMap.{keys, values};
@@ -10,11 +10,11 @@ use kds_base::{Name, StreamNo};
 use kds_defs::limits::{LIVE_STREAMS, OPEN_SHARDS};
 use kds_stream::Stream;
 
-/// The live streams by their names, in the order of their numbers.
+/// The live streams by name, in the order of their numbers.
 pub type Streams = IndexMap<Name, Stream>;
 
-/// The place of the stream of a name, if there is one.
-pub fn find_name(streams: &Streams, name: &Name) -> Option<usize>
+/// The index of the stream with this name, if it is live.
+pub fn index_by_name(streams: &Streams, name: &Name) -> Option<usize>
     requires { keys streams.now ≡ names_of (values streams.now) }
     ensures value { result ≡ place_of (values streams.now) name.now }
     ensures within { IfSome result (λ i. i < length (values streams.now)) }
@@ -22,8 +22,8 @@ pub fn find_name(streams: &Streams, name: &Name) -> Option<usize>
     streams.get_index_of(name)
 }
 
-/// The place of the stream of a number, if there is one. It looks at each: there are 64 at most.
-pub fn find_number(streams: &Streams, no: StreamNo) -> Option<usize>
+/// The index of the stream with this number, if it is live. The search looks at each stream; there are at most 64.
+pub fn index_by_number(streams: &Streams, no: StreamNo) -> Option<usize>
     ensures value { result ≡ place_at (values streams.now) no }
     ensures within { IfSome result (λ i. i < length (values streams.now)) }
 {
@@ -35,8 +35,8 @@ pub fn find_number(streams: &Streams, no: StreamNo) -> Option<usize>
     None
 }
 
-/// Whether so many more shards may be open.
-pub fn has_room(streams: &Streams, more: u64) -> bool
+/// Whether `more` further shards may be open.
+pub fn may_open(streams: &Streams, more: u64) -> bool
     ensures { result ≡ nat_le (open_total (values streams.now) + more) OPEN_SHARDS }
 {
     if more > OPEN_SHARDS {
@@ -53,7 +53,7 @@ pub fn has_room(streams: &Streams, more: u64) -> bool
     true
 }
 
-/// How many shards a stream has open, and 0 of the stream of this number.
+/// The number of open shards of `stream`, or 0 if its number is `no`.
 fn open_unless(stream: &Stream, no: StreamNo) -> u64
     ensures { result ≡ open_unless stream.now no }
 {
@@ -64,8 +64,9 @@ fn open_unless(stream: &Stream, no: StreamNo) -> u64
     }
 }
 
-/// How many shards may be open beside those of all streams but the one of this number.
-pub fn room_beside(streams: &Streams, no: StreamNo) -> u64
+/// The number of shards that may be open in the stream with the number `no`, given the open shards of all other
+/// streams.
+pub fn open_limit(streams: &Streams, no: StreamNo) -> u64
     ensures { result ≡ OPEN_SHARDS - open_beside (values streams.now) no }
 {
     let mut left = OPEN_SHARDS;
@@ -76,9 +77,9 @@ pub fn room_beside(streams: &Streams, no: StreamNo) -> u64
     left
 }
 
-/// Whether a stream of so many shards would be one too many, or would have too many shards.
+/// Whether a new stream of `shards` shards would exceed the limit on streams or the limit on open shards.
 pub fn is_full(streams: &Streams, shards: u64) -> bool
     ensures { result ≡ is_full (values streams.now) shards }
 {
-    streams.len() as u64 >= LIVE_STREAMS || !has_room(streams, shards)
+    streams.len() as u64 >= LIVE_STREAMS || !may_open(streams, shards)
 }

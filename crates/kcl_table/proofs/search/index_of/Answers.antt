@@ -1,7 +1,7 @@
 use Rattle.std.proofs.Common.{rules}
 use Rattle.std.proofs.lemmas.List.Sorted.{IsPartitionPoint-from_clause}
 use Rattle.kcl_table.proofs.Places.{comes_before, partitioned, place_is}
-use Rattle.kcl_table.proofs.place.place_of.Goals as goal
+use Rattle.kcl_table.proofs.search.index_of.Goals as goal
 
 pub returns-clause-value : goal.returns-clause-value
 returns-clause-value c =

@@ -6,7 +6,7 @@ use Rattle.kds_service.proofs.Clocked.{settled_beyond, settled_here}
 use Rattle.kds_service.proofs.Entries.{keys_set, values_set}
 use Rattle.kds_service.proofs.Lists.{all_get, all_set}
 use Rattle.kds_service.specs.Shown.{AreShown}
-use Rattle.kds_service.proofs.clocks.settle_at.Goals as goal
+use Rattle.kds_service.proofs.clocks.settle_stream.Goals as goal
 
 pub returns-then-i-len-clause-value : goal.returns-then-i-len-clause-value
 returns-then-i-len-clause-value c =

@@ -3,7 +3,7 @@ use Rattle.std.specs.Prelude.{◌-◌}
 use Rattle.kds_defs.specs.declared.limits.TheConstants.{OPEN_SHARDS}
 use Rattle.indexmap.specs.IndexMap.{values}
 use Rattle.kds_service.specs.Places.{open_beside}
-use Rattle.kds_service.proofs.places.room_beside.Given as goal
+use Rattle.kds_service.proofs.streams_by_name.open_limit.Given as goal
 
 -- less what is open in the streams that are left, what may still be open is what may be beside all
 abbrev pub invariant-loop-i : goal.invariant-loop-i

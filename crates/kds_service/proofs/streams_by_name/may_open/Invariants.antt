@@ -2,7 +2,7 @@ use Rattle.std.proofs.Common.{◌≡◌, ◌+◌, drop}
 use Rattle.kds_defs.specs.declared.limits.TheConstants.{OPEN_SHARDS}
 use Rattle.indexmap.specs.IndexMap.{values}
 use Rattle.kds_service.specs.Places.{open_total}
-use Rattle.kds_service.proofs.places.has_room.Given as goal
+use Rattle.kds_service.proofs.streams_by_name.may_open.Given as goal
 
 -- what may still be open, less what is open in the streams that are left
 abbrev pub invariant-loop-i : goal.invariant-loop-i
