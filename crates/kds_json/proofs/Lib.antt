@@ -1,4 +1,3 @@
-pub mod Kept
 pub mod ManyRecords
 pub mod Objects
 pub mod Puts

@@ -1,8 +1,8 @@
-//! The operations and their names.
+//! The operations of the service and their names.
 ghost use Rattle.std.specs.Prelude.{◌≡◌};
 ghost use Rattle.kds_json.specs.Asked.{operation_named as named, reading_named as reads, writing_named as writes, setting_named as sets};
 
-/// An operation (Kinesis API Reference, Actions).
+/// An operation of the service (Kinesis API Reference, Actions).
 #[derive(Clone, Copy)]
 pub enum Operation {
     CreateStream,
@@ -20,13 +20,13 @@ pub enum Operation {
     IncreaseRetention,
     DecreaseRetention,
     UpdateShardCount,
-    /// An operation of this project's own.
+    /// This project's own operation LocalEnforceLimits.
     EnforceLimits,
 }
 
-// One chain of sixteen tests takes the prover far longer than four of four.
+// The names are matched in four functions of four tests each: the prover takes far longer for one chain of sixteen.
 
-/// The operation of a name, if there is one.
+/// The operation called `name`, if there is one.
 pub fn operation_named(name: &[u8]) -> Option<Operation>
     ensures { result ≡ named name.now }
 {
@@ -43,7 +43,7 @@ pub fn operation_named(name: &[u8]) -> Option<Operation>
     }
 }
 
-/// The operations that read a stream's shards and records, and those behind them.
+/// The operation called `name` among those that read shards and records, or among those of the two functions below.
 fn reading_named(name: &[u8]) -> Option<Operation>
     ensures { result ≡ reads name.now }
 {
@@ -60,7 +60,7 @@ fn reading_named(name: &[u8]) -> Option<Operation>
     }
 }
 
-/// The operations that write records and change shards, and those behind them.
+/// The operation called `name` among those that write records or change shards, or among those of the function below.
 fn writing_named(name: &[u8]) -> Option<Operation>
     ensures { result ≡ writes name.now }
 {
@@ -77,7 +77,7 @@ fn writing_named(name: &[u8]) -> Option<Operation>
     }
 }
 
-/// The operations that set a stream up.
+/// The operation called `name` among those that set up a stream.
 fn setting_named(name: &[u8]) -> Option<Operation>
     ensures { result ≡ sets name.now }
 {

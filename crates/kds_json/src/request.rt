@@ -1,4 +1,4 @@
-//! From an operation and a body to a command.
+//! Reads a command from an operation's name and a request's body.
 ghost use Rattle.std.specs.Prelude.{◌≡◌, ℕ, List, Ok, IsUtf8, IfOk, IfErr, option_map};
 ghost use Rattle.kds_defs.specs.declared.command.Command.{Command};
 ghost use Rattle.serde_json.specs.View.{view};
@@ -20,7 +20,7 @@ use kds_json_members::{Fault, FaultKind, Stop, object_members, stop_at};
 use serde_json::{Map, Value};
 use std::alloc::Global;
 
-/// What a body reads as, if it is JSON in UTF-8.
+/// Parses a body as JSON. `None` if it isn't JSON in UTF-8.
 fn parsed(alloc: Global, body: &[u8]) -> Result<Option<Value>, Memory>
     ensures { IfOk result (λ o. option_map view o ≡ read_body body.now) }
 {
@@ -30,9 +30,9 @@ fn parsed(alloc: Global, body: &[u8]) -> Result<Option<Value>, Memory>
     }
 }
 
-/// The object that a body is.
+/// Parses a body that must be a JSON object, and returns its members.
 #[tactic(auto, using(crate::proofs::Objects::objects))]
-fn object(alloc: Global, body: &[u8]) -> Result<Map<String, Value>, Stop>
+fn parse_object(alloc: Global, body: &[u8]) -> Result<Map<String, Value>, Stop>
     ensures { Gives object_view result (object_of body.now) }
 {
     let Some(value) = parsed(alloc, body)? else {
@@ -44,13 +44,13 @@ fn object(alloc: Global, body: &[u8]) -> Result<Map<String, Value>, Stop>
     }
 }
 
-/// The command that the members of an operation ask for.
+/// Reads the command of `operation` from its members.
 fn members(
     alloc: Global,
     operation: Operation,
-    object: &mut Map<String, Value>,
+    object: &Map<String, Value>,
 ) -> Result<Command, Stop>
-    ensures { Gives (λ c. c) result (members_of operation (object_view object.old)) }
+    ensures { Gives (λ c. c) result (members_of operation (object_view object.now)) }
 {
     match operation {
         Operation::CreateStream => create_stream(alloc, object),
@@ -72,27 +72,28 @@ fn members(
     }
 }
 
-/// An operation that isn't known is refused before its body is read.
+/// Reads the command of an operation from its name and body. An unknown operation is refused before the body is read.
 #[tactic(auto, unfolding(crate::specs::Asked::asked))]
 fn command(alloc: Global, operation: &[u8], body: &[u8]) -> Result<Command, Stop>
     ensures { Gives (λ c. c) result (asked operation.now body.now) }
 {
     match operation_named(operation) {
         Some(operation) => {
-            let mut object = object(alloc, body)?;
-            members(alloc, operation, &mut object)
+            let object = parse_object(alloc, body)?;
+            members(alloc, operation, &object)
         }
         None => Err(stop_at(alloc, FaultKind::Unknown, "")),
     }
 }
 
-/// The command that an operation and its body ask for, or the first fault of the request
-/// (Kinesis API Reference, Actions and Common Errors). A body that nests deeper than 127 levels isn't read,
-/// so it is `Serialization`. `Memory` is want of memory.
+/// Reads the command of an operation from its name and body, or finds the first fault of the request (Kinesis API
+/// Reference, Actions and Common Errors). A body nested deeper than 127 levels isn't parsed: its fault is
+/// `Serialization`. The outer error `Memory` means that memory ran out.
 pub fn ask(alloc: Global, operation: &[u8], body: &[u8]) -> Result<Result<Command, Fault>, Memory>
     ensures value { IfOk result (λ r. r ≡ asked operation.now body.now) }
 
-    // A command may be asked of a machine, whose stream service answers it. The member of a fault can be printed.
+    // If the result is a command, it meets the preconditions of a machine's turn, and the stream service answers it.
+    // If the result is a fault of the request, the name of the member at fault is printable.
     ensures lawful { IfOk result (λ r. IfOk r IsRequest) }
     ensures text { IfOk result (λ r. IfErr r (λ fault. IsUtf8 fault.member)) }
 {
@@ -103,7 +104,7 @@ pub fn ask(alloc: Global, operation: &[u8], body: &[u8]) -> Result<Result<Comman
     }
 }
 
-/// What a request asks for may be asked of a machine, whose stream service answers it.
+/// The command of any request meets the preconditions of a machine's turn, and the stream service answers it.
 pub fn asks_lawfully()
     ensures { (operation body : List ℕ) (what : Command) → asked operation body ≡ Ok what → IsRequest what }
 {}

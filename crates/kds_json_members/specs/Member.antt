@@ -28,10 +28,6 @@ unless_null (object ms) = Some (object ms)
 abbrev pub member_of : List ℕ → Data → Option Data
 member_of name d = option_and_then unless_null (get name d)
 
--- every member but that of this name reads as before
-abbrev pub KeepsOthers : List ℕ → Data → Data → Type 0
-KeepsOthers name before after = (other : List ℕ) → bytes_eq other name ≡ false → member_of other after ≡ member_of other before
-
 -- a member that must be there
 abbrev pub required : List ℕ → Data → Result Data Fault
 required name d = some_or Missing name (member_of name d)

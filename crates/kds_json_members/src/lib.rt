@@ -1,5 +1,5 @@
-//! The members of a request in JSON: which must be there, what each reads as by its kind, and the first fault of one
-//! (Kinesis API Reference, Request Parameters of each action, and Common Errors).
+//! Reads the members of a JSON request: required, optional and forbidden ones, each as a value of its kind, or the
+//! first fault (Kinesis API Reference, Request Parameters of each action, and Common Errors).
 #![tactic(auto)]
 
 mod member;
@@ -8,7 +8,7 @@ mod problem;
 mod texts;
 mod tokens;
 
-pub use member::{absent_member, has_member, object_members, stop_at, take_required, value_at};
+pub use member::{absent_member, has_member, object_members, required_member, stop_at, value_at};
 pub use numbers::{
     hash_member, id_member, moment_member, number_member, optional_id, optional_limit, record_hash,
     sequence_member,

@@ -1,18 +1,18 @@
-//! A member of a request that must be there, that may be, or that must not, looked at or taken out. A member that is null
+//! Required, optional and forbidden members of a request, borrowed from its JSON object. A member whose value is null
 //! counts as absent.
 ghost use Rattle.std.specs.Prelude.{◌≡◌, is_some, option_map};
 ghost use Rattle.serde_json.specs.Data.{object};
 ghost use Rattle.serde_json.specs.Find.{as_object};
 ghost use Rattle.serde_json.specs.View.{view};
 ghost use Rattle.kds_json_members.specs.Reading.{IsStop, Gives, fault_of, some_or};
-ghost use Rattle.kds_json_members.specs.Member.{object_view, member_of, KeepsOthers, required, absent_at};
+ghost use Rattle.kds_json_members.specs.Member.{object_view, member_of, required, absent_at};
 
 use crate::problem::{Fault, FaultKind, Stop};
 use kds_base::Octets;
 use serde_json::{Map, Value};
 use std::alloc::Global;
 
-/// A fault at a member.
+/// The fault of this kind at the member `name`.
 pub fn stop_at(alloc: Global, kind: FaultKind, name: &str) -> Stop
     ensures { IsStop result (fault_of kind name.now) }
 {
@@ -22,7 +22,7 @@ pub fn stop_at(alloc: Global, kind: FaultKind, name: &str) -> Stop
     }
 }
 
-/// What a member reads as, or a fault where it reads as nothing.
+/// The value `value`, or a fault of this kind at the member `name` if `value` is `None`.
 pub fn value_at<T: Drop>(
     alloc: Global,
     kind: FaultKind,
@@ -37,7 +37,7 @@ pub fn value_at<T: Drop>(
     }
 }
 
-/// The members of a value, if it is an object.
+/// The members of a JSON value that is an object, otherwise `None`.
 pub fn object_members(value: Value) -> Option<Map<String, Value>>
     ensures { option_map object_view result ≡ option_map object (as_object (view value)) }
 {
@@ -47,7 +47,7 @@ pub fn object_members(value: Value) -> Option<Map<String, Value>>
     }
 }
 
-/// A member that is there and isn't null.
+/// The value of the member `name`. `None` if the member is absent or null.
 pub fn member<'a>(object: &'a Map<String, Value>, name: &str) -> Option<&'a Value>
     ensures { option_map (λ v. view v.now) result ≡ member_of name.now (object_view object.now) }
 {
@@ -57,25 +57,14 @@ pub fn member<'a>(object: &'a Map<String, Value>, name: &str) -> Option<&'a Valu
     }
 }
 
-/// Whether a member is there and isn't null.
+/// Whether the member `name` is present and not null.
 pub fn has_member(object: &Map<String, Value>, name: &str) -> bool
     ensures { result ≡ is_some (member_of name.now (object_view object.now)) }
 {
     member(object, name).is_some()
 }
 
-/// Takes a member out that is there and isn't null. The others stay.
-pub fn take_member(object: &mut Map<String, Value>, name: &str) -> Option<Value>
-    ensures value { option_map view result ≡ member_of name.now (object_view object.old) }
-    ensures others { KeepsOthers name.now (object_view object.old) (object_view object.new) }
-{
-    match object.remove(name) {
-        Some(taken) => { if taken.is_null() { None } else { Some(taken) } }
-        None => None,
-    }
-}
-
-/// A member that must be there.
+/// The value of the required member `name`. The fault is `Missing` if the member is absent or null.
 pub fn required_member<'a>(
     alloc: Global,
     object: &'a Map<String, Value>,
@@ -89,22 +78,7 @@ pub fn required_member<'a>(
     }
 }
 
-/// Takes out a member that must be there.
-pub fn take_required(
-    alloc: Global,
-    object: &mut Map<String, Value>,
-    name: &str,
-) -> Result<Value, Stop>
-    ensures value { Gives view result (required name.now (object_view object.old)) }
-    ensures others { KeepsOthers name.now (object_view object.old) (object_view object.new) }
-{
-    match take_member(object, name) {
-        Some(value) => Ok(value),
-        None => Err(stop_at(alloc, FaultKind::Missing, name)),
-    }
-}
-
-/// A member that must not be there.
+/// Refuses a request with the forbidden member `name`: the fault is `Invalid` if the member is present and not null.
 pub fn absent_member(alloc: Global, object: &Map<String, Value>, name: &str) -> Result<(), Stop>
     ensures { Gives (λ u. u) result (absent_at name.now (object_view object.now)) }
 {

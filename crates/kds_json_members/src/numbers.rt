@@ -1,4 +1,4 @@
-//! Members that are numbers, moments, hash keys, sequence numbers and the ids of shards.
+//! Reads members that are numbers, moments, hash keys, sequence numbers or shard IDs.
 ghost use Rattle.std.specs.Prelude.{◌≡◌, None};
 ghost use Rattle.serde_json.specs.View.{view};
 ghost use Rattle.kds_json_members.specs.Reading.{Gives};
@@ -22,7 +22,7 @@ fn number_value(value: &Value, low: u32, high: u32) -> Option<u32>
     }
 }
 
-/// A whole number from `low` to `high`.
+/// Reads the required member `name` as a whole number from `low` to `high`.
 #[tactic(auto, unfolding(crate::specs::Member::required_at))]
 pub fn number_member(
     alloc: Global,
@@ -38,7 +38,7 @@ pub fn number_member(
     value_at(alloc, FaultKind::Invalid, name, number)
 }
 
-/// A whole number from 1 to `high`, or `default` where there is none.
+/// Reads the optional member `name` as a whole number from 1 to `high`; an absent member gives `default`.
 #[tactic(auto, unfolding(crate::specs::Member::optional_at))]
 pub fn optional_limit(
     alloc: Global,
@@ -69,7 +69,7 @@ fn moment_value(value: &Value) -> Option<Moment>
     }
 }
 
-/// A moment in whole seconds (Kinesis API Reference, GetShardIterator, Timestamp).
+/// Reads the required member `name` as a moment in whole seconds (Kinesis API Reference, GetShardIterator, Timestamp).
 #[tactic(auto, unfolding(crate::specs::Member::required_at))]
 pub fn moment_member(alloc: Global, object: &Map<String, Value>, name: &str) -> Result<Moment, Stop>
     ensures { Gives (λ x. x) result (required_at moment_in name.now (object_view object.now)) }
@@ -87,7 +87,7 @@ fn hash_value(value: &Value) -> Option<u128>
     }
 }
 
-/// A hash key.
+/// Reads the required member `name` as a hash key.
 #[tactic(auto, unfolding(crate::specs::Member::required_at))]
 pub fn hash_member(alloc: Global, object: &Map<String, Value>, name: &str) -> Result<u128, Stop>
     ensures { Gives (λ x. x) result (required_at hash_in name.now (object_view object.now)) }
@@ -96,8 +96,8 @@ pub fn hash_member(alloc: Global, object: &Map<String, Value>, name: &str) -> Re
     value_at(alloc, FaultKind::Invalid, name, hash_value(value))
 }
 
-/// The hash of a record: the explicit one, or else that of its partition key
-/// (Kinesis API Reference, PutRecord, ExplicitHashKey).
+/// The hash key of a record: the explicit one in the member `name` if present, otherwise the hash of the partition key
+/// `key` (Kinesis API Reference, PutRecord, ExplicitHashKey).
 #[tactic(auto, unfolding(crate::specs::Kinds::hash_at, crate::specs::Member::optional_at))]
 pub fn record_hash(
     alloc: Global,
@@ -125,7 +125,7 @@ fn sequence_value(value: &Value) -> Option<Seq>
     }
 }
 
-/// A sequence number.
+/// Reads the required member `name` as a sequence number.
 #[tactic(auto, unfolding(crate::specs::Member::required_at))]
 pub fn sequence_member(alloc: Global, object: &Map<String, Value>, name: &str) -> Result<Seq, Stop>
     ensures { Gives (λ x. x) result (required_at sequence_in name.now (object_view object.now)) }
@@ -143,7 +143,7 @@ fn id_value(value: &Value) -> Option<ShardNo>
     }
 }
 
-/// A shard's id.
+/// Reads the required member `name` as a shard's ID.
 #[tactic(auto, unfolding(crate::specs::Member::required_at))]
 pub fn id_member(alloc: Global, object: &Map<String, Value>, name: &str) -> Result<ShardNo, Stop>
     ensures { Gives (λ x. x) result (required_at id_in name.now (object_view object.now)) }
@@ -152,7 +152,7 @@ pub fn id_member(alloc: Global, object: &Map<String, Value>, name: &str) -> Resu
     value_at(alloc, FaultKind::Invalid, name, id_value(value))
 }
 
-/// A shard's id, if there is one.
+/// Reads the optional member `name` as a shard's ID; an absent member gives `None`.
 #[tactic(auto, unfolding(crate::specs::Member::optional_at))]
 pub fn optional_id(
     alloc: Global,

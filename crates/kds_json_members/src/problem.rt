@@ -1,33 +1,34 @@
-//! What can be wrong with a request.
+//! The faults for which a request is refused before it becomes a command.
 ghost use Rattle.std.specs.Prelude.{◌≡◌};
 ghost use Rattle.kds_json_members.specs.declared.problem.Stop.TheVariants.{Memory as OutOfMemory};
 
 use kds_base::{Memory, Octets};
 use std::alloc::AllocError;
 
-/// What kind of fault a request has (Kinesis API Reference, Common Errors).
+/// The kind of a request's fault (Kinesis API Reference, Common Errors).
 #[derive(Clone, Copy, Debug, PartialEq, Eq)]
 pub enum FaultKind {
-    /// There is no such operation.
+    /// No operation has this name.
     Unknown,
     /// The body isn't a JSON object in UTF-8.
     Serialization,
     /// A required member is missing.
     Missing,
-    /// A member has the wrong kind, range or form.
+    /// A member's value has the wrong type, is out of range, or has the wrong form.
     Invalid,
-    /// A member is no token that the service gives out.
+    /// A member that must be a shard iterator or a NextToken isn't a token of this service.
     Token,
 }
 
-/// The first fault of a request. Its member, a text in UTF-8, is empty for `Unknown` and `Serialization`.
+/// The first fault of a request. `member` is the name of the faulty member in UTF-8; it is empty for `Unknown` and
+/// `Serialization`.
 #[derive(Drop)]
 pub struct Fault {
     pub kind: FaultKind,
     pub member: Octets,
 }
 
-/// Why there is no command: want of memory, or a fault.
+/// Why a request gives no command: memory ran out, or the request has a fault.
 #[derive(Drop)]
 pub enum Stop {
     Memory,

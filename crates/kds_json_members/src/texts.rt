@@ -1,13 +1,13 @@
-//! Members that are names, modes, truth values, partition keys and payloads.
+//! Reads members that are names, modes, booleans, partition keys or payloads.
 ghost use Rattle.std.specs.Prelude.{◌≡◌, ◌+◌, length, chars, nat_le, None, IfOk};
 ghost use Rattle.serde_json.specs.Find.{as_str, as_bool};
 ghost use Rattle.serde_json.specs.View.{view};
 ghost use Rattle.kds_defs.specs.declared.limits.TheConstants.{RECORD_BYTES as most_bytes};
 ghost use Rattle.kds_json_members.specs.Reading.{Gives};
-ghost use Rattle.kds_json_members.specs.Member.{object_view, required_at, optional_at, KeepsOthers};
+ghost use Rattle.kds_json_members.specs.Member.{object_view, required_at, optional_at};
 ghost use Rattle.kds_json_members.specs.Kinds.{name_in, some_name_in, mode_in, scaling_in, is_partition_key as is_key, key_in, blob_in};
 
-use crate::member::{member, required_member, stop_at, take_member, take_required, value_at};
+use crate::member::{member, required_member, stop_at, value_at};
 use crate::problem::{FaultKind, Stop};
 use kds_base::{Memory, Name, Octets};
 use kds_defs::limits::{KEY_CHARACTERS, RECORD_BYTES};
@@ -15,7 +15,7 @@ use kds_token::decoded;
 use serde_json::{Map, Value};
 use std::alloc::Global;
 
-/// A text.
+/// Reads the required member `name` as a string.
 #[tactic(auto, unfolding(crate::specs::Member::required_at))]
 pub fn text_member<'a>(
     alloc: Global,
@@ -31,39 +31,38 @@ pub fn text_member<'a>(
     }
 }
 
-fn name_value(value: Value) -> Option<Name>
-    ensures { result ≡ name_in (view value) }
+fn name_value(alloc: Global, value: &Value) -> Result<Option<Name>, Memory>
+    ensures { IfOk result (λ o. o ≡ name_in (view value.now)) }
 {
-    match value {
-        Value::String(text) => Name::from_vec(text.into_bytes()),
-        _ => None,
+    match value.as_str() {
+        Some(text) => Name::read(alloc, text.as_bytes()),
+        None => Ok(None),
     }
 }
 
-/// The name of a stream, which is taken out.
+/// Reads the required member `name` as a stream's name.
 #[tactic(auto, unfolding(crate::specs::Member::required_at))]
-pub fn name_member(alloc: Global, object: &mut Map<String, Value>, name: &str) -> Result<Name, Stop>
-    ensures value { Gives (λ x. x) result (required_at name_in name.now (object_view object.old)) }
-    ensures others { KeepsOthers name.now (object_view object.old) (object_view object.new) }
+pub fn name_member(alloc: Global, object: &Map<String, Value>, name: &str) -> Result<Name, Stop>
+    ensures { Gives (λ x. x) result (required_at name_in name.now (object_view object.now)) }
 {
-    let value = take_required(alloc, object, name)?;
-    value_at(alloc, FaultKind::Invalid, name, name_value(value))
+    let value = required_member(alloc, object, name)?;
+    let stream = name_value(alloc, value)?;
+    value_at(alloc, FaultKind::Invalid, name, stream)
 }
 
-/// The name of a stream, which is taken out, if there is one.
+/// Reads the optional member `name` as a stream's name; an absent member gives `None`.
 #[tactic(auto, unfolding(crate::specs::Member::optional_at))]
 pub fn optional_name(
     alloc: Global,
-    object: &mut Map<String, Value>,
+    object: &Map<String, Value>,
     name: &str,
 ) -> Result<Option<Name>, Stop>
-    ensures value { Gives (λ x. x) result (optional_at None some_name_in name.now (object_view object.old)) }
-    ensures others { KeepsOthers name.now (object_view object.old) (object_view object.new) }
+    ensures { Gives (λ x. x) result (optional_at None some_name_in name.now (object_view object.now)) }
 {
-    let Some(value) = take_member(object, name) else {
+    let Some(value) = member(object, name) else {
         return Ok(None);
     };
-    match name_value(value) {
+    match name_value(alloc, value)? {
         Some(stream) => Ok(Some(stream)),
         None => Err(stop_at(alloc, FaultKind::Invalid, name)),
     }
@@ -79,7 +78,7 @@ fn mode_value(value: &Value) -> Option<()>
     }
 }
 
-/// The mode of a stream, if there is one. Only provisioned streams are made
+/// Checks the stream's mode in the optional member `name`. Only provisioned streams exist, so any other mode is a fault
 /// (Kinesis API Reference, StreamModeDetails).
 #[tactic(auto, unfolding(crate::specs::Member::optional_at))]
 pub fn mode_member(alloc: Global, object: &Map<String, Value>, name: &str) -> Result<(), Stop>
@@ -100,7 +99,8 @@ fn scaling_value(value: &Value) -> Option<()>
     }
 }
 
-/// The kind of a scaling, which is always to uniform ranges (Kinesis API Reference, UpdateShardCount, ScalingType).
+/// Checks the kind of scaling in the required member `name`. It must be UNIFORM_SCALING, the only kind (Kinesis API
+/// Reference, UpdateShardCount, ScalingType).
 #[tactic(auto, unfolding(crate::specs::Member::required_at))]
 pub fn scaling_member(alloc: Global, object: &Map<String, Value>, name: &str) -> Result<(), Stop>
     ensures { Gives (λ u. u) result (required_at scaling_in name.now (object_view object.now)) }
@@ -109,7 +109,7 @@ pub fn scaling_member(alloc: Global, object: &Map<String, Value>, name: &str) ->
     value_at(alloc, FaultKind::Invalid, name, scaling_value(value))
 }
 
-/// A truth value.
+/// Reads the required member `name` as a boolean.
 #[tactic(auto, unfolding(crate::specs::Member::required_at))]
 pub fn truth_member(alloc: Global, object: &Map<String, Value>, name: &str) -> Result<bool, Stop>
     ensures { Gives (λ b. b) result (required_at as_bool name.now (object_view object.now)) }
@@ -124,7 +124,7 @@ fn character_count(text: &str) -> usize
     text.chars().count()
 }
 
-/// Whether a text may be a partition key (Kinesis API Reference, PutRecord, PartitionKey).
+/// Whether `text` is a valid partition key (Kinesis API Reference, PutRecord, PartitionKey).
 fn is_partition_key(text: &str) -> bool
     ensures { result ≡ is_key text.now }
 {
@@ -132,36 +132,31 @@ fn is_partition_key(text: &str) -> bool
     1 <= count && count <= KEY_CHARACTERS
 }
 
-fn key_value(value: Value) -> Option<Octets>
-    ensures { result ≡ key_in (view value) }
+fn key_value(alloc: Global, value: &Value) -> Result<Option<Octets>, Memory>
+    ensures { IfOk result (λ o. o ≡ key_in (view value.now)) }
 {
-    match value {
-        Value::String(text) => {
-            if is_partition_key(text.as_str()) {
-                Some(Octets::from_vec(text.into_bytes()))
-            } else {
-                None
-            }
-        }
-        _ => None,
+    let Some(text) = value.as_str() else {
+        return Ok(None);
+    };
+    if is_partition_key(text) {
+        Ok(Some(Octets::of(alloc, text.as_bytes())?))
+    } else {
+        Ok(None)
     }
 }
 
-/// A partition key, which is taken out.
+/// Reads the required member `name` as a partition key.
 #[tactic(auto, unfolding(crate::specs::Member::required_at))]
-pub fn key_member(
-    alloc: Global,
-    object: &mut Map<String, Value>,
-    name: &str,
-) -> Result<Octets, Stop>
-    ensures value { Gives (λ x. x) result (required_at key_in name.now (object_view object.old)) }
-    ensures others { KeepsOthers name.now (object_view object.old) (object_view object.new) }
+pub fn key_member(alloc: Global, object: &Map<String, Value>, name: &str) -> Result<Octets, Stop>
+    ensures { Gives (λ x. x) result (required_at key_in name.now (object_view object.now)) }
 {
-    let value = take_required(alloc, object, name)?;
-    value_at(alloc, FaultKind::Invalid, name, key_value(value))
+    let value = required_member(alloc, object, name)?;
+    let key = key_value(alloc, value)?;
+    value_at(alloc, FaultKind::Invalid, name, key)
 }
 
-/// Whether a payload and its key are within the limit (Kinesis API Reference, PutRecord, Data).
+/// Whether a payload of `payload_bytes` and a partition key of `key_bytes` together are within the limit for a record
+/// (Kinesis API Reference, PutRecord, Data).
 fn fits(payload_bytes: usize, key_bytes: usize) -> bool
     ensures { result ≡ nat_le (payload_bytes + key_bytes) most_bytes }
 {
@@ -187,7 +182,7 @@ fn blob_value(alloc: Global, value: &Value, key_bytes: usize) -> Result<Option<O
     }
 }
 
-/// A record's payload, whose key has `key_bytes` bytes.
+/// Reads the required member `name` as the payload of a record whose partition key has `key_bytes` bytes.
 #[tactic(auto, unfolding(crate::specs::Member::required_at))]
 pub fn blob_member(
     alloc: Global,

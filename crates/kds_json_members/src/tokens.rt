@@ -1,4 +1,4 @@
-//! Members that are tokens which the service gave out.
+//! Reads members that are tokens of this service: shard iterators and NextTokens.
 ghost use Rattle.std.specs.Prelude.{◌≡◌};
 ghost use Rattle.kds_token.specs.Tokens.{iter_of, page_of};
 ghost use Rattle.kds_json_members.specs.Reading.{Gives};
@@ -12,7 +12,7 @@ use kds_token::{read_iter, read_page};
 use serde_json::{Map, Value};
 use std::alloc::Global;
 
-/// A shard iterator.
+/// Reads the required member `name` as a shard iterator.
 #[tactic(auto, unfolding(crate::specs::Member::token_at))]
 pub fn iterator_member(alloc: Global, object: &Map<String, Value>, name: &str) -> Result<Iter, Stop>
     ensures { Gives (λ x. x) result (token_at iter_of name.now (object_view object.now)) }
@@ -22,7 +22,7 @@ pub fn iterator_member(alloc: Global, object: &Map<String, Value>, name: &str) -
     value_at(alloc, FaultKind::Token, name, iter)
 }
 
-/// A place in a listing.
+/// Reads the required member `name` as a NextToken of ListShards.
 #[tactic(auto, unfolding(crate::specs::Member::token_at))]
 pub fn page_member(alloc: Global, object: &Map<String, Value>, name: &str) -> Result<Page, Stop>
     ensures { Gives (λ x. x) result (token_at page_of name.now (object_view object.now)) }

@@ -6,4 +6,4 @@ use Rattle.kds_json.proofs.many.fit.Given as goal
 
 -- the room that is left
 abbrev pub invariant-loop-item : goal.invariant-loop-item
-invariant-loop-item l = l.room + sum_by item_bytes (take l.item-index l.items) ≡ MANY_BYTES
+invariant-loop-item l = l.left + sum_by item_bytes (take l.item-index l.items) ≡ MANY_BYTES
