@@ -11,7 +11,7 @@ use Rattle.kds_reply_texts.specs.Bodies.{number_data, id_data, list_data}
 use Rattle.kds_reply.specs.Bodies.{member_if, page_string}
 use Rattle.kds_reply_texts.specs.Children.{range_data}
 use Rattle.kds_reply.specs.Shards.{sequence_data, shard_data, shards_data}
-use Rattle.kds_reply.specs.Streams.{streams_data, description_data, digest_data, described_data, summary_data, scaled_data}
+use Rattle.kds_reply.specs.Streams.{streams_data, description_data, description_summary_data, described_data, summary_data, scaled_data}
 
 abbrev IsPlain : Data → Type 0
 IsPlain d = has_float d ≡ false
@@ -56,9 +56,9 @@ description_plain : (about : About) (shards : List Shard) (more : Bool) → IsPl
 unfolding description_data
 description_plain about shards more = rw (list_plain shard_data shards shard_plain) refl
 
-digest_plain : (about : About) (open_shards : ℕ) → IsPlain (digest_data about open_shards)
-unfolding digest_data
-digest_plain about open_shards = refl
+description_summary_plain : (about : About) (open_shards : ℕ) → IsPlain (description_summary_data about open_shards)
+unfolding description_summary_data
+description_summary_plain about open_shards = refl
 
 pub described_plain : (about : About) (shards : List Shard) (more : Bool) → IsPlain (described_data about shards more)
 unfolding described_data
@@ -66,7 +66,7 @@ described_plain about shards more = rw (description_plain about shards more) ref
 
 pub summary_plain : (about : About) (open_shards : ℕ) → IsPlain (summary_data about open_shards)
 unfolding summary_data
-summary_plain about open_shards = rw (digest_plain about open_shards) refl
+summary_plain about open_shards = rw (description_summary_plain about open_shards) refl
 
 pub scaled_plain : (name : List ℕ) (before target : ℕ) → IsPlain (scaled_data name before target)
 unfolding scaled_data

@@ -49,8 +49,8 @@ description_data about shards more =
     (member (codes "StreamStatus") status_data no_members))))))))
 
 -- a stream, and how many of its shards are open (Kinesis API Reference, StreamDescriptionSummary)
-unfoldable pub digest_data : About → ℕ → Data
-digest_data about open_shards =
+unfoldable pub description_summary_data : About → ℕ → Data
+description_summary_data about open_shards =
     object
     (member (codes "EnhancedMonitoring") monitoring_data
     (member (codes "OpenShardCount") (number (unsigned open_shards))
@@ -66,7 +66,7 @@ described_data about shards more = object (member (codes "StreamDescription") (d
 
 -- (Kinesis API Reference, DescribeStreamSummary, Response Elements)
 unfoldable pub summary_data : About → ℕ → Data
-summary_data about open_shards = object (member (codes "StreamDescriptionSummary") (digest_data about open_shards) no_members)
+summary_data about open_shards = object (member (codes "StreamDescriptionSummary") (description_summary_data about open_shards) no_members)
 
 -- how many shards a stream had and is to have (Kinesis API Reference, UpdateShardCount, Response Elements)
 unfoldable pub scaled_data : List ℕ → ℕ → ℕ → Data

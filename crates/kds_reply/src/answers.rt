@@ -1,4 +1,4 @@
-//! Answers, each as a status and a body.
+//! Turns an answer into an HTTP status and a body.
 ghost use Rattle.std.specs.Prelude.{◌≡◌, ◌++◌, IfOk, OnOk, false, true};
 ghost use Rattle.serde_json.specs.View.{view};
 ghost use Rattle.serde_json.specs.Written.{compact_text, has_float};
@@ -12,15 +12,15 @@ use crate::streams::{described_value, scaled_value, streams_value, summary_value
 use kds_base::{Memory, Name, Octets};
 use kds_defs::{About, Answer, Page, Reply, Shard};
 use kds_reply_texts::{
-    BAD_REQUEST, add_batch, add_outcomes, add_place, iterator_text, put, refusal_body,
+    BAD_REQUEST, add_batch, add_outcomes, add_place, iterator_text, push_piece, refusal_body,
 };
 use serde_json::Value;
 use std::alloc::Global;
 
-/// The status of every reply to an accepted command.
+/// The HTTP status of every reply to an accepted command.
 const DONE: u16 = 200;
 
-/// Adds the text of a value that holds no float. Where nothing stands yet it is taken over, and not copied.
+/// Adds the text of a JSON value without floating-point numbers. If `to` is empty, the text is moved and not copied.
 fn add_value(to: &mut Vec<u8>, alloc: Global, value: &Value) -> Result<(), Memory>
     requires { has_float (view value.now) ≡ false }
     ensures { OnOk result (to.new.items ≡ to.old.items ++ compact_text (view value.now)) }
@@ -30,10 +30,10 @@ fn add_value(to: &mut Vec<u8>, alloc: Global, value: &Value) -> Result<(), Memor
         *to = text;
         return Ok(());
     }
-    put(to, text.as_slice())
+    push_piece(to, text.as_slice())
 }
 
-/// Adds what ListStreams tells.
+/// Adds the reply to ListStreams.
 fn add_streams(to: &mut Vec<u8>, alloc: Global, names: &[Name], more: bool) -> Result<(), Memory>
     ensures { OnOk result (to.new.items ≡ to.old.items ++ compact_text (streams_data names.now more)) }
 {
@@ -41,7 +41,7 @@ fn add_streams(to: &mut Vec<u8>, alloc: Global, names: &[Name], more: bool) -> R
     add_value(to, alloc, &value)
 }
 
-/// Adds what DescribeStream tells.
+/// Adds the reply to DescribeStream.
 fn add_described(
     to: &mut Vec<u8>,
     alloc: Global,
@@ -55,7 +55,7 @@ fn add_described(
     add_value(to, alloc, &value)
 }
 
-/// Adds what DescribeStreamSummary tells.
+/// Adds the reply to DescribeStreamSummary.
 fn add_summary(
     to: &mut Vec<u8>,
     alloc: Global,
@@ -68,7 +68,7 @@ fn add_summary(
     add_value(to, alloc, &value)
 }
 
-/// Adds what UpdateShardCount tells.
+/// Adds the reply to UpdateShardCount.
 fn add_scaled(
     to: &mut Vec<u8>,
     alloc: Global,
@@ -82,7 +82,7 @@ fn add_scaled(
     add_value(to, alloc, &value)
 }
 
-/// Adds what ListShards tells.
+/// Adds the reply to ListShards.
 fn add_shards(
     to: &mut Vec<u8>,
     alloc: Global,
@@ -95,7 +95,7 @@ fn add_shards(
     add_value(to, alloc, &value)
 }
 
-/// Adds the body of a reply.
+/// Adds the body of a reply to an accepted command.
 fn add_body(to: &mut Vec<u8>, alloc: Global, reply: &Reply) -> Result<(), Memory>
     requires { is_service_reply reply.now ≡ true }
     ensures { OnOk result (to.new.items ≡ to.old.items ++ reply_text reply.now) }
@@ -117,7 +117,7 @@ fn add_body(to: &mut Vec<u8>, alloc: Global, reply: &Reply) -> Result<(), Memory
             target,
             ..
         } => add_scaled(to, alloc, name, *before, *target),
-        Reply::Iterator(iter) => put(to, iterator_text(alloc, iter)?.as_slice()),
+        Reply::Iterator(iter) => push_piece(to, iterator_text(alloc, iter)?.as_slice()),
         Reply::Records {
             batch,
             next,
@@ -136,9 +136,9 @@ fn add_body(to: &mut Vec<u8>, alloc: Global, reply: &Reply) -> Result<(), Memory
     }
 }
 
-/// Adds the body of an answer, and gives its status: 200, or 400 for a refusal
-/// (Kinesis API Reference, Response Elements and Errors of each action). Condition: it is an answer of the stream
-/// service. `Memory` is want of memory, after which a part of the body may have been added.
+/// Adds the body of an answer, and returns its HTTP status: 200, or 400 for a refusal (Kinesis API Reference, Response
+/// Elements and Errors of each action). Precondition: the answer is one of the stream service, and not one to a command
+/// for leases. `Memory` means out of memory; a part of the body may have been added.
 pub fn add_reply(alloc: Global, answer: &Answer, to: &mut Vec<u8>) -> Result<u16, Memory>
     requires { is_service_answer answer.now ≡ true }
     ensures status { IfOk result (λ status. status ≡ (reply_of answer.now).0) }
@@ -150,14 +150,14 @@ pub fn add_reply(alloc: Global, answer: &Answer, to: &mut Vec<u8>) -> Result<u16
             Ok(DONE)
         }
         Err(refusal) => {
-            put(to, refusal_body(alloc, refusal)?.as_slice())?;
+            push_piece(to, refusal_body(alloc, refusal)?.as_slice())?;
             Ok(BAD_REQUEST)
         }
     }
 }
 
-/// The status and the body of an answer, under the condition of `add_reply` and as it gives them. `Memory` is want of
-/// memory.
+/// The HTTP status and the body of an answer, with the precondition and the result of `add_reply`. `Memory` means out
+/// of memory.
 pub fn reply(alloc: Global, answer: &Answer) -> Result<(u16, Octets), Memory>
     requires { is_service_answer answer.now ≡ true }
     ensures { IfOk result (λ r. r ≡ reply_of answer.now) }

@@ -1,4 +1,4 @@
-//! The faults of requests, as they are told.
+//! The error responses to faulty requests.
 ghost use Rattle.std.specs.Prelude.{◌≡◌, IsUtf8, IfOk, string_bytes};
 ghost use Rattle.kds_reply.specs.Errors.{fault_name as name_of, fault_message as message_of};
 ghost use Rattle.kds_reply.specs.Replies.{fault_reply};
@@ -8,7 +8,7 @@ use kds_json_members::{Fault, FaultKind};
 use kds_reply_texts::{BAD_REQUEST, error_body};
 use std::alloc::Global;
 
-/// The name of a fault (Kinesis API Reference, Common Errors).
+/// The error name of a kind of fault (Kinesis API Reference, Common Errors).
 fn fault_name(kind: FaultKind) -> &'static str
     ensures { result.now ≡ name_of kind }
 {
@@ -33,7 +33,8 @@ fn fault_message(alloc: Global, kind: FaultKind, member: &str) -> Result<String,
     }
 }
 
-/// The status and the body of a fault (Kinesis API Reference, Common Errors). `Memory` is want of memory.
+/// The HTTP status and the body of the response to a faulty request (Kinesis API Reference, Common Errors). `Memory`
+/// means out of memory.
 pub fn fault(alloc: Global, fault: &Fault) -> Result<(u16, Octets), Memory>
     requires { IsUtf8 fault.now.member }
     ensures { IfOk result (λ r. r ≡ fault_reply fault.now) }

@@ -1,8 +1,8 @@
-//! Streams as they are shown, and the list of their names.
+//! Streams and lists of stream names as JSON values.
 ghost use Rattle.std.specs.Prelude.{◌≡◌, ◌++◌, codes, map, IfOk, string_bytes};
 ghost use Rattle.serde_json.specs.Data.{string};
 ghost use Rattle.serde_json.specs.View.{view, members_view};
-ghost use Rattle.kds_reply.specs.Streams.{streams_data, monitoring_data, about_members, description_data, digest_data, described_data, summary_data, scaled_data};
+ghost use Rattle.kds_reply.specs.Streams.{streams_data, monitoring_data, about_members, description_data, description_summary_data, described_data, summary_data, scaled_data};
 
 use crate::shards::shard_values;
 use kds_base::{Memory, Name};
@@ -11,7 +11,7 @@ use kds_reply_texts::seconds;
 use serde_json::{Map, Value, json, push, put};
 use std::alloc::Global;
 
-/// A stream's name as text. It is ASCII, so that no byte is replaced.
+/// A stream's name as text. It is ASCII, so no character is replaced.
 fn name_text(alloc: Global, name: &Name) -> Result<String, Memory>
     ensures { IfOk result (λ s. string_bytes s ≡ name.now) }
 {
@@ -29,7 +29,8 @@ fn name_values(alloc: Global, names: &[Name]) -> Result<Vec<Value>, Memory>
     Ok(values)
 }
 
-/// The names of streams, and whether more follow (Kinesis API Reference, ListStreams, Response Elements).
+/// The names of streams and whether more follow, as a JSON object (Kinesis API Reference, ListStreams, Response
+/// Elements).
 #[tactic(auto, unfolding(crate::specs::Streams::streams_data))]
 pub fn streams_value(alloc: Global, names: &[Name], more: bool) -> Result<Value, Memory>
     ensures { IfOk result (λ v. view v ≡ streams_data names.now more) }
@@ -38,22 +39,23 @@ pub fn streams_value(alloc: Global, names: &[Name], more: bool) -> Result<Value,
     Ok(json!(in alloc; {"HasMoreStreams": more, "StreamNames": names})?)
 }
 
-/// No metrics of shards are kept (Kinesis API Reference, EnhancedMetrics).
+/// The value of EnhancedMonitoring: no shard-level metrics are kept (Kinesis API Reference, EnhancedMetrics).
 fn monitoring_value(alloc: Global) -> Result<Value, Memory>
     ensures { IfOk result (λ v. view v ≡ monitoring_data) }
 {
     Ok(json!(in alloc; [{"ShardLevelMetrics": []}])?)
 }
 
-/// The name by which other services know a stream (Kinesis API Reference, StreamDescription, StreamARN).
+/// The ARN of the stream called `name` (Kinesis API Reference, StreamDescription, StreamARN).
 fn arn_text(alloc: Global, name: &str) -> Result<String, Memory>
     ensures { IfOk result (λ s. string_bytes s ≡ codes "arn:aws:kinesis:local:000000000000:stream/" ++ name.now) }
 {
     Ok(format!(in alloc; "arn:aws:kinesis:local:000000000000:stream/{name}")?)
 }
 
-/// What both descriptions of a stream tell (Kinesis API Reference, StreamDescription and StreamDescriptionSummary).
-fn members_of(alloc: Global, about: &About) -> Result<Map<String, Value>, Memory>
+/// The members that are common to both descriptions of a stream (Kinesis API Reference, StreamDescription and
+/// StreamDescriptionSummary).
+fn common_members(alloc: Global, about: &About) -> Result<Map<String, Value>, Memory>
     ensures { IfOk result (λ m. members_view m.entries ≡ about_members about.now) }
 {
     let name = name_text(alloc, &about.name)?;
@@ -76,7 +78,8 @@ fn members_of(alloc: Global, about: &About) -> Result<Map<String, Value>, Memory
     Ok(members)
 }
 
-/// A stream and its shards, and whether more of them follow (Kinesis API Reference, StreamDescription).
+/// The description of a stream with its shards, and whether more shards follow (Kinesis API Reference,
+/// StreamDescription).
 #[tactic(auto, unfolding(crate::specs::Streams::description_data))]
 fn description_value(
     alloc: Global,
@@ -87,18 +90,22 @@ fn description_value(
     ensures { IfOk result (λ v. view v ≡ description_data about.now shards.now more) }
 {
     let shards = shard_values(alloc, shards)?;
-    let mut members = members_of(alloc, about)?;
+    let mut members = common_members(alloc, about)?;
     put(&mut members, alloc, "HasMoreShards", Value::from(more))?;
     put(&mut members, alloc, "Shards", Value::Array(shards))?;
     Ok(Value::Object(members))
 }
 
-/// A stream, and how many of its shards are open (Kinesis API Reference, StreamDescriptionSummary).
-#[tactic(auto, unfolding(crate::specs::Streams::digest_data))]
-fn digest_value(alloc: Global, about: &About, open_shards: u32) -> Result<Value, Memory>
-    ensures { IfOk result (λ v. view v ≡ digest_data about.now open_shards) }
+/// The summary of a stream with the number of its open shards (Kinesis API Reference, StreamDescriptionSummary).
+#[tactic(auto, unfolding(crate::specs::Streams::description_summary_data))]
+fn description_summary_value(
+    alloc: Global,
+    about: &About,
+    open_shards: u32,
+) -> Result<Value, Memory>
+    ensures { IfOk result (λ v. view v ≡ description_summary_data about.now open_shards) }
 {
-    let mut members = members_of(alloc, about)?;
+    let mut members = common_members(alloc, about)?;
     put(
         &mut members,
         alloc,
@@ -108,7 +115,7 @@ fn digest_value(alloc: Global, about: &About, open_shards: u32) -> Result<Value,
     Ok(Value::Object(members))
 }
 
-/// What DescribeStream tells (Kinesis API Reference, DescribeStream, Response Elements).
+/// The reply to DescribeStream (Kinesis API Reference, DescribeStream, Response Elements).
 #[tactic(auto, unfolding(crate::specs::Streams::described_data))]
 pub fn described_value(
     alloc: Global,
@@ -122,16 +129,17 @@ pub fn described_value(
     Ok(json!(in alloc; {"StreamDescription": description})?)
 }
 
-/// What DescribeStreamSummary tells (Kinesis API Reference, DescribeStreamSummary, Response Elements).
+/// The reply to DescribeStreamSummary (Kinesis API Reference, DescribeStreamSummary, Response Elements).
 #[tactic(auto, unfolding(crate::specs::Streams::summary_data))]
 pub fn summary_value(alloc: Global, about: &About, open_shards: u32) -> Result<Value, Memory>
     ensures { IfOk result (λ v. view v ≡ summary_data about.now open_shards) }
 {
-    let digest = digest_value(alloc, about, open_shards)?;
-    Ok(json!(in alloc; {"StreamDescriptionSummary": digest})?)
+    let summary = description_summary_value(alloc, about, open_shards)?;
+    Ok(json!(in alloc; {"StreamDescriptionSummary": summary})?)
 }
 
-/// How many shards a stream had and is to have (Kinesis API Reference, UpdateShardCount, Response Elements).
+/// The number of the stream's shards before a scaling, and the target number (Kinesis API Reference, UpdateShardCount,
+/// Response Elements).
 #[tactic(auto, unfolding(crate::specs::Streams::scaled_data))]
 pub fn scaled_value(alloc: Global, name: &Name, before: u32, target: u32) -> Result<Value, Memory>
     ensures { IfOk result (λ v. view v ≡ scaled_data name.now before target) }

@@ -1,28 +1,28 @@
-//! Records as they are read, written straight as text.
+//! The reply to GetRecords, written directly as text.
 ghost use Rattle.std.specs.Prelude.{◌≡◌, ◌++◌, Some, None, List, OnOk};
 ghost use Rattle.serde_json.specs.Written.{compact_text};
 ghost use Rattle.kds_defs.specs.declared.reply.Shard.{Shard};
 ghost use Rattle.kds_reply_texts.specs.Records.{records_data};
 
 use crate::children::children_text;
-use crate::pieces::{put, put_decimal, reserve};
-use crate::records::{put_records, record_room};
+use crate::pieces::{push_piece, put_decimal, reserve};
+use crate::records::{put_records, record_size};
 use crate::tokens::{ITERATOR_BYTES, quoted_iter};
 use kds_base::Memory;
 use kds_defs::{Iter, Shard, Stored};
 use std::alloc::Global;
 
-/// The most bytes of the text of records, where each key stands in it as it is.
-fn room_of(batch: &[Stored]) -> usize {
-    let mut room = ITERATOR_BYTES;
+/// The most bytes that the text of the records takes if no partition key needs escaping.
+fn size_of_batch(batch: &[Stored]) -> usize {
+    let mut size = ITERATOR_BYTES;
     for stored in batch {
         let (payload, key) = (stored.payload.as_slice(), stored.key.as_slice());
-        room = room.saturating_add(record_room(payload, key));
+        size = size.saturating_add(record_size(payload, key));
     }
-    room
+    size
 }
 
-/// Adds records of a shard that isn't at its end, how many milliseconds they are behind, and where reading goes on.
+/// Adds the reply for a shard that isn't at its end: the records, MillisBehindLatest, and the next iterator.
 fn put_open(
     out: &mut Vec<u8>,
     alloc: Global,
@@ -33,17 +33,17 @@ fn put_open(
     ensures { (children : List Shard) → OnOk result (out.new.items ≡ out.old.items ++ compact_text (records_data batch.now (Some next.now) behind children)) }
 {
     let token = quoted_iter(alloc, next)?;
-    put(out, b"{\"MillisBehindLatest\":")?;
+    push_piece(out, b"{\"MillisBehindLatest\":")?;
     put_decimal(out, behind)?;
-    put(out, b",\"NextShardIterator\":\"")?;
-    put(out, token.as_slice())?;
-    put(out, b"\",\"Records\":")?;
+    push_piece(out, b",\"NextShardIterator\":\"")?;
+    push_piece(out, token.as_slice())?;
+    push_piece(out, b"\",\"Records\":")?;
     put_records(out, alloc, batch)?;
-    put(out, b"}")?;
+    push_piece(out, b"}")?;
     Ok(())
 }
 
-/// Adds the last records of a closed shard, how many milliseconds they are behind, and the shard's children.
+/// Adds the reply at the end of a closed shard: the records, MillisBehindLatest, and the shard's children.
 fn put_end(
     out: &mut Vec<u8>,
     alloc: Global,
@@ -54,19 +54,19 @@ fn put_end(
     ensures { OnOk result (out.new.items ≡ out.old.items ++ compact_text (records_data batch.now None behind children.now)) }
 {
     let family = children_text(alloc, children)?;
-    put(out, b"{\"ChildShards\":")?;
-    put(out, family.as_slice())?;
-    put(out, b",\"MillisBehindLatest\":")?;
+    push_piece(out, b"{\"ChildShards\":")?;
+    push_piece(out, family.as_slice())?;
+    push_piece(out, b",\"MillisBehindLatest\":")?;
     put_decimal(out, behind)?;
-    put(out, b",\"NextShardIterator\":null,\"Records\":")?;
+    push_piece(out, b",\"NextShardIterator\":null,\"Records\":")?;
     put_records(out, alloc, batch)?;
-    put(out, b"}")?;
+    push_piece(out, b"}")?;
     Ok(())
 }
 
-/// Adds the text of records, of how many milliseconds they are behind, and of where reading goes on. At the end of a
-/// closed shard the iterator is null, and the shard's children are named
-/// (Kinesis API Reference, GetRecords, Response Elements).
+/// Adds the reply to GetRecords: the records, MillisBehindLatest, and the next iterator. If `next` is `None`, the end
+/// of a closed shard is reached: then the next iterator is null, and the shard's children are included (Kinesis API
+/// Reference, GetRecords, Response Elements).
 pub fn add_batch(
     out: &mut Vec<u8>,
     alloc: Global,
@@ -77,7 +77,7 @@ pub fn add_batch(
 ) -> Result<(), Memory>
     ensures { OnOk result (out.new.items ≡ out.old.items ++ compact_text (records_data batch.now next.now behind children.now)) }
 {
-    reserve(out, room_of(batch))?;
+    reserve(out, size_of_batch(batch))?;
     match next {
         Some(next) => put_open(out, alloc, batch, next, behind),
         None => put_end(out, alloc, batch, behind, children),

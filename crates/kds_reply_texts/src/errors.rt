@@ -1,4 +1,4 @@
-//! The bodies of errors.
+//! The bodies of error responses.
 ghost use Rattle.std.specs.Prelude.{◌≡◌, ◌++◌, IfOk, OnOk};
 ghost use Rattle.serde_json.specs.Written.{compact_text};
 ghost use Rattle.kds_reply_texts.specs.Errors.{error_data};
@@ -9,13 +9,13 @@ use json::Writer;
 use kds_base::{Memory, Octets};
 use std::alloc::Global;
 
-/// The status of every error (Kinesis API Reference, Common Errors).
+/// The HTTP status of every error response (Kinesis API Reference, Common Errors).
 pub const BAD_REQUEST: u16 = 400;
 
-/// What the body of an error takes beside its name and message.
+/// The number of bytes of an error's body besides its name and message.
 const ERROR_BYTES: usize = 32;
 
-/// Adds an error: its name and a message.
+/// Adds an error as an object with its name and its message.
 fn put_error(out: &mut Writer, name: &str, message: &str) -> Result<(), Memory>
     ensures ok { OnOk result (out.new.tokens ≡ out.old.tokens ++ tokens_of (error_data name.now message.now)) }
     ensures before { out.new.before ≡ out.old.before }
@@ -27,12 +27,12 @@ fn put_error(out: &mut Writer, name: &str, message: &str) -> Result<(), Memory>
     Ok(())
 }
 
-/// The body of an error: its name and a message.
+/// The body of an error response: an object with the error's name and its message.
 pub fn error_body(alloc: Global, name: &str, message: &str) -> Result<Octets, Memory>
     ensures { IfOk result (λ o. o ≡ compact_text (error_data name.now message.now)) }
 {
-    let room = name.len().saturating_add(message.len());
-    let mut out = new_writer(alloc, room.saturating_add(ERROR_BYTES))?;
+    let size = name.len().saturating_add(message.len());
+    let mut out = new_writer(alloc, size.saturating_add(ERROR_BYTES))?;
     put_error(&mut out, name, message)?;
     Ok(written(out))
 }

@@ -1,4 +1,4 @@
-//! Pieces of text, added to a body that is a vector.
+//! Appends pieces of text to a body in a vector.
 ghost use Rattle.std.specs.Prelude.{◌≡◌, ◌+◌, ◌++◌, ℕ, List, length, take, vec_len, decimal, IsUtf8, OnOk, IfOk};
 ghost use Rattle.std.specs.Bool.{OnTrue};
 ghost use Rattle.std.specs.Str.Lossy.{utf8_lossy};
@@ -14,10 +14,10 @@ use json::Writer;
 use kds_base::{Memory, Seq};
 use std::alloc::Global;
 
-/// What room is filled with before it is written over.
+/// The bytes of one block that `push_zeros` appends.
 static ZEROS: [u8; 1024] = [0; 1024];
 
-/// Takes memory for so many bytes more.
+/// Reserves memory for `size` bytes beyond the present ones.
 pub fn reserve(out: &mut Vec<u8>, size: usize) -> Result<(), Memory>
     ensures { OnOk result (out.new.items ≡ out.old.items) }
 {
@@ -25,34 +25,34 @@ pub fn reserve(out: &mut Vec<u8>, size: usize) -> Result<(), Memory>
     Ok(())
 }
 
-/// Adds a piece.
+/// Appends the bytes of a piece.
 #[inline(always)]
-pub fn put(out: &mut Vec<u8>, piece: &[u8]) -> Result<(), Memory>
+pub fn push_piece(out: &mut Vec<u8>, piece: &[u8]) -> Result<(), Memory>
     ensures { OnOk result (out.new.items ≡ out.old.items ++ piece.now) }
 {
     out.extend_from_slice(piece)?;
     Ok(())
 }
 
-/// Adds a comma, where something stands before.
+/// Appends a comma if `later` is true.
 #[inline(always)]
 pub fn put_comma(out: &mut Vec<u8>, later: bool) -> Result<(), Memory>
     ensures { OnOk result (out.new.items ≡ out.old.items ++ comma_if later) }
 {
-    if later { put(out, b",") } else { Ok(()) }
+    if later { push_piece(out, b",") } else { Ok(()) }
 }
 
-/// Adds a number.
+/// Appends a number in decimal.
 #[inline(always)]
 pub fn put_decimal(out: &mut Vec<u8>, n: u64) -> Result<(), Memory>
     ensures { OnOk result (out.new.items ≡ out.old.items ++ decimal n) }
 {
     let mut digits = Buffer::new();
-    put(out, digits.format(n).as_bytes())?;
+    push_piece(out, digits.format(n).as_bytes())?;
     Ok(())
 }
 
-/// Adds a number as it stands between the quotes of a string: no digit is escaped.
+/// Appends a number in decimal for use inside a JSON string: no digit needs escaping.
 #[inline(always)]
 fn put_digits(out: &mut Vec<u8>, n: u64) -> Result<(), Memory>
     ensures { OnOk result (out.new.items ≡ out.old.items ++ escape (decimal n)) }
@@ -61,7 +61,7 @@ fn put_digits(out: &mut Vec<u8>, n: u64) -> Result<(), Memory>
     Ok(())
 }
 
-/// Adds a sequence number as it stands between the quotes of a string.
+/// Appends a sequence number for use inside a JSON string.
 #[inline(always)]
 pub fn put_seq(out: &mut Vec<u8>, seq: Seq) -> Result<(), Memory>
     ensures { OnOk result (out.new.items ≡ out.old.items ++ escape (decimal seq)) }
@@ -70,8 +70,9 @@ pub fn put_seq(out: &mut Vec<u8>, seq: Seq) -> Result<(), Memory>
     Ok(())
 }
 
-/// Makes so many bytes, to be written over. A block is copied at a time, where `resize` stores byte by byte.
-pub fn put_room(out: &mut Vec<u8>, size: usize) -> Result<(), Memory>
+/// Appends `size` zero bytes, which the caller overwrites. It copies whole blocks, which is faster than `resize`, since
+/// `resize` stores byte by byte.
+pub fn push_zeros(out: &mut Vec<u8>, size: usize) -> Result<(), Memory>
     ensures front { take (vec_len out.old) out.new.items ≡ out.old.items }
     ensures len { OnOk result (vec_len out.new ≡ vec_len out.old + size) }
 {
@@ -84,8 +85,7 @@ pub fn put_room(out: &mut Vec<u8>, size: usize) -> Result<(), Memory>
     Ok(())
 }
 
-/// Adds the text of bytes in base64 (RFC 4648, section 4) as it stands between the quotes of a string: it has no byte
-/// to escape.
+/// Appends bytes as base64 (RFC 4648, section 4) for use inside a JSON string: no character needs escaping.
 pub fn put_base64(out: &mut Vec<u8>, bytes: &[u8]) -> Result<(), Memory>
     ensures { OnOk result (out.new.items ≡ out.old.items ++ escape (encode_of standard bytes.now)) }
 {
@@ -93,14 +93,14 @@ pub fn put_base64(out: &mut Vec<u8>, bytes: &[u8]) -> Result<(), Memory>
         return Err(Memory);
     };
     let at = out.len();
-    put_room(out, size)?;
+    push_zeros(out, size)?;
     match STANDARD.encode_slice(bytes, &mut out.as_mut_slice()[at..]) {
         Ok(_) => Ok(()),
         Err(_) => unreachable!(),
     }
 }
 
-/// Whether bytes that aren't all ASCII are text.
+/// Whether `bytes` are valid UTF-8. It is called only if they aren't all ASCII.
 fn is_text(bytes: &[u8]) -> bool
     ensures { OnTrue result (IsUtf8 bytes.now) }
 {
@@ -110,8 +110,9 @@ fn is_text(bytes: &[u8]) -> bool
     }
 }
 
-/// Whether bytes stand between the quotes of a string as they are: none has to be escaped (RFC 8259, section 7), and they
-/// are text, so that none is replaced. Most are ASCII, which is seen in the same pass.
+/// Whether bytes can be copied into a JSON string unchanged. This holds if no byte needs escaping (RFC 8259, section
+/// 7), and the bytes are valid UTF-8, so that no character is replaced. Most texts are ASCII, and the same pass over
+/// the bytes checks for it.
 pub fn stands_as_it_is(bytes: &[u8]) -> bool
     ensures { OnTrue result (escape (utf8_lossy bytes.now) ≡ bytes.now) }
 {
@@ -124,28 +125,28 @@ pub fn stands_as_it_is(bytes: &[u8]) -> bool
     plain && (ascii || is_text(bytes))
 }
 
-/// Adds text as it stands between the quotes of a string, where that mostly isn't the text itself.
+/// Appends text for use inside a JSON string, escaped. It is called only for text that can't be copied unchanged.
 pub fn put_replaced(out: &mut Vec<u8>, alloc: Global, bytes: &[u8]) -> Result<(), Memory>
     ensures { OnOk result (out.new.items ≡ out.old.items ++ escape (utf8_lossy bytes.now)) }
 {
     let string = string_of(alloc, bytes)?;
     let string = string.as_slice();
-    put(out, &string[1..string.len() - 1])?;
+    push_piece(out, &string[1..string.len() - 1])?;
     Ok(())
 }
 
-/// Adds text as it stands between the quotes of a string. Bytes that aren't text are replaced.
+/// Appends bytes as text for use inside a JSON string. Invalid UTF-8 is replaced.
 fn put_escaped(out: &mut Vec<u8>, alloc: Global, bytes: &[u8]) -> Result<(), Memory>
     ensures { OnOk result (out.new.items ≡ out.old.items ++ escape (utf8_lossy bytes.now)) }
 {
     if stands_as_it_is(bytes) {
-        put(out, bytes)
+        push_piece(out, bytes)
     } else {
         put_replaced(out, alloc, bytes)
     }
 }
 
-/// Adds text as it stands between the quotes of a string.
+/// Appends a string's text for use inside a JSON string.
 pub fn put_str(out: &mut Vec<u8>, alloc: Global, text: &str) -> Result<(), Memory>
     ensures { OnOk result (out.new.items ≡ out.old.items ++ escape text.now) }
 {
@@ -153,7 +154,7 @@ pub fn put_str(out: &mut Vec<u8>, alloc: Global, text: &str) -> Result<(), Memor
     Ok(())
 }
 
-/// The string of a text, with its quotes. It is only asked for where a byte is escaped or replaced.
+/// The JSON string of the bytes as text, with its quotes. It is called only if a character is escaped or replaced.
 #[inline(never)]
 fn string_of(alloc: Global, bytes: &[u8]) -> Result<Vec<u8>, Memory>
     ensures { IfOk result (λ s. s.items ≡ quoted (utf8_lossy bytes.now)) }

@@ -1,5 +1,6 @@
-//! Records, written straight as text. Those whose key stands in the text as it is, which are nearly all, are written over
-//! room that is made for many of them at once: so no piece of them asks for room, and no room is made for each.
+//! Records, written directly as text. A record whose partition key needs no escaping is written over zero bytes that
+//! were appended for many records at once. Nearly all records are written in this way. Neither the record nor its
+//! pieces check the capacity then.
 ghost use Rattle.std.specs.Prelude.{◌≡◌, ◌+◌, ◌/◌, ◌^◌, ◌<◌, ◌≤◌, ◌++◌, length, take, vec_len, IfOk, OnOk};
 ghost use Rattle.base64.specs.Engines.{standard};
 ghost use Rattle.serde_json.specs.Written.{comma_if, compact_text};
@@ -8,35 +9,37 @@ ghost use Rattle.kds_reply_texts.specs.Records.{record_data};
 ghost use Rattle.kds_reply_texts.specs.Room.{front_text, record_room, written_record};
 
 use crate::moments::seconds;
+use crate::overwriting::{write_base64, write_comma, write_decimal, write_piece, write_seq};
 use crate::pieces::{
-    put, put_base64, put_comma, put_decimal, put_replaced, put_room, put_seq, stands_as_it_is,
+    push_piece, push_zeros, put_base64, put_comma, put_decimal, put_replaced, put_seq,
+    stands_as_it_is,
 };
-use crate::rooms::{write, write_base64, write_comma, write_decimal, write_seq};
 use base64::engine::general_purpose::{GeneralPurpose, STANDARD};
 use kds_base::{Memory, Seq};
 use kds_defs::Stored;
 use std::alloc::Global;
 
-/// The most bytes of what stands before a record's payload: 20 digits, and 40 bytes beside them.
+/// The most bytes before a record's payload: 20 digits and 40 other bytes.
 const FRONT_BYTES: usize = 60;
 
-/// What a record takes at most beside its key and its payload: a comma, its front, the 38 bytes of two names with what
-/// stands round them, 20 digits, and a quote and a brace.
+/// The most bytes of a record besides its key and payload: a comma, the text before the payload, 38 bytes of two names
+/// with their punctuation, 20 digits, a quote and a brace.
 const RECORD_BYTES: usize = 128;
 
-/// How many bytes are made at once to be written over. They are still in the processor's first cache when that happens.
+/// The number of bytes that are appended at once and then overwritten. It is small enough that they are still in the
+/// first-level cache when they are overwritten.
 const BLOCK_BYTES: usize = 4096;
 
-/// The most bytes of the text of a record of this payload and this key, where the key stands in it as it is: base64 has
-/// four characters for three bytes.
+/// The most bytes of a record's text if its key needs no escaping. Base64 has four characters for every three bytes of
+/// the payload.
 #[inline(always)]
-pub fn record_room(payload: &[u8], key: &[u8]) -> usize
+pub fn record_size(payload: &[u8], key: &[u8]) -> usize
     ensures { result < 2 ^ 63 → record_room payload.now key.now ≤ result }
 {
     ((payload.len() + 2) / 3 * 4).saturating_add(key.len() + RECORD_BYTES)
 }
 
-/// Writes what stands before a record's payload, and gives its length.
+/// Writes the text before the payload of a record that arrived in this second, and returns its length.
 #[tactic(auto, unfolding(crate::specs::Room::front_text))]
 fn write_front(front: &mut [u8], second: u64) -> usize
     requires { 60 ≤ length front.old }
@@ -44,12 +47,13 @@ fn write_front(front: &mut [u8], second: u64) -> usize
     ensures text { take result front.new ≡ front_text second }
     ensures len { length front.new ≡ length front.old }
 {
-    let at = write(front, 0, b"{\"ApproximateArrivalTimestamp\":");
+    let at = write_piece(front, 0, b"{\"ApproximateArrivalTimestamp\":");
     let at = write_decimal(front, at, second);
-    write(front, at, b",\"Data\":\"")
+    write_piece(front, at, b",\"Data\":\"")
 }
 
-/// Writes it where it was written for another second, since the records of one second have the same. Gives its length.
+/// Ensures that `front` holds the text before the payload of a record that arrived in the second `second`, and returns
+/// its length. If `last` is the same second, the text is kept: all records of one second share it.
 #[inline(always)]
 fn renew_front(front: &mut [u8], size: usize, last: u64, second: u64) -> usize
     requires room { 60 ≤ length front.old }
@@ -66,10 +70,10 @@ fn renew_front(front: &mut [u8], size: usize, last: u64, second: u64) -> usize
     }
 }
 
-/// Writes a record of this front, payload, key and number, and gives the place behind it. The key stands in it as it is.
+/// Writes a record whose key needs no escaping at `at`, and returns the index after it.
 #[inline(always)]
 fn write_record(
-    room: &mut [u8],
+    buffer: &mut [u8],
     at: usize,
     engine: &GeneralPurpose,
     front: &[u8],
@@ -78,24 +82,25 @@ fn write_record(
     seq: Seq,
 ) -> usize
     requires standard { engine.now ≡ standard }
-    requires fits { at + record_room payload.now key.now ≤ length room.old + 1 }
+    requires fits { at + record_room payload.now key.now ≤ length buffer.old + 1 }
     requires short { length front.now ≤ 60 }
-    ensures within { result ≤ length room.new }
-    ensures text { take result room.new ≡ take at room.old ++ written_record front.now payload.now key.now seq }
-    ensures len { length room.new ≡ length room.old }
+    ensures within { result ≤ length buffer.new }
+    ensures text { take result buffer.new ≡ take at buffer.old ++ written_record front.now payload.now key.now seq }
+    ensures len { length buffer.new ≡ length buffer.old }
 {
-    let at = write(room, at, front);
-    let at = write_base64(room, at, engine, payload);
-    let at = write(room, at, b"\",\"PartitionKey\":\"");
-    let at = write(room, at, key);
-    let at = write(room, at, b"\",\"SequenceNumber\":\"");
-    let at = write_seq(room, at, seq);
-    write(room, at, b"\"}")
+    let at = write_piece(buffer, at, front);
+    let at = write_base64(buffer, at, engine, payload);
+    let at = write_piece(buffer, at, b"\",\"PartitionKey\":\"");
+    let at = write_piece(buffer, at, key);
+    let at = write_piece(buffer, at, b"\",\"SequenceNumber\":\"");
+    let at = write_seq(buffer, at, seq);
+    write_piece(buffer, at, b"\"}")
 }
 
-/// Sees that so many bytes can be written at a place. More are made at once, as far as memory was taken for them before.
+/// Ensures that `size` bytes can be overwritten from `at` on. If the vector is too short, it appends zero bytes, more
+/// than needed if the capacity allows.
 #[inline(always)]
-fn make_room(out: &mut Vec<u8>, at: usize, size: usize) -> Result<(), Memory>
+fn ensure_length(out: &mut Vec<u8>, at: usize, size: usize) -> Result<(), Memory>
     requires { at ≤ vec_len out.old }
     ensures front { OnOk result (take at out.new.items ≡ take at out.old.items) }
     ensures room { OnOk result (at + size ≤ vec_len out.new) }
@@ -105,28 +110,28 @@ fn make_room(out: &mut Vec<u8>, at: usize, size: usize) -> Result<(), Memory>
         return Ok(());
     }
     let spare = out.capacity().saturating_sub(out.len());
-    put_room(out, spare.min(BLOCK_BYTES).max(size - left))
+    push_zeros(out, spare.min(BLOCK_BYTES).max(size - left))
 }
 
-/// Adds a record whose key mostly doesn't stand in it as it is.
+/// Appends a record whose key may need escaping.
 fn put_record(out: &mut Vec<u8>, alloc: Global, stored: &Stored) -> Result<(), Memory>
     ensures { OnOk result (out.new.items ≡ out.old.items ++ compact_text (record_data stored.now)) }
 {
-    put(out, b"{\"ApproximateArrivalTimestamp\":")?;
+    push_piece(out, b"{\"ApproximateArrivalTimestamp\":")?;
     put_decimal(out, seconds(stored.arrival))?;
-    put(out, b",\"Data\":\"")?;
+    push_piece(out, b",\"Data\":\"")?;
     put_base64(out, stored.payload.as_slice())?;
-    put(out, b"\",\"PartitionKey\":\"")?;
+    push_piece(out, b"\",\"PartitionKey\":\"")?;
     put_replaced(out, alloc, stored.key.as_slice())?;
-    put(out, b"\",\"SequenceNumber\":\"")?;
+    push_piece(out, b"\",\"SequenceNumber\":\"")?;
     put_seq(out, stored.seq)?;
-    put(out, b"\"}")?;
+    push_piece(out, b"\"}")?;
     Ok(())
 }
 
-/// The same at a place, behind which nothing stays. Gives the place behind it.
+/// Truncates the vector at `at`, appends a record as `put_record` does, and returns the index after it.
 #[inline(never)]
-fn add_any(
+fn add_escaped_record(
     out: &mut Vec<u8>,
     at: usize,
     later: bool,
@@ -143,7 +148,8 @@ fn add_any(
     Ok(out.len())
 }
 
-/// Adds a record at a place, and gives the place behind it. Its front was written already.
+/// Adds a record at `at`, and returns the index after it. `front` is the text before its payload, which is already
+/// complete.
 #[inline(always)]
 fn add_record(
     out: &mut Vec<u8>,
@@ -163,15 +169,15 @@ fn add_record(
 {
     let (payload, key) = (stored.payload.as_slice(), stored.key.as_slice());
     if !stands_as_it_is(key) {
-        return add_any(out, at, later, alloc, stored);
+        return add_escaped_record(out, at, later, alloc, stored);
     }
-    make_room(out, at, record_room(payload, key))?;
-    let room = out.as_mut_slice();
-    let at = write_comma(room, at, later);
-    Ok(write_record(room, at, engine, front, payload, key, stored.seq))
+    ensure_length(out, at, record_size(payload, key))?;
+    let buffer = out.as_mut_slice();
+    let at = write_comma(buffer, at, later);
+    Ok(write_record(buffer, at, engine, front, payload, key, stored.seq))
 }
 
-/// Adds records as an array. The engine is that of the standard's base64.
+/// Adds the records as an array. `engine` is the standard base64 engine.
 fn fill_records(
     out: &mut Vec<u8>,
     alloc: Global,
@@ -181,7 +187,7 @@ fn fill_records(
     requires { engine.now ≡ standard }
     ensures { OnOk result (out.new.items ≡ out.old.items ++ compact_text (list_data record_data batch.now)) }
 {
-    put(out, b"[")?;
+    push_piece(out, b"[")?;
     let mut front = [0u8; FRONT_BYTES];
     let mut second = 0;
     let mut size = write_front(&mut front, second);
@@ -195,18 +201,18 @@ fn fill_records(
         later = true;
     }
     out.truncate(at);
-    put(out, b"]")?;
+    push_piece(out, b"]")?;
     Ok(())
 }
 
-/// The engine of the standard's base64 (RFC 4648, section 4).
+/// The standard base64 engine (RFC 4648, section 4).
 fn standard_engine() -> GeneralPurpose
     ensures { result ≡ standard }
 {
     STANDARD
 }
 
-/// Adds records as an array.
+/// Adds the records as an array.
 pub fn put_records(out: &mut Vec<u8>, alloc: Global, batch: &[Stored]) -> Result<(), Memory>
     ensures { OnOk result (out.new.items ≡ out.old.items ++ compact_text (list_data record_data batch.now)) }
 {

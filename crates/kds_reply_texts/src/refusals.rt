@@ -1,4 +1,4 @@
-//! The refusals of the service, as they are told.
+//! The names, messages and bodies of the service's refusals.
 ghost use Rattle.std.specs.Prelude.{◌≡◌, IfOk, true};
 ghost use Rattle.kds_defs.specs.Kinds.{is_service_refusal};
 ghost use Rattle.kds_reply_texts.specs.Errors.{refusal_name as name_of, refusal_message as message_of, refusal_text};

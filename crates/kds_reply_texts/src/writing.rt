@@ -1,4 +1,4 @@
-//! Members and values, written straight as text.
+//! Writes JSON members and values with the kit's `json::Writer`.
 ghost use Rattle.std.specs.Prelude.{◌≡◌, ◌++◌, ◌∷◌, [], decimal, OnOk, IfOk};
 ghost use Rattle.json.specs.Token.{begin_object, end_object, key, string};
 ghost use Rattle.serde_json.specs.Data.{Data};
@@ -10,15 +10,15 @@ use json::Writer;
 use kds_base::{Memory, Octets};
 use std::alloc::Global;
 
-/// A writer that has written nothing, with room for so many bytes.
-pub fn new_writer(alloc: Global, room: usize) -> Result<Writer, Memory>
+/// A new writer that has reserved `capacity` bytes.
+pub fn new_writer(alloc: Global, capacity: usize) -> Result<Writer, Memory>
     ensures nothing { IfOk result (λ out. out.tokens ≡ []) }
     ensures before { IfOk result (λ out. out.before ≡ []) }
 {
-    Ok(Writer::new(Vec::with_capacity(alloc, room)?))
+    Ok(Writer::new(Vec::with_capacity(alloc, capacity)?))
 }
 
-/// The text of a value whose tokens were written.
+/// The text that a writer holds once a whole value was written.
 pub fn written(out: Writer) -> Octets
     requires { out.before ≡ [] }
     ensures { (d : Data) → out.tokens ≡ tokens_of d → result ≡ compact_text d }
@@ -26,7 +26,7 @@ pub fn written(out: Writer) -> Octets
     Octets::unshared(out.into_inner())
 }
 
-/// Begins an object.
+/// Writes the start of an object.
 pub fn begin_object(out: &mut Writer) -> Result<(), Memory>
     ensures ok { OnOk result (out.new.tokens ≡ out.old.tokens ++ begin_object ∷ []) }
     ensures before { out.new.before ≡ out.old.before }
@@ -35,7 +35,7 @@ pub fn begin_object(out: &mut Writer) -> Result<(), Memory>
     Ok(())
 }
 
-/// Ends an object.
+/// Writes the end of an object.
 pub fn end_object(out: &mut Writer) -> Result<(), Memory>
     ensures ok { OnOk result (out.new.tokens ≡ out.old.tokens ++ end_object ∷ []) }
     ensures before { out.new.before ≡ out.old.before }
@@ -44,7 +44,7 @@ pub fn end_object(out: &mut Writer) -> Result<(), Memory>
     Ok(())
 }
 
-/// Adds the name of a member.
+/// Writes the name of a member.
 pub fn put_name(out: &mut Writer, name: &str) -> Result<(), Memory>
     ensures ok { OnOk result (out.new.tokens ≡ out.old.tokens ++ key name.now ∷ []) }
     ensures before { out.new.before ≡ out.old.before }
@@ -53,7 +53,7 @@ pub fn put_name(out: &mut Writer, name: &str) -> Result<(), Memory>
     Ok(())
 }
 
-/// Adds a member that is a hash key, which is a decimal string.
+/// Writes a member that is a hash key, as a decimal string.
 pub fn put_hash_key(out: &mut Writer, name: &str, hash: u128) -> Result<(), Memory>
     ensures ok { OnOk result (out.new.tokens ≡ out.old.tokens ++ key name.now ∷ string (decimal hash) ∷ []) }
     ensures before { out.new.before ≡ out.old.before }
@@ -64,7 +64,7 @@ pub fn put_hash_key(out: &mut Writer, name: &str, hash: u128) -> Result<(), Memo
     Ok(())
 }
 
-/// Adds a member that is a text.
+/// Writes a member that is a string.
 pub fn put_text(out: &mut Writer, name: &str, text: &str) -> Result<(), Memory>
     ensures ok { OnOk result (out.new.tokens ≡ out.old.tokens ++ key name.now ∷ string text.now ∷ []) }
     ensures before { out.new.before ≡ out.old.before }

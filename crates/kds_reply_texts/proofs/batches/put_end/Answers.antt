@@ -11,10 +11,10 @@ returns c =
     let children = c.args.children.now in
     let t = c.args.out.now.items in
     let family : c.as_slice.result.now ≡ compact_text (list_data child_data children) = search rules in
-    let two = more t _ _ _ _ c.in_ok-put.ensures c.in_ok-put-2.ensures in
-    let three = more t _ _ _ _ two c.in_ok-put-3.ensures in
+    let two = more t _ _ _ _ c.in_ok-push_piece.ensures c.in_ok-push_piece-2.ensures in
+    let three = more t _ _ _ _ two c.in_ok-push_piece-3.ensures in
     let four = more t _ _ _ _ three c.in_ok-put_decimal.ensures in
-    let five = more t _ _ _ _ four c.in_ok-put-4.ensures in
+    let five = more t _ _ _ _ four c.in_ok-push_piece-4.ensures in
     let six = more t _ _ _ _ five c.in_ok-put_records.ensures in
-    let seven = more t _ _ _ _ six c.in_ok-put-5.ensures in
+    let seven = more t _ _ _ _ six c.in_ok-push_piece-5.ensures in
     seven ∙ ap (λ (text : List ℕ). t ++ text) (end_pieces c.args.batch.now c.args.behind children c.as_slice.result.now family)

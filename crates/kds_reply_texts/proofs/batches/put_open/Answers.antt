@@ -10,10 +10,10 @@ returns c = λ children.
     let next = c.args.next.now in
     let t = c.args.out.now.items in
     let token : c.as_slice.result.now ≡ escape (iter_token next) = search rules in
-    let two = more t _ _ _ _ c.in_ok-put.ensures c.in_ok-put_decimal.ensures in
-    let three = more t _ _ _ _ two c.in_ok-put-2.ensures in
-    let four = more t _ _ _ _ three c.in_ok-put-3.ensures in
-    let five = more t _ _ _ _ four c.in_ok-put-4.ensures in
+    let two = more t _ _ _ _ c.in_ok-push_piece.ensures c.in_ok-put_decimal.ensures in
+    let three = more t _ _ _ _ two c.in_ok-push_piece-2.ensures in
+    let four = more t _ _ _ _ three c.in_ok-push_piece-3.ensures in
+    let five = more t _ _ _ _ four c.in_ok-push_piece-4.ensures in
     let six = more t _ _ _ _ five c.in_ok-put_records.ensures in
-    let seven = more t _ _ _ _ six c.in_ok-put-5.ensures in
+    let seven = more t _ _ _ _ six c.in_ok-push_piece-5.ensures in
     seven ∙ ap (λ (text : List ℕ). t ++ text) (open_pieces c.args.batch.now next c.args.behind children c.as_slice.result.now token)

@@ -14,12 +14,12 @@ returns-clause-text c =
     let name : c.as_slice-key.result.now ≡ r.key = search rules in
     let key : c.as_slice-key.result.now ≡ escape (utf8_lossy r.key) =
     sym c.if-not-stands_as_it_is.ensures ∙ ap (λ (k : List ℕ). escape (utf8_lossy k)) name in
-    let front : take c.args.at c.as_mut_slice-room.result.now ≡ t =
-    ap (λ (s : List ℕ). take c.args.at s) c.as_mut_slice-room.ensures.value ∙ c.in_ok-make_room.ensures.front in
-    let same : length c.write_record.new.room ≡ c.make_room.new.out.len =
-    omega (arith, c.write_record.ensures.len, c.write_comma-at.ensures.len, c.as_mut_slice-room.ensures.len) in
+    let front : take c.args.at c.as_mut_slice-buffer.result.now ≡ t =
+    ap (λ (s : List ℕ). take c.args.at s) c.as_mut_slice-buffer.ensures.value ∙ c.in_ok-ensure_length.ensures.front in
+    let same : length c.write_record.new.buffer ≡ c.ensure_length.new.out.len =
+    omega (arith, c.write_record.ensures.len, c.write_comma-at.ensures.len, c.as_mut_slice-buffer.ensures.len) in
     let parted = c.write_comma-at.ensures.text ∙ ap (λ (s : List ℕ). s ++ comma_if c.args.later) front in
-    over_vec c.write_record.result c.make_room.new.out.len c.write_record.new.room c.make_room.new.out.items same
+    over_vec c.write_record.result c.ensure_length.new.out.len c.write_record.new.buffer c.ensure_length.new.out.items same
     ∙ more t _ _ _ _ parted c.write_record.ensures.text
     ∙ ap (λ (s : List ℕ). t ++ (comma_if c.args.later ++ s))
     (record_over r c.args.front.now c.as_slice-payload.result.now c.as_slice-key.result.now c.requires.front payload key)

@@ -20,5 +20,5 @@ loop-stored-preserved c =
 pub returns : goal.returns
 returns c =
     let l = c.loop-stored in
-    c.in_ok-put-2.ensures ∙ ap (λ (s : List ℕ). s ++ 93 ∷ []) c.truncate.ensures.items
+    c.in_ok-push_piece-2.ensures ∙ ap (λ (s : List ℕ). s ++ 93 ∷ []) c.truncate.ensures.items
     ∙ last_item record_data c.args.batch.now l.stored-index l.later (take l.at l.out.items) _ c.loop-stored-test.false l.invariant.text

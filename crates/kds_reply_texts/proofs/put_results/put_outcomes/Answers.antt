@@ -1,6 +1,6 @@
 use Rattle.kds_reply_texts.specs.Bodies.{outcome_data}
 use Rattle.kds_reply_texts.proofs.RecordTexts.{next_item}
-use Rattle.kds_reply_texts.proofs.places.put_outcomes.Goals as goal
+use Rattle.kds_reply_texts.proofs.put_results.put_outcomes.Goals as goal
 
 pub loop-outcome-preserved : goal.loop-outcome-preserved
 loop-outcome-preserved c =

@@ -1,16 +1,16 @@
-//! What became of records that were to be put, written straight as text.
+//! The results of PutRecord and PutRecords, written directly as text.
 ghost use Rattle.std.specs.Prelude.{◌≡◌, ◌++◌, OnOk};
 ghost use Rattle.serde_json.specs.Written.{compact_text};
 ghost use Rattle.kds_reply_texts.specs.Bodies.{list_data, place_data, failed_data, outcome_data, has_failed, failed_count as count_of_failed, outcomes_data};
 
-use crate::pieces::{put, put_comma, put_decimal, put_seq, put_str, reserve};
+use crate::pieces::{push_piece, put_comma, put_decimal, put_seq, put_str, reserve};
 use crate::refusals::{refusal_message, refusal_name};
 use kds_base::Memory;
 use kds_defs::{Outcome, Place, Refusal};
 use kds_token::shard_id;
 use std::alloc::Global;
 
-/// The most bytes of what became of a record, and of what stands around all of them.
+/// The most bytes that the result of one record takes. The text around all results together takes no more either.
 const PLACE_BYTES: usize = 96;
 
 fn failed(outcome: &Outcome) -> bool
@@ -19,7 +19,7 @@ fn failed(outcome: &Outcome) -> bool
     matches!(outcome, Outcome::Throttled(_))
 }
 
-/// How many records weren't put.
+/// The number of records that weren't stored.
 fn failed_count(outcomes: &[Outcome]) -> u64
     ensures { result ≡ count_of_failed outcomes.now }
 {
@@ -32,32 +32,33 @@ fn failed_count(outcomes: &[Outcome]) -> u64
     count
 }
 
-/// Adds the text of where a record was put (Kinesis API Reference, PutRecord, Response Elements).
+/// Adds the shard's ID and the sequence number of a stored record (Kinesis API Reference, PutRecord, Response
+/// Elements).
 fn put_place(out: &mut Vec<u8>, alloc: Global, place: &Place) -> Result<(), Memory>
     ensures { OnOk result (out.new.items ≡ out.old.items ++ compact_text (place_data place.now)) }
 {
     let shard = shard_id(place.shard);
-    put(out, b"{\"SequenceNumber\":\"")?;
+    push_piece(out, b"{\"SequenceNumber\":\"")?;
     put_seq(out, place.seq)?;
-    put(out, b"\",\"ShardId\":\"")?;
+    push_piece(out, b"\",\"ShardId\":\"")?;
     put_str(out, alloc, shard.as_str())?;
-    put(out, b"\"}")?;
+    push_piece(out, b"\"}")?;
     Ok(())
 }
 
-/// Adds the text of why a record of many wasn't put.
+/// Adds the result of a record of PutRecords that wasn't stored: the error's name and message.
 fn put_failed(out: &mut Vec<u8>, alloc: Global, name: &str, message: &str) -> Result<(), Memory>
     ensures { OnOk result (out.new.items ≡ out.old.items ++ compact_text (failed_data name.now message.now)) }
 {
-    put(out, b"{\"ErrorCode\":\"")?;
+    push_piece(out, b"{\"ErrorCode\":\"")?;
     put_str(out, alloc, name)?;
-    put(out, b"\",\"ErrorMessage\":\"")?;
+    push_piece(out, b"\",\"ErrorMessage\":\"")?;
     put_str(out, alloc, message)?;
-    put(out, b"\"}")?;
+    push_piece(out, b"\"}")?;
     Ok(())
 }
 
-/// Adds the text of what became of a record of many (Kinesis API Reference, PutRecordsResultEntry).
+/// Adds the result of one record of PutRecords (Kinesis API Reference, PutRecordsResultEntry).
 fn put_outcome(out: &mut Vec<u8>, alloc: Global, outcome: &Outcome) -> Result<(), Memory>
     ensures { OnOk result (out.new.items ≡ out.old.items ++ compact_text (outcome_data outcome.now)) }
 {
@@ -75,22 +76,22 @@ fn put_outcome(out: &mut Vec<u8>, alloc: Global, outcome: &Outcome) -> Result<()
     }
 }
 
-/// Adds the text of what became of records, as an array.
+/// Adds the results of the records as an array.
 fn put_outcomes(out: &mut Vec<u8>, alloc: Global, outcomes: &[Outcome]) -> Result<(), Memory>
     ensures { OnOk result (out.new.items ≡ out.old.items ++ compact_text (list_data outcome_data outcomes.now)) }
 {
     let mut later = false;
-    put(out, b"[")?;
+    push_piece(out, b"[")?;
     for outcome in outcomes {
         put_comma(out, later)?;
         put_outcome(out, alloc, outcome)?;
         later = true;
     }
-    put(out, b"]")?;
+    push_piece(out, b"]")?;
     Ok(())
 }
 
-/// Adds the text of where a record was put.
+/// Adds the reply to PutRecord.
 pub fn add_place(out: &mut Vec<u8>, alloc: Global, place: &Place) -> Result<(), Memory>
     ensures { OnOk result (out.new.items ≡ out.old.items ++ compact_text (place_data place.now)) }
 {
@@ -98,16 +99,16 @@ pub fn add_place(out: &mut Vec<u8>, alloc: Global, place: &Place) -> Result<(), 
     put_place(out, alloc, place)
 }
 
-/// Adds the text of what became of each of some records (Kinesis API Reference, PutRecords, Response Elements).
+/// Adds the reply to PutRecords (Kinesis API Reference, PutRecords, Response Elements).
 pub fn add_outcomes(out: &mut Vec<u8>, alloc: Global, outcomes: &[Outcome]) -> Result<(), Memory>
     ensures { OnOk result (out.new.items ≡ out.old.items ++ compact_text (outcomes_data outcomes.now)) }
 {
-    let room = outcomes.len().saturating_mul(PLACE_BYTES);
-    reserve(out, room.saturating_add(PLACE_BYTES))?;
-    put(out, b"{\"FailedRecordCount\":")?;
+    let size = outcomes.len().saturating_mul(PLACE_BYTES);
+    reserve(out, size.saturating_add(PLACE_BYTES))?;
+    push_piece(out, b"{\"FailedRecordCount\":")?;
     put_decimal(out, failed_count(outcomes))?;
-    put(out, b",\"Records\":")?;
+    push_piece(out, b",\"Records\":")?;
     put_outcomes(out, alloc, outcomes)?;
-    put(out, b"}")?;
+    push_piece(out, b"}")?;
     Ok(())
 }

@@ -2,7 +2,7 @@ use Rattle.std.proofs.Common.{◌≡◌, ◌++◌, drop, map}
 use Rattle.serde_json.specs.View.{items_of}
 use Rattle.serde_json.specs.Written.{compact_text, items_text}
 use Rattle.kds_reply_texts.specs.Bodies.{list_data, outcome_data}
-use Rattle.kds_reply_texts.proofs.places.put_outcomes.Given as goal
+use Rattle.kds_reply_texts.proofs.put_results.put_outcomes.Given as goal
 
 -- with that of the outcomes that are left, the text so far is all of it
 abbrev pub invariant-loop-outcome : goal.invariant-loop-outcome

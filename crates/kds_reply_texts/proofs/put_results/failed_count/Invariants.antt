@@ -1,7 +1,7 @@
 use Rattle.std.proofs.Common.{◌≡◌, ◌≤◌, take}
 use Rattle.std.specs.Prelude.{count_by}
 use Rattle.kds_reply_texts.specs.Bodies.{has_failed}
-use Rattle.kds_reply_texts.proofs.places.failed_count.Given as goal
+use Rattle.kds_reply_texts.proofs.put_results.failed_count.Given as goal
 
 -- those that failed so far are counted
 abbrev pub invariant-loop-outcome : goal.invariant-loop-outcome

@@ -1,5 +1,5 @@
 use Rattle.std.proofs.Common.{◌≡◌, ◌+◌, ◌≤◌, take, vec_len}
-use Rattle.kds_reply_texts.proofs.pieces.put_room.Given as goal
+use Rattle.kds_reply_texts.proofs.pieces.push_zeros.Given as goal
 
 -- what stood before stays, and what was made and what is left are all that is asked for
 abbrev pub invariant-loop-left : goal.invariant-loop-left
