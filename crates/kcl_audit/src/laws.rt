@@ -1,4 +1,4 @@
-//! What is true of every verdict, and of every audit.
+//! Laws of every verdict on a line, and of every audit.
 ghost use Rattle.std.specs.Prelude.{ℕ, List, ◌≡◌, ◌≢◌, Ok};
 ghost use Rattle.kds_defs.specs.Journal.{Journal, Line};
 ghost use Rattle.kds_defs.specs.Legal.{IsGood};
@@ -11,7 +11,7 @@ ghost use Rattle.kcl_audit.specs.Text.{IsJournal};
 
 use kcl_audit_judge::exact as exact_verdicts;
 
-/// A good line meets no rule; and of the entries that a text can tell, one that meets no rule is good.
+/// A good line breaks no rule. Conversely, a line that breaks no rule is good if a journal's text can state its entry.
 pub fn exact()
     ensures good { (log : Journal) (line : Line) → IsGood log line → verdict log line ≡ Ok tt }
     ensures ok { (log : Journal) (v : ℕ) (e : EntryLine) → IsTellable v e.what → verdict log (line_of e) ≡ Ok tt → IsGood log (line_of e) }
@@ -19,7 +19,7 @@ pub fn exact()
     exact_verdicts();
 }
 
-/// Bytes whose audit is sound are the text of a legal journal of so many entries, and its last line.
+/// If the audit of some bytes is `sound n`, the bytes are the text of a legal journal with `n` entries and a last line.
 pub fn legal()
     ensures { (bytes : List ℕ) (n : ℕ) → audit_of bytes ≡ sound n → IsJournal bytes n }
 {
@@ -27,7 +27,7 @@ pub fn legal()
     kcl_journal::one_entry();
 }
 
-/// The text of a legal journal, and its last line, is found sound, unless a line or the input is too long.
+/// The text of a legal journal with its last line is found sound, unless a line or the input is too long.
 pub fn complete()
     ensures sounds { (bytes : List ℕ) (n : ℕ) → IsJournal bytes n → audit_of bytes ≢ over → audit_of bytes ≡ sound n }
     ensures lengths { (bytes : List ℕ) → audit_of bytes ≡ over → (lined bytes).end ≡ too_long }

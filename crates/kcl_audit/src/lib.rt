@@ -1,5 +1,6 @@
-//! The audit of a journal's text: which bytes are the text of a journal that a machine can leave, and else which entry is
-//! the first bad one, and why; entry by entry, line by line, and from a source to a sink.
+//! Audits the text of a journal: decides whether the bytes are a journal that a machine can write, and if not, which
+//! entry is the first bad one, and which rule it breaks. The audit works on single entries, on lines, and from a source
+//! to a sink.
 #![tactic(auto)]
 
 mod laws;

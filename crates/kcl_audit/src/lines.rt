@@ -1,4 +1,4 @@
-//! The audit as what takes the lines of an input.
+//! The audit as a consumer of an input's lines.
 ghost use Rattle.std.specs.Prelude.{ℕ, ◌≡◌, List, [], IfOk, OnErr, OnOk};
 ghost use Rattle.kds_defs.specs.Journal.{Journal};
 ghost use Rattle.kcl_journal.specs.Entries.{IsVersion};
@@ -14,7 +14,7 @@ use kds_lines::Taker;
 use std::alloc::Global;
 use std::marker::Model;
 
-/// Judges a line behind so many entries.
+/// Judges the line that comes after `count` good entries.
 fn line(
     alloc: Global,
     audit: &mut Audit,
@@ -52,7 +52,7 @@ fn line(
     })
 }
 
-/// The audit of the lines of a journal's text. Once an entry was bad it takes no more.
+/// An audit that takes a journal's text line by line. After a bad entry it takes no further line.
 #[derive(Drop)]
 pub struct AuditTaker {
     audit: Audit,
@@ -70,7 +70,7 @@ impl Model for AuditTaker {
 }
 
 impl AuditTaker {
-    /// No line was taken.
+    /// An audit that has taken no line.
     pub fn new(alloc: Global) -> AuditTaker
         ensures { Took result [] }
     {
@@ -80,15 +80,15 @@ impl AuditTaker {
         }
     }
 
-    /// Whether an entry was bad; its report was written with its line.
+    /// Whether an entry was bad. The report of a bad entry is written when its line is taken.
     pub fn is_over(&self) -> bool
         ensures { (texts : List (List ℕ)) → Took self.now texts → result ≡ is_bad (progress texts) }
     {
         is_found(&self.stage)
     }
 
-    /// Ends the audit where the lines end, at a line feed or inside a line, and adds what is written then. The answer is
-    /// whether the entries are sound. After `Memory` nothing was added.
+    /// Ends the audit after the last line, and adds the final report. `unfinished` is true if the text doesn't end with
+    /// a line feed. Returns whether the entries are sound. If memory runs out, nothing is added.
     pub fn finish(&self, alloc: Global, unfinished: bool, to: &mut Octets) -> Result<bool, Memory>
         ensures says { (texts : List (List ℕ)) → Took self.now texts → IfOk result (λ says. Finishes (progress texts) (end_by unfinished) says to.old to.new) }
         ensures err { OnErr result (to.new ≡ to.old) }
@@ -96,7 +96,7 @@ impl AuditTaker {
         finish_stage(alloc, &self.stage, unfinished, to)
     }
 
-    /// The stage after the next line.
+    /// The stage of the audit after the next line.
     fn stage_after(&mut self, alloc: Global, text: &[u8]) -> Result<Stage, Memory>
         ensures at { (texts : List (List ℕ)) → Took self.old texts → IfOk result (λ s. IsAt s self.new.judge (step (progress texts) text.now)) }
         ensures kept { (texts : List (List ℕ)) → Took self.old texts → OnErr result (Took self.new texts) }
@@ -123,7 +123,7 @@ impl AuditTaker {
     }
 }
 
-/// An audit takes the lines of a journal's text, and no more once an entry was bad.
+/// An audit takes the lines of a journal's text. After a bad entry it takes no further line.
 impl Taker for AuditTaker {
     ghost use Rattle.std.specs.Prelude.{refl};
     ghost use Rattle.kcl_audit.specs.Stages.{Broke, IsOver, Took, texts_report};

@@ -1,4 +1,4 @@
-//! The names of rules, and the lines that tell what an audit found.
+//! The names of rules, and the lines in which an audit reports its result.
 ghost use Rattle.std.specs.Prelude.{◌≡◌, ◌++◌, OnErr, OnOk};
 ghost use Rattle.kcl_audit.specs.Text.{named_text, rule_name as name_of_rule, sound_text};
 
@@ -7,7 +7,7 @@ use kcl_script_fields::{refusal_name, with_number};
 use kds_base::{Memory, Octets};
 use std::alloc::Global;
 
-/// The name of a rule as an audit tells it; of a refusal, without its value.
+/// The name of a rule as an audit prints it. For a refusal it is the refusal's name, without the value.
 pub fn rule_name(rule: &Rule) -> &'static str
     ensures { result.now ≡ name_of_rule rule.now }
 {
@@ -19,7 +19,7 @@ pub fn rule_name(rule: &Rule) -> &'static str
     }
 }
 
-/// Adds the line that tells a bad entry. After `Memory` a front of it may have been added.
+/// Adds the line that reports a bad entry. If memory runs out, a prefix of the text may have been added.
 fn fill_unsound(alloc: Global, number: u64, name: &str, to: &mut Octets) -> Result<(), Memory>
     ensures { OnOk result (to.new ≡ to.old ++ named_text number name.now) }
 {
@@ -29,8 +29,8 @@ fn fill_unsound(alloc: Global, number: u64, name: &str, to: &mut Octets) -> Resu
     to.extend(b"\n".as_slice())
 }
 
-/// Adds the line that tells the number of a bad entry, from 1, and the name of its rule. After `Memory` nothing was
-/// added.
+/// Adds the line that reports a bad entry: its number, counted from 1, and the name of the rule that it breaks. If
+/// memory runs out, nothing is added.
 pub fn print_unsound(alloc: Global, number: u64, name: &str, to: &mut Octets) -> Result<(), Memory>
     ensures ok { OnOk result (to.new ≡ to.old ++ named_text number name.now) }
     ensures err { OnErr result (to.new ≡ to.old) }
@@ -40,7 +40,8 @@ pub fn print_unsound(alloc: Global, number: u64, name: &str, to: &mut Octets) ->
     to.extend(line.as_slice())
 }
 
-/// Adds the line that tells that so many entries are sound. After `Memory` a front of it may have been added.
+/// Adds the line that reports that `number` entries are sound. If memory runs out, a prefix of the text may have been
+/// added.
 fn fill_sound(alloc: Global, number: u64, to: &mut Octets) -> Result<(), Memory>
     ensures { OnOk result (to.new ≡ to.old ++ sound_text number) }
 {
@@ -48,7 +49,7 @@ fn fill_sound(alloc: Global, number: u64, to: &mut Octets) -> Result<(), Memory>
     to.extend(b"\n".as_slice())
 }
 
-/// Adds the line that tells that so many entries are sound. After `Memory` nothing was added.
+/// Adds the line that reports that `number` entries are sound. If memory runs out, nothing is added.
 pub fn print_sound(alloc: Global, number: u64, to: &mut Octets) -> Result<(), Memory>
     ensures ok { OnOk result (to.new ≡ to.old ++ sound_text number) }
     ensures err { OnErr result (to.new ≡ to.old) }

@@ -1,4 +1,4 @@
-//! The run of an audit.
+//! Runs an audit from a source to a sink.
 ghost use Rattle.std.specs.Prelude.{◌≡◌, ◌⊎◌, ◌≤◌, ℕ, List, IfSome};
 ghost use Rattle.std.specs.declared.option.Option.{Option};
 ghost use Rattle.kds_ends.specs.Causes.{Rose};
@@ -15,7 +15,7 @@ use kds_ends::{Sink, Source, Status, write_all};
 use kds_lines::{Outcome, read_lines};
 use std::alloc::Global;
 
-/// The lines end at a line feed, or inside a line: writes what is said then.
+/// Writes the final report after the last line. `unfinished` is true if the text doesn't end with a line feed.
 fn tell_end<K: Sink>(alloc: Global, taker: &AuditTaker, unfinished: bool, out: &mut K) -> Status
     ensures told { (texts : List (List ℕ)) → Took taker.now texts
         → TellsEnd result (finish (progress texts) (end_by unfinished)) (report (progress texts)) (K.held out.old) (K.held out.new) }
@@ -38,7 +38,7 @@ fn tell_end<K: Sink>(alloc: Global, taker: &AuditTaker, unfinished: bool, out: &
     }
 }
 
-/// The end of an audit by that of the reading of its input. A bad entry comes before all that follows it.
+/// Ends the audit, given how reading the input ended. If an entry was bad, later faults of the input don't matter.
 fn end_audit<K: Sink>(alloc: Global, taker: &AuditTaker, outcome: Outcome, out: &mut K) -> Status
     ensures told { (bytes : List ℕ) (left start : Option (List ℕ))
         → Told outcome (Took taker.now) (Broke taker.now) IsOver texts_report bytes left start (K.held out.old)
@@ -61,26 +61,26 @@ fn end_audit<K: Sink>(alloc: Global, taker: &AuditTaker, outcome: Outcome, out: 
         Outcome::Unfinished(_) => tell_end(alloc, taker, true, out),
         Outcome::TooLong => Status::TooLong,
         Outcome::Read => Status::Read,
-        // no line is left out but behind a bad entry
+        // Reading stops before the end only after a bad entry.
         Outcome::Stopped(_) => Status::Unsound,
         Outcome::Write => Status::Write,
         Outcome::Memory => Status::Memory,
     }
 }
 
-/// Audits the text of a journal, and writes what it found: `sound N` with the number of its entries, or `entry N RULE` of the
-/// first that is bad. Done: all are sound. Unsound: exactly where one is bad. TooLong: exactly where a line or the
-/// input is longer than the limits, and no entry before it is bad; these three unless an end failed or memory ran out
-/// before. Read, Write: the source or the sink failed. Memory: want of memory.
+/// Audits the text of a journal, and writes the result: `sound N` with the number of entries, or `entry N RULE` for the
+/// first bad entry. Done: all entries are sound. Unsound: exactly if an entry is bad. TooLong: exactly if a line or the
+/// input is longer than the limits, and no entry before it is bad. One of these three is returned unless the source or
+/// the sink failed, or memory ran out, before. Read, Write: the source or the sink failed. Memory: memory ran out.
 pub fn run_audit<S: Source, K: Sink>(alloc: Global, input: &mut S, out: &mut K) -> Status
     ensures told { IfSome (S.left input.old) (λ bytes. TellsAudit result bytes (K.held out.old) (K.held out.new)) }
 
-    // A sound text is that of a legal journal, and the state that it tells is safe, at its last line's clock. The text of a
-    // legal journal isn't found unsound.
+    // A text that is found sound is a legal journal, and the state that it describes is safe at the clock of its last
+    // line. The text of a legal journal is never found unsound.
     ensures safe { result ≡ Status.Done → IfSome (S.left input.old) IsSafely }
     ensures legal { result ≡ Status.Unsound → IfSome (S.left input.old) IsNoJournal }
 
-    // Over ends whose faults don't rise the bytes decide the end, unless memory runs out.
+    // If neither the source nor the sink fails, the bytes decide how the audit ends, unless memory runs out.
     ensures complete { (Rose (S.faults input.old) (S.faults input.new) → ⊥) → (Rose (K.faults out.old) (K.faults out.new) → ⊥)
         → IfSome (S.left input.old) (λ bytes. AuditsAs bytes result) }
     ensures read { result ≡ Status.Read → Rose (S.faults input.old) (S.faults input.new) }

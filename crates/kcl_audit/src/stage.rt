@@ -1,4 +1,4 @@
-//! Where an audit stands in a text.
+//! The progress of an audit.
 ghost use Rattle.std.specs.Prelude.{ℕ, ◌≡◌, ◌∷◌, ◌++◌, None, IfOk, OnErr, OnOk};
 ghost use Rattle.std.specs.Option.{option_map};
 ghost use Rattle.kds_defs.specs.Journal.{Journal};
@@ -14,27 +14,27 @@ use kcl_journal::EntryLine;
 use kds_base::{Memory, Moment, Octets};
 use std::alloc::Global;
 
-/// Where an audit stands in a text.
+/// How far an audit has come in a text.
 #[derive(Clone, Copy)]
 pub enum Stage {
-    /// No line came.
+    /// No line was taken.
     Fresh,
-    /// So many entries of a text of this version are good.
+    /// The text has this version, and its first `count` entries are good. No last line has come.
     Going { version: u8, count: u64 },
-    /// The last line came after so many entries.
+    /// The last line has come after `count` good entries.
     Closed { count: u64 },
-    /// The entry of this number breaks the rule of this name.
+    /// The entry with this number breaks the rule with this name.
     Found { number: u64, name: &'static str },
 }
 
-/// The number after this one: a count stands still at the greatest of a `u64`.
+/// The number after `count`. Counting stops at the greatest `u64`.
 pub fn next(count: u64) -> u64
     ensures { result ≡ next count }
 {
     count.saturating_add(1)
 }
 
-/// Judges an entry, and names the rule that it breaks, if it does.
+/// Judges an entry. Returns the name of the rule that it breaks, or `None` if it is good.
 pub fn entry_name(
     alloc: Global,
     audit: &mut Audit,
@@ -54,7 +54,7 @@ pub fn entry_name(
     }
 }
 
-/// Judges the clock of the last line, and names the rule that it breaks, if it does.
+/// Judges the clock of the last line. Returns the name of the rule that it breaks, or `None` if it is good.
 pub fn end_name(audit: &Audit, clock: Moment) -> Option<&'static str>
     ensures { (log : Journal) → Stands audit.now log → option_map (λ s. s.now) result ≡ name_in (end_verdict log clock) }
 {
@@ -64,14 +64,14 @@ pub fn end_name(audit: &Audit, clock: Moment) -> Option<&'static str>
     }
 }
 
-/// Whether an entry was bad.
+/// Whether a bad entry was found.
 pub fn is_found(stage: &Stage) -> bool
     ensures { result ≡ is_found stage.now }
 {
     matches!(stage, Stage::Found { .. })
 }
 
-/// Adds what is written once an entry was bad. After `Memory` nothing was added.
+/// Adds the report of a bad entry, if one was found. If memory runs out, nothing is added.
 pub fn report_stage(alloc: Global, stage: &Stage, to: &mut Octets) -> Result<(), Memory>
     ensures ok { OnOk result (to.new ≡ to.old ++ stage_report stage.now) }
     ensures err { OnErr result (to.new ≡ to.old) }
@@ -82,8 +82,9 @@ pub fn report_stage(alloc: Global, stage: &Stage, to: &mut Octets) -> Result<(),
     Ok(())
 }
 
-/// Adds what is written at this stage where the lines end, at a line feed or inside a line, behind what was written
-/// along them. The answer is whether the entries are sound. After `Memory` nothing was added.
+/// Adds the final report after the last line. A bad entry was already reported, so nothing is added for it.
+/// `unfinished` is true if the text doesn't end with a line feed. Returns whether the entries are sound. If memory runs
+/// out, nothing is added.
 pub fn finish_stage(
     alloc: Global,
     stage: &Stage,

@@ -1,4 +1,4 @@
-//! The audit of entries, one after another.
+//! Audits single entries, one after another.
 ghost use Rattle.std.specs.Prelude.{ℕ, ◌≡◌, ◌∷◌, [], IfOk, OnErr, OnOk};
 ghost use Rattle.kds_defs.specs.Journal.{Journal};
 ghost use Rattle.kcl_journal.specs.Ranges.{IsTellable};
@@ -13,7 +13,7 @@ use kds_base::{Memory, Moment};
 use std::alloc::Global;
 use std::marker::Model;
 
-/// What is known after the entries of a journal that were good. Contracts see it as its judge.
+/// The state after the good entries of a journal. In contracts it is represented by its judge.
 #[derive(Drop)]
 pub struct Audit {
     judge: Judge,
@@ -28,7 +28,7 @@ impl Model for Audit {
 }
 
 impl Audit {
-    /// No entry was judged.
+    /// An audit before the first entry.
     pub fn new(alloc: Global) -> Audit
         ensures { Stands result [] }
     {
@@ -37,9 +37,10 @@ impl Audit {
         }
     }
 
-    /// Judges the next entry of a journal, and keeps it where it is good: `Clock` where its clock is below that of the
-    /// entry before, `By` where the command that it tells is refused, `Entry` where that gives another entry. After a
-    /// rule, and after `Memory`, the entries are as before. Condition: a text can tell the entry.
+    /// Judges the next entry of a journal, and adds it if it is good. The entry breaks the rule `Clock` if its clock is
+    /// below the previous entry's clock, `By` if the command for which it stands is refused, and `Entry` if that
+    /// command gives another entry. If it breaks a rule, or memory runs out, the audit is as before. Precondition: a
+    /// journal's text can state the entry.
     pub fn entry(&mut self, alloc: Global, line: EntryLine) -> Result<Result<(), Rule>, Memory>
         requires told { (version : ℕ) × IsTellable version line.what }
         requires stands { (log : Journal) × Stands self.old log }
@@ -52,7 +53,8 @@ impl Audit {
         self.judge.entry(alloc, clock, by, what)
     }
 
-    /// Judges the clock of the journal's last line: `Clock` exactly where it is below that of the last entry.
+    /// Judges the clock of the journal's last line. The rule `Clock` is broken exactly if `clock` is below the last
+    /// entry's clock.
     pub fn finish(&self, clock: Moment) -> Result<(), Rule>
         ensures { (log : Journal) → Stands self.now log → result ≡ end_verdict log clock }
     {

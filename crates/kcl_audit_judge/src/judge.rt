@@ -1,4 +1,4 @@
-//! The judgement of entries, one after another.
+//! Judges the entries of a journal, one after another.
 ghost use Rattle.std.specs.Prelude.{◌≡◌, ◌∷◌, [], IfOk, OnErr, OnOk};
 ghost use Rattle.kcl_laws.specs.ShownLines.{entry_line};
 ghost use Rattle.kds_defs.specs.Journal.{Journal};
@@ -16,8 +16,8 @@ use kds_defs::Entry;
 use std::alloc::Global;
 use std::marker::Model;
 
-/// What is known after the entries of a journal that were good: the clock of the last one, the streams, the rows
-/// of the leases and the tenures.
+/// The state after the good entries of a journal: the clock of the last entry, the streams, the rows of the leases, and
+/// the tenures.
 #[derive(Drop)]
 pub struct Judge {
     streams: ToldStreams,
@@ -25,8 +25,8 @@ pub struct Judge {
     book: Book,
 }
 
-/// Judges an entry of a stream at the streams' clock, and adds it where it is good. Else, and after `Memory`, the
-/// streams are as before.
+/// Judges an entry about a stream at the streams' clock, and adds it if it is good. If it is bad, or memory runs out,
+/// the streams are as before.
 fn stream_entry(
     alloc: Global,
     streams: &mut ToldStreams,
@@ -55,7 +55,7 @@ impl Model for Judge {
 }
 
 impl Judge {
-    /// No entry was judged.
+    /// A judge before the first entry.
     pub fn new(alloc: Global) -> Judge
         ensures { Stands result [] }
     {
@@ -69,7 +69,8 @@ impl Judge {
         }
     }
 
-    /// Judges an entry at the streams' clock, and adds it where it is good. Else, and after `Memory`, all is as before.
+    /// Judges an entry at the streams' clock, and adds it if it is good. If it is bad, or memory runs out, nothing has
+    /// changed.
     fn judge(&mut self, alloc: Global, by: u32, what: Entry) -> Result<Result<(), Rule>, Memory>
         requires fit { IsFit what }
         requires holds { (log : Journal) × Holds self.old log }
@@ -93,9 +94,10 @@ impl Judge {
         }
     }
 
-    /// Judges the next entry of a journal, told by an actor at a clock, and keeps it where it is good: `Clock` where the
-    /// clock is below that of the entry before, `By` where the command that it tells is refused, `Entry` where that gives
-    /// another entry. After a rule, and after `Memory`, the entries are as before.
+    /// Judges the next entry of a journal, made by the actor `by` at a clock, and adds it if it is good. The entry
+    /// breaks the rule `Clock` if its clock is below the previous entry's clock, `By` if the command for which it
+    /// stands is refused, and `Entry` if that command gives another entry. If it breaks a rule, or memory runs out, the
+    /// judge is as before.
     pub fn entry(
         &mut self,
         alloc: Global,
@@ -122,7 +124,8 @@ impl Judge {
         judged
     }
 
-    /// Judges the clock of the journal's last line: `Clock` exactly where it is below that of the last entry.
+    /// Judges the clock of the journal's last line. The rule `Clock` is broken exactly if `clock` is below the last
+    /// entry's clock.
     pub fn finish(&self, clock: Moment) -> Result<(), Rule>
         ensures { (log : Journal) → Stands self.now log → result ≡ end_verdict log clock }
     {

@@ -1,4 +1,4 @@
-//! The entries of leases, judged and added.
+//! Judges the entries about leases, and adds good entries to the model.
 ghost use Rattle.std.specs.Prelude.{◌≡◌, ◌+◌, ◌≤◌, ◌==◌, length, None, IfOk, OnErr};
 ghost use Rattle.kds_defs.specs.declared.entry.Entry.TheVariants as entry;
 ghost use Rattle.kds_defs.specs.Journal.{Journal};
@@ -12,13 +12,16 @@ ghost use Rattle.kcl_audit_streams.specs.Verdict.{IsFit, same_flag, same_list, s
 
 use kcl_audit_streams::{Rule, ToldStreams, live};
 use kcl_book::Book;
-use kcl_leases::{Shards, counting, cut, free, give, make, mark, open, reader, renew, start, take};
+use kcl_leases::{
+    Shards, counting, cut, free, give, make, mark, open, reader, renew, take, take_start,
+};
 use kcl_table::Table;
 use kds_base::{Items, Memory, Seq, ShardRef, StreamNo, TenureNo, WorkerNo};
 use kds_defs::{Answer, Entry, Origin, Refusal, Shard, Target, place_after_numbers};
 use std::alloc::Global;
 
-/// An answer as a judgement, of an entry that tells all that its command gives.
+/// The verdict on an entry, given the answer to the command for which it stands. It is used if the command can give no
+/// other entry.
 fn by_answer(answer: &Answer) -> Result<(), Rule>
     ensures { result ≡ answer_verdict answer.now }
 {
@@ -28,7 +31,7 @@ fn by_answer(answer: &Answer) -> Result<(), Rule>
     }
 }
 
-/// Whether it is the number of the next tenure.
+/// Whether `no` is the number of the next tenure.
 fn is_next(book: &Book, no: TenureNo) -> bool
     ensures { result ≡ (no == length book.now.tenures + 1) }
 {
@@ -38,8 +41,9 @@ fn is_next(book: &Book, no: TenureNo) -> bool
     book.tenure(no).is_none() && (before == 0 || book.tenure(TenureNo(before)).is_some())
 }
 
-/// A taking is good, and is added, where its tenure is the next.
-fn taken(
+/// Judges an entry about the taking of a lease, and adds it if it is good. The tenure in the entry must have the next
+/// number.
+fn on_take(
     shards: &ToldStreams,
     table: &mut Table,
     book: &mut Book,
@@ -54,7 +58,7 @@ fn taken(
     ensures judged { IfOk result (JudgesBeside shards.now table.old book.old.tenures table.new book.new.tenures by (entry.Taken key.now no counter owner)) }
     ensures kept { OnErr result (Keeps shards.now table.old book.old.tenures table.new book.new.tenures) }
 {
-    if let Err(refusal) = start(table, key, counter - 1, book.spent()) {
+    if let Err(refusal) = take_start(table, key, counter - 1, book.spent()) {
         return Ok(Err(Rule::By(refusal)));
     }
     if !is_next(book, no) {
@@ -64,7 +68,7 @@ fn taken(
     Ok(by_answer(&answer))
 }
 
-/// The position of a tenure, if it is there.
+/// The read position of a tenure, or 0 if there is no such tenure.
 fn reach(book: &Book, no: TenureNo) -> u64
     ensures { result ≡ reach_of (tenure_at book.now.tenures no) }
 {
@@ -74,22 +78,23 @@ fn reach(book: &Book, no: TenureNo) -> u64
     }
 }
 
-/// Whether both lists have the same numbers.
+/// Whether both lists contain the same sequence numbers.
 fn same_numbers(a: &[Seq], b: &[Seq]) -> bool
     ensures { result ≡ same_list a.now b.now }
 {
     a == b
 }
 
-/// Whether both ended the shard, or neither.
+/// Whether both reads reached the shard's end, or neither did.
 fn same_end(a: bool, b: bool) -> bool
     ensures { result ≡ same_flag a b }
 {
     a == b
 }
 
-/// A read is good, and is added, where it has the numbers of the batch at the tenure's reach.
-fn read(
+/// Judges an entry about a read, and adds it if it is good. The entry must have the sequence numbers of the batch at
+/// the tenure's read position, and must state correctly whether the shard ends after them.
+fn on_read(
     alloc: Global,
     shards: &ToldStreams,
     table: &Table,
@@ -110,7 +115,7 @@ fn read(
         Ok(tenure) => tenure,
         Err(refusal) => return Ok(Err(Rule::By(refusal))),
     };
-    // borrowed, so that it can be looked at more than once
+    // Borrowed, since it is used more than once.
     let key = &tenure.key;
     let Some(stream) = live(&shards.list, key.stream) else {
         unreachable!()
@@ -126,7 +131,7 @@ fn read(
     Ok(Ok(()))
 }
 
-/// Whether both are one origin.
+/// Whether both origins are the same.
 fn same_start(a: Origin, b: Origin) -> bool
     ensures { result ≡ same_origin a b }
 {
@@ -140,8 +145,8 @@ fn same_start(a: Origin, b: Origin) -> bool
     }
 }
 
-/// Whether this origin is the one that counts for a shard of the stream: where the row of a parent reaches the
-/// parent's end, only TRIM_HORIZON is.
+/// Whether a new row of the shard gets exactly the origin `from`. If the row of a parent shard has reached that
+/// parent's end, the new row's origin must be TRIM_HORIZON.
 fn counts(
     shards: &ToldStreams,
     table: &Table,
@@ -151,13 +156,14 @@ fn counts(
 ) -> bool
     ensures { (log : Journal) → Shows shards.now log → result ≡ same_origin (counting_from log table.now stream shard.now from) from }
 {
-    // borrowed, so that it can be handed on more than once
+    // Borrowed, since it is used more than once.
     let from = &from;
     same_start(counting(shards, table, stream, shard, *from), *from)
 }
 
-/// A making of a row is good, and is added, where it has the origin that counts.
-fn made(
+/// Judges an entry about the creation of a row, and adds it if it is good. The entry must have the origin that the row
+/// gets.
+fn on_make(
     shards: &ToldStreams,
     table: &mut Table,
     book: &Book,
@@ -185,8 +191,8 @@ fn made(
     Ok(by_answer(&answer))
 }
 
-/// A renewal of a row.
-fn renewed(
+/// Judges an entry about the renewal of a row, and adds it if it is good.
+fn on_renew(
     shards: &ToldStreams,
     table: &mut Table,
     book: &Book,
@@ -200,8 +206,8 @@ fn renewed(
     by_answer(&renew(shards, table, book, by, tenure, counter - 1))
 }
 
-/// A freeing of a row.
-fn freed(
+/// Judges an entry about the freeing of a row, and adds it if it is good.
+fn on_free(
     shards: &ToldStreams,
     table: &mut Table,
     book: &Book,
@@ -215,8 +221,8 @@ fn freed(
     by_answer(&free(shards, table, book, by, tenure, counter - 1))
 }
 
-/// An opening of a tenure.
-fn opened(
+/// Judges an entry about the opening of a tenure's shard, and adds it if it is good.
+fn on_open(
     shards: &ToldStreams,
     table: &Table,
     book: &mut Book,
@@ -228,8 +234,8 @@ fn opened(
     by_answer(&open(shards, table, book, by, tenure))
 }
 
-/// A delivery of a tenure.
-fn given(
+/// Judges an entry about a delivery, and adds it if it is good.
+fn on_give(
     shards: &ToldStreams,
     table: &Table,
     book: &mut Book,
@@ -242,8 +248,8 @@ fn given(
     by_answer(&give(shards, book, by, tenure))
 }
 
-/// A marking of a row.
-fn marked(
+/// Judges an entry about setting a row's checkpoint, and adds it if it is good.
+fn on_mark(
     shards: &ToldStreams,
     table: &mut Table,
     book: &Book,
@@ -258,8 +264,8 @@ fn marked(
     by_answer(&mark(shards, table, book, by, tenure, counter - 1, to))
 }
 
-/// A removal of a row.
-fn removed(
+/// Judges an entry about the deletion of a row, and adds it if it is good.
+fn on_cut(
     shards: &ToldStreams,
     table: &mut Table,
     book: &Book,
@@ -273,8 +279,8 @@ fn removed(
     by_answer(&cut(shards, table, key, counter))
 }
 
-/// Judges an entry of a lease at the shards' clock, and adds it where it is good. Else, and after `Memory`, the
-/// rows and the tenures are as before.
+/// Judges an entry about a lease at the clock of `shards`, and adds it if it is good. If it is bad, or memory runs out,
+/// the rows and the tenures are as before.
 pub fn entry(
     alloc: Global,
     shards: &ToldStreams,
@@ -290,31 +296,31 @@ pub fn entry(
     ensures kept { OnErr result (Keeps shards.now table.old book.old.tenures table.new book.new.tenures) }
 {
     match what {
-        Entry::LeaseMade { key, from } => made(shards, table, book, by, key, from),
+        Entry::LeaseMade { key, from } => on_make(shards, table, book, by, key, from),
         Entry::Taken {
             key,
             tenure,
             counter,
             owner,
-        } => taken(shards, table, book, by, key, *tenure, *counter, *owner),
+        } => on_take(shards, table, book, by, key, *tenure, *counter, *owner),
         Entry::Renewed { tenure, counter } => {
-            Ok(renewed(shards, table, book, by, *tenure, *counter))
+            Ok(on_renew(shards, table, book, by, *tenure, *counter))
         }
-        Entry::Freed { tenure, counter } => Ok(freed(shards, table, book, by, *tenure, *counter)),
-        Entry::Opened { tenure } => Ok(opened(shards, table, book, by, *tenure)),
+        Entry::Freed { tenure, counter } => Ok(on_free(shards, table, book, by, *tenure, *counter)),
+        Entry::Opened { tenure } => Ok(on_open(shards, table, book, by, *tenure)),
         Entry::Read {
             tenure: no,
             limit,
             end,
             numbers,
-        } => read(alloc, shards, table, book, by, *no, *limit, *end, numbers),
-        Entry::Given { tenure } => Ok(given(shards, table, book, by, *tenure)),
+        } => on_read(alloc, shards, table, book, by, *no, *limit, *end, numbers),
+        Entry::Given { tenure } => Ok(on_give(shards, table, book, by, *tenure)),
         Entry::Marked {
             tenure,
             counter,
             to,
-        } => Ok(marked(shards, table, book, by, *tenure, *counter, *to)),
-        Entry::LeaseCut { key, counter } => Ok(removed(shards, table, book, by, key, *counter)),
+        } => Ok(on_mark(shards, table, book, by, *tenure, *counter, *to)),
+        Entry::LeaseCut { key, counter } => Ok(on_cut(shards, table, book, by, key, *counter)),
         _ => unreachable!(),
     }
 }

@@ -1,4 +1,4 @@
-//! Judges the entries of a journal, one after another, by plain lists of streams, rows and tenures.
+//! Judges the entries of a journal, one after another, with plain lists of streams, rows and tenures.
 #![tactic(auto)]
 
 mod judge;

@@ -1,5 +1,5 @@
-//! The streams as a judge of a journal knows them: plain lists of streams and of records. The entries of streams are
-//! judged by these, and added.
+//! The streams as the judge of a journal models them: plain lists of streams and of records. Entries about streams are
+//! checked against these lists, and good ones are added to them.
 #![tactic(auto)]
 
 mod records;

@@ -1,4 +1,4 @@
-//! The records of a stream, as a judge keeps them.
+//! The records of a stream in the judge's model: a plain list (decision 66).
 ghost use Rattle.std.specs.Prelude.{ℕ, ◌≡◌, ◌==◌, ◌&&◌, IfOk};
 ghost use Rattle.std.specs.List.Sorted.{IsNonDecreasingBy};
 ghost use Rattle.kds_defs.specs.Rates.{is_same_second, is_throttled, is_too_much};
@@ -11,7 +11,8 @@ use kds_base::{Items, Memory, Moment, Seq, ShardNo};
 use kds_defs::limits::{BATCH_BYTES, SECOND, SECOND_BYTES, SECOND_RECORDS};
 use std::alloc::Global;
 
-/// A record without its key and payload: its shard, its number, when it arrived, and the bytes of its payload and key.
+/// A record without its key and payload: its shard, its sequence number, its arrival, and the number of bytes of its
+/// payload and key together.
 #[derive(Clone, Copy, Debug, PartialEq, Eq)]
 pub struct Sized {
     pub shard: ShardNo,
@@ -20,14 +21,15 @@ pub struct Sized {
     pub bytes: u64,
 }
 
-/// Whether a record is one of the shard, isn't trimmed, and lies at or above the position.
+/// Whether a record belongs to `shard`, arrived at or after the moment `floor`, so that it isn't trimmed, and is at or
+/// above `position`.
 fn is_left(item: &Sized, shard: ShardNo, floor: u64, position: u64) -> bool
     ensures { result ≡ (item.now.shard == shard && is_left floor position (logged item.now)) }
 {
     item.shard == shard && item.arrival.ms() >= floor && item.seq.0 >= position
 }
 
-/// The records from the first whose number is at or above the position on. Their numbers don't fall.
+/// The records from the first one at or above `position` on. Precondition: the sequence numbers don't decrease.
 pub fn from_position(records: &[Sized], position: u64) -> &[Sized]
     requires { IsNonDecreasingBy (λ r. r.seq) records.now }
     ensures { (shard floor : ℕ) → left_among floor position (records_in result.now shard) ≡ left_among floor position (records_in records.now shard) }
@@ -36,7 +38,7 @@ pub fn from_position(records: &[Sized], position: u64) -> &[Sized]
     &records[start..]
 }
 
-/// The numbers of a batch of a shard at a position (Kinesis API Reference, GetRecords).
+/// The sequence numbers of the batch that a read of the shard at `position` gets (Kinesis API Reference, GetRecords).
 pub fn batch(
     alloc: Global,
     records: &[Sized],
@@ -64,7 +66,7 @@ pub fn batch(
     Ok(numbers)
 }
 
-/// Whether no record of a shard is left at or above a position.
+/// Whether the shard has no untrimmed record at or above `position`.
 pub fn none_left(records: &[Sized], shard: ShardNo, floor: u64, position: u64) -> bool
     ensures { result ≡ are_none (left_among floor position (records_in records.now shard)) }
 {
@@ -76,8 +78,8 @@ pub fn none_left(records: &[Sized], shard: ShardNo, floor: u64, position: u64) -
     true
 }
 
-/// The number of the first record of a shard, of those that aren't trimmed, that arrived at or after a moment; and
-/// another number where there is none (Kinesis API Reference, GetShardIterator, AT_TIMESTAMP).
+/// The sequence number of the shard's first untrimmed record that arrived at or after `moment`, or `otherwise` if there
+/// is no such record (Kinesis API Reference, GetShardIterator, AT_TIMESTAMP).
 pub fn first_since(
     records: &[Sized],
     shard: ShardNo,
@@ -95,22 +97,23 @@ pub fn first_since(
     otherwise
 }
 
-/// Whether both moments lie in one second.
+/// Whether both moments are in the same second.
 fn is_same_second(one: Moment, other: Moment) -> bool
     ensures { result ≡ is_same_second one other }
 {
     one.ms() / SECOND == other.ms() / SECOND
 }
 
-/// Whether so many bytes more are too much for a second in which so many records and bytes were taken.
+/// Whether a record of `bytes` bytes exceeds the limits of a second in which the shard already took `records` records
+/// with `held` bytes together.
 fn is_too_much(records: u64, held: u64, bytes: u64) -> bool
     ensures { result ≡ is_too_much records held bytes }
 {
     records >= SECOND_RECORDS || (records > 0 && held.saturating_add(bytes) > SECOND_BYTES)
 }
 
-/// Whether a shard takes no record of so many payload and key bytes at a clock (Kinesis API Reference,
-/// ProvisionedThroughputExceededException).
+/// Whether the limits forbid the shard to take, at this clock, a record whose payload and key have `bytes` bytes
+/// together (Kinesis API Reference, ProvisionedThroughputExceededException).
 pub fn is_throttled(records: &[Sized], shard: ShardNo, clock: Moment, bytes: u64) -> bool
     ensures { result ≡ is_throttled (puts_in records.now shard) clock bytes }
 {

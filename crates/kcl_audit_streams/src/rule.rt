@@ -1,15 +1,16 @@
+//! The rules that a bad entry of a journal can break.
 use kds_defs::Refusal;
 
 /// Why an entry of a journal is bad.
 #[derive(Clone, Copy, Debug, PartialEq, Eq)]
 pub enum Rule {
-    /// The line isn't journal text, or the text ends without its last line, or a line follows that one. No entry that
-    /// was read breaks it.
+    /// The line isn't a line of a journal, the text ends without the last line, or a line follows the last line. An
+    /// entry that could be read never breaks this rule.
     Form,
-    /// Its clock is below that of the entry before it.
+    /// The entry's clock is below the previous entry's clock.
     Clock,
-    /// The command that it tells gives another entry.
+    /// The command for which the entry stands gives another entry.
     Entry,
-    /// The command that it tells is refused.
+    /// The command for which the entry stands is refused.
     By(Refusal),
 }

@@ -1,4 +1,4 @@
-//! A stream, as a judge keeps it.
+//! A stream in the judge's model.
 ghost use Rattle.std.specs.Prelude.{Bool, Ok, ◌≡◌, ◌≢◌, ◌+◌, ◌-◌, ◌*◌, ◌<◌, ◌≤◌, ◌^◌, if◌then◌else◌, slice_get, None, Some, IfOk, OnOk, OnErr};
 ghost use Rattle.std.specs.Option.{option_map};
 ghost use Rattle.std.specs.List.{AllByRecursion};
@@ -22,18 +22,18 @@ use kds_tree::ShardTree;
 use std::alloc::Global;
 use std::marker::Model;
 
-/// What a journal has told of a stream that was made: also of one that is gone.
+/// A stream that was made, as a journal describes it. It is kept even after the stream was deleted.
 #[derive(Drop)]
 pub struct ToldStream {
     pub name: Name,
     pub live: bool,
-    /// Whether its limits on throughput are on.
+    /// Whether the stream's throughput limits are on.
     pub enforced: bool,
-    /// The retention.
+    /// The retention period in hours.
     pub hours: u32,
-    /// What arrived below it was trimmed at a change of the retention.
+    /// Changes of the retention period have trimmed the records that arrived before this moment.
     pub floor: u64,
-    /// The next sequence number.
+    /// The next sequence number of the stream.
     pub next: u64,
     pub tree: ShardTree,
     pub records: Vec<Sized>,
@@ -61,7 +61,8 @@ impl Model for ToldStream {
     } };
 }
 
-/// One above clock less retention, and 0 where that is negative.
+/// The clock less the retention period, plus 1; 0 if that is negative. Records that arrived before this moment are
+/// trimmed.
 fn floor_at(clock: Moment, hours: u32) -> u64
     ensures value { result ≡ floor_at clock (hours * HOUR) }
     ensures least { result ≤ 2 ^ 62 }
@@ -70,14 +71,14 @@ fn floor_at(clock: Moment, hours: u32) -> u64
     next.saturating_sub(hours as u64 * HOUR)
 }
 
-/// Whether an entry is the one that its command gives.
+/// The verdict on an entry. `same` is true if the entry is the one that its command gives.
 pub fn agrees(same: bool) -> Result<(), Rule>
     ensures { result ≡ agrees same }
 {
     if same { Ok(()) } else { Err(Rule::Entry) }
 }
 
-/// An entry whose command is refused.
+/// The verdict on an entry whose command is refused.
 pub fn refused(refusal: Refusal) -> Result<(), Rule>
     ensures { result ≡ refused refusal }
 {
@@ -85,7 +86,7 @@ pub fn refused(refusal: Refusal) -> Result<(), Rule>
 }
 
 impl ToldStream {
-    /// A stream as it is made.
+    /// A new stream with this name and number of shards.
     pub fn new(alloc: Global, name: Name, shards: u32) -> Result<ToldStream, Memory>
         requires least { 1 ≤ shards }
         requires most { shards ≤ MOST_SHARDS }
@@ -103,28 +104,28 @@ impl ToldStream {
         })
     }
 
-    /// Whether it wasn't deleted.
+    /// Whether the stream hasn't been deleted.
     pub fn is_live(&self) -> bool
         ensures { result ≡ self.now.live }
     {
         self.live
     }
 
-    /// After its limits were turned on or off.
+    /// Notes that the throughput limits were turned on or off.
     pub fn add_limits(&mut self, on: bool)
         ensures { self.new ≡ with_limits on self.old }
     {
         self.enforced = on;
     }
 
-    /// After its deletion.
+    /// Notes that the stream was deleted.
     pub fn add_gone(&mut self)
         ensures { self.new ≡ with_gone self.old }
     {
         self.live = false;
     }
 
-    /// What arrived below it is trimmed.
+    /// The trim floor at this clock: records that arrived before this moment are trimmed.
     pub fn floor(&self, clock: Moment) -> u64
         ensures value { result ≡ floor_in self.now clock }
         ensures most { result ≤ 2 ^ 62 }
@@ -132,8 +133,8 @@ impl ToldStream {
         self.floor.max(floor_at(clock, self.hours))
     }
 
-    /// The moment at or below which everything is trimmed, if it isn't before all moments.
-    fn cut(&self, clock: Moment) -> Option<Moment>
+    /// The last moment whose records are trimmed. `None` if no record can be trimmed yet.
+    fn trimmed_up_to(&self, clock: Moment) -> Option<Moment>
         ensures { floor_of result ≡ floor_in self.now clock }
     {
         let above = self.floor(clock);
@@ -144,14 +145,16 @@ impl ToldStream {
         }
     }
 
-    /// Whether the shard is listed: it was made, it isn't expired, and the stream isn't gone.
+    /// Whether the shard is listed: the shard was made, it hasn't expired, and the stream hasn't been deleted.
     pub fn is_listed(&self, clock: Moment, shard: ShardNo) -> bool
         ensures { result ≡ is_listed_in (Some self.now) clock shard }
     {
-        self.live && self.tree.shard(shard).is_some() && !self.tree.expired(shard, self.cut(clock))
+        self.live
+            && self.tree.shard(shard).is_some()
+            && !self.tree.expired(shard, self.trimmed_up_to(clock))
     }
 
-    /// The shard of a number, unless the stream is gone.
+    /// The shard with this number. `None` if there is no such shard, or if the stream was deleted.
     pub fn shard(&self, shard: ShardNo) -> Option<&Shard>
         ensures { option_map (λ x. x.now) result ≡ (if self.now.live then option_map shown (slice_get self.now.tree shard) else None) }
     {
@@ -162,8 +165,8 @@ impl ToldStream {
         }
     }
 
-    /// Whether a put at a clock is good, of a record with this hash and so many payload and key bytes, to this live
-    /// stream.
+    /// Judges a put into this live stream at a clock. The record's hash key is `hash`, and its payload and key together
+    /// have `bytes` bytes.
     pub fn judge_put(
         &self,
         clock: Moment,
@@ -184,14 +187,14 @@ impl ToldStream {
         agrees(home == shard && self.next == seq.0)
     }
 
-    /// Whether the stream's numbers are used up, or so many more shards can't be numbered.
+    /// Whether the stream has no sequence number left, or can't number `more` further shards.
     fn is_spent(&self, more: u64) -> bool
         ensures { result ≡ is_spent self.now more }
     {
         self.tree.len() > u64::MAX - more || self.next == u64::MAX
     }
 
-    /// Whether a split of a shard of this live stream is good. `full` tells that no more shards may be open.
+    /// Judges a split of a shard of this live stream. `full` is true if no further shard may be opened.
     pub fn judge_split(
         &self,
         clock: Moment,
@@ -220,7 +223,7 @@ impl ToldStream {
         agrees(seq.0 == self.next && low.0 == first && high.0 == first + 1)
     }
 
-    /// Whether a merge of two shards of this live stream is good.
+    /// Judges a merge of two shards of this live stream.
     pub fn judge_merge(
         &self,
         clock: Moment,
@@ -243,7 +246,7 @@ impl ToldStream {
         agrees(seq.0 == self.next && child.0 == self.tree.len())
     }
 
-    /// The numbers of a batch at a position, and whether the shard ends after it.
+    /// The sequence numbers of the batch that a read at `position` gets, and whether the shard ends after the batch.
     pub fn read(
         &self,
         alloc: Global,
@@ -268,7 +271,7 @@ impl ToldStream {
         Ok((numbers, end))
     }
 
-    /// The position where reading of a shard begins from an origin.
+    /// The position at which reading of a shard begins, given an origin.
     pub fn position(&self, clock: Moment, shard: ShardNo, from: Origin) -> u64
         ensures { result ≡ position_in self.now clock shard from }
     {
@@ -281,7 +284,7 @@ impl ToldStream {
         }
     }
 
-    /// After a put.
+    /// Adds a record that was put.
     pub fn add_put(
         &mut self,
         clock: Moment,
@@ -304,7 +307,7 @@ impl ToldStream {
         Ok(())
     }
 
-    /// After a split.
+    /// Notes that a shard was split.
     pub fn add_split(
         &mut self,
         clock: Moment,
@@ -327,7 +330,7 @@ impl ToldStream {
         }
     }
 
-    /// After a merge.
+    /// Notes that two shards were merged.
     pub fn add_merge(
         &mut self,
         clock: Moment,
@@ -350,7 +353,8 @@ impl ToldStream {
         }
     }
 
-    /// After a change of the retention: both retentions trim.
+    /// Notes a change of the retention period. From now on, everything is trimmed that the old or the new period trims
+    /// at this clock.
     pub fn add_kept(&mut self, clock: Moment, hours: u32)
         ensures { self.new ≡ with_hours clock hours self.old }
     {
@@ -359,7 +363,7 @@ impl ToldStream {
         self.floor = before.max(floor_at(clock, hours));
     }
 
-    /// After a good entry of this live stream, other than its making. After `Memory` it is as before.
+    /// Adds a good entry about this live stream, other than its creation. If memory runs out, the stream is as before.
     pub fn add(&mut self, clock: Moment, what: &Entry) -> Result<(), Memory>
         requires fit { IsFit what.now }
         requires good { (full : Bool) × (entry_verdict full clock what.now self.old ≡ Ok tt) }

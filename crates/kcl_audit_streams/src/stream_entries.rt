@@ -1,4 +1,4 @@
-//! The entries of streams, judged and added.
+//! Judges the entries about streams, and adds good entries to the model.
 ghost use Rattle.std.specs.Prelude.{ℕ, Bool, ◌≡◌, ◌≤◌, ◌-◌, ◌∷◌, ◌++◌, [], None, Some, Ok, IfErr, IfOk, OnErr, OnOk};
 ghost use Rattle.kds_defs.specs.declared.limits.TheConstants.{MOST_SHARDS};
 ghost use Rattle.kds_defs.specs.declared.reply.Refusal.TheVariants as refusal;
@@ -14,7 +14,7 @@ use kds_base::{Memory, Moment, Name, Seq, ShardNo, StreamNo};
 use kds_defs::{Entry, Refusal};
 use std::alloc::Global;
 
-/// Whether the making of a stream is good.
+/// Judges the creation of a stream.
 fn judge_made(streams: &[ToldStream], no: StreamNo, name: &Name, shards: u32) -> Result<(), Rule>
     requires { shards ≤ MOST_SHARDS }
     ensures { result ≡ made_verdict streams.now no name.now shards }
@@ -25,7 +25,7 @@ fn judge_made(streams: &[ToldStream], no: StreamNo, name: &Name, shards: u32) ->
     }
 }
 
-/// The live stream of a number, or the rule that an entry of it breaks.
+/// The live stream with this number, or the rule that an entry about it breaks if there is no such stream.
 fn in_stream(streams: &[ToldStream], no: StreamNo) -> Result<&ToldStream, Rule>
     ensures some { IfOk result (λ x. live_at streams.now no ≡ Some x.now) }
     ensures none { IfErr result (λ r. (r ≡ rule.By refusal.NoStream) × (live_at streams.now no ≡ None)) }
@@ -36,7 +36,7 @@ fn in_stream(streams: &[ToldStream], no: StreamNo) -> Result<&ToldStream, Rule>
     }
 }
 
-/// Whether a split of a shard of a live stream is good at a clock.
+/// Judges a split of a shard of the live stream with this number at a clock.
 fn judge_split(
     streams: &[ToldStream],
     clock: Moment,
@@ -53,7 +53,7 @@ fn judge_split(
     stream.judge_split(clock, shard, at, lacks_room(streams, 1), seq, low, high)
 }
 
-/// Whether an entry of a stream is good at a clock.
+/// Judges an entry about a stream at a clock.
 pub fn judge(streams: &[ToldStream], clock: Moment, what: &Entry) -> Result<(), Rule>
     requires { IsFit what.now }
     ensures { result ≡ stream_verdict streams.now clock what.now }
@@ -97,7 +97,7 @@ pub fn judge(streams: &[ToldStream], clock: Moment, what: &Entry) -> Result<(), 
     }
 }
 
-/// Adds a stream as it is made.
+/// Adds a new stream, which gets the next number.
 fn add_made(
     alloc: Global,
     streams: &mut Vec<ToldStream>,
@@ -114,7 +114,7 @@ fn add_made(
     Ok(())
 }
 
-/// After a good entry of the stream of a number, other than its making.
+/// Adds a good entry, other than a creation, to the stream with this number.
 fn add_later(
     streams: &mut Vec<ToldStream>,
     clock: Moment,
@@ -129,7 +129,7 @@ fn add_later(
     streams[(no.0 - 1) as usize].add(clock, what)
 }
 
-/// Adds a good entry of a stream at a clock. After `Memory` the streams are as before.
+/// Adds a good entry about a stream at a clock. If memory runs out, the streams are as before.
 pub fn add(
     alloc: Global,
     streams: &mut Vec<ToldStream>,

@@ -1,4 +1,4 @@
-//! The streams, as a judge keeps them.
+//! All streams in the judge's model.
 ghost use Rattle.std.specs.Prelude.{◌≡◌, ◌≤◌, if◌then◌else◌, None, Some};
 ghost use Rattle.std.specs.Option.{option_map};
 ghost use Rattle.kds_defs.specs.declared.limits.TheConstants.{MOST_SHARDS, OPEN_SHARDS};
@@ -12,7 +12,7 @@ use kds_defs::limits::{LIVE_STREAMS, OPEN_SHARDS};
 use kds_defs::{Origin, Refusal, Shard};
 use std::marker::Model;
 
-/// Every stream that was made, in the order of their numbers, which begin with 1, at a clock.
+/// Every stream that was made, in the order of the streams' numbers, which begin with 1; and the clock.
 #[derive(Drop)]
 pub struct ToldStreams {
     pub clock: Moment,
@@ -27,7 +27,7 @@ impl Model for ToldStreams {
     ghost view = { λ s. record { clock = s.clock; streams = s.list.items } };
 }
 
-/// The stream of a number, if it is live.
+/// The live stream with this number, if there is one.
 pub fn live(streams: &[ToldStream], no: StreamNo) -> Option<&ToldStream>
     ensures { option_map (λ x. x.now) result ≡ live_at streams.now no }
 {
@@ -39,7 +39,7 @@ pub fn live(streams: &[ToldStream], no: StreamNo) -> Option<&ToldStream>
     }
 }
 
-/// Whether a live stream has the name.
+/// Whether a live stream is called `name`.
 pub fn is_named(streams: &[ToldStream], name: &Name) -> bool
     ensures { result ≡ is_named streams.now name.now }
 {
@@ -51,7 +51,7 @@ pub fn is_named(streams: &[ToldStream], name: &Name) -> bool
     false
 }
 
-/// How many streams are live.
+/// The number of live streams.
 pub fn live_count(streams: &[ToldStream]) -> u64
     ensures { result ≡ live_count streams.now }
 {
@@ -64,7 +64,7 @@ pub fn live_count(streams: &[ToldStream]) -> u64
     count
 }
 
-/// Whether fewer shards than this are left of those that may be open.
+/// Whether opening `more` further shards would exceed the maximum number of open shards.
 pub fn lacks_room(streams: &[ToldStream], more: u64) -> bool
     requires { more ≤ OPEN_SHARDS }
     ensures { result ≡ lacks_room streams.now more }
@@ -81,7 +81,7 @@ pub fn lacks_room(streams: &[ToldStream], more: u64) -> bool
     open > OPEN_SHARDS
 }
 
-/// Why a stream of so many shards can't be made, if it can't.
+/// Why a stream with this name and number of shards can't be made. `None` if it can be made.
 pub fn made_refusal(streams: &[ToldStream], name: &Name, shards: u32) -> Option<Refusal>
     requires { shards ≤ MOST_SHARDS }
     ensures { result ≡ made_refusal streams.now name.now shards }
@@ -98,7 +98,7 @@ pub fn made_refusal(streams: &[ToldStream], name: &Name, shards: u32) -> Option<
     None
 }
 
-/// Whether the shard of a key is listed at a clock.
+/// Whether the shard with this key is listed at a clock.
 fn is_listed(streams: &[ToldStream], clock: Moment, key: ShardRef) -> bool
     ensures { result ≡ is_listed_in (live_at streams.now key.stream) clock key.shard }
 {

@@ -1,4 +1,4 @@
-//! What is true of every text of a journal: functions without parameters, whose contracts are the laws.
+//! Laws of every text of a journal. Each law is the contract of a function without parameters.
 ghost use Rattle.std.specs.Prelude.{◌≡◌, ◌<◌, ◌^◌, List, ℕ, Some, None};
 ghost use Rattle.kcl_script_fields.specs.Fields.{Lacks};
 ghost use Rattle.kcl_journal.specs.declared.line.EntryLine.{EntryLine};
@@ -6,8 +6,9 @@ ghost use Rattle.kcl_journal.specs.declared.line.TheConstants.{FIRST_RECORD_BYTE
 ghost use Rattle.kcl_journal.specs.Entries.{end_of, end_spelling, entry_of, entry_spelling, heading};
 ghost use Rattle.kcl_journal.specs.Ranges.{IsEntryLine};
 
-/// In each version a line of a journal has one text, and no other text is that line; so has its last line. No text is
-/// two of the first line, an entry and the last line, and none has a line feed in it.
+/// In each version, every line of a journal has exactly one text, and no other text is read as that line. The same
+/// holds for the last line. No text is both an entry and the last line, and the first line is neither. No line contains
+/// a line feed.
 pub fn one_entry()
     ensures reads { (v : ℕ) (text : List ℕ) (line : EntryLine) → entry_of v text ≡ Some line → IsEntryLine v line × (text ≡ entry_spelling v line) }
     ensures again { (v : ℕ) (line : EntryLine) → IsEntryLine v line → entry_of v (entry_spelling v line) ≡ Some line }
@@ -19,7 +20,7 @@ pub fn one_entry()
     ensures end_line { (clock : ℕ) → clock < 2 ^ 62 → Lacks 10 (end_spelling clock) }
 {}
 
-/// The limits of a journal's text, in numbers: the definitions name them by their constants.
+/// States the limits of a journal's text as numbers, since the definitions refer to the code's constants by name.
 pub fn journal_limits()
     ensures first { FIRST_VERSION ≡ 1 }
     ensures second { VERSION ≡ 2 }

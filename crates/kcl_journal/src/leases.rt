@@ -1,16 +1,16 @@
-//! Entries of leases, each read from what follows its word.
+//! Reads the entries about leases. Each function gets the text after the entry's word.
 ghost use Rattle.std.specs.Prelude.{◌≡◌, IfOk};
 ghost use Rattle.kcl_script_fields.specs.Fields.{two, number};
 ghost use Rattle.kcl_journal.specs.Entries.{counter_of, cut_of, freed_of, given_of, lease_by, lease_of, marked_of, opened_of, read_of, renewed_of, taken_of};
 
-use crate::numbers::{batch, counter, within32};
-use kcl_script_fields::{field, key, row, target, worker};
+use crate::numbers::{batch, counter_of, within32};
+use kcl_script_fields::{field, key_of, row, target, worker};
 use kds_base::{Memory, TenureNo, read_u64};
 use kds_defs::Entry;
 use kds_defs::limits::MOST;
 use std::alloc::Global;
 
-fn made(text: &[u8]) -> Option<Entry>
+fn parse_lease(text: &[u8]) -> Option<Entry>
     ensures { result ≡ lease_of text.now }
 {
     let (key, from) = row(text)?;
@@ -18,15 +18,15 @@ fn made(text: &[u8]) -> Option<Entry>
 }
 
 #[tactic(auto, unfolding(kcl_script_fields::specs::Fields::two))]
-fn taken(text: &[u8]) -> Option<Entry>
+fn parse_taken(text: &[u8]) -> Option<Entry>
     ensures { result ≡ taken_of text.now }
 {
     let (first, rest) = field(text)?;
-    let key = key(first)?;
+    let key = key_of(first)?;
     let (second, rest) = field(rest)?;
     let tenure = read_u64(second)?;
     let (third, fourth) = field(rest)?;
-    let counter = counter(third)?;
+    let counter = counter_of(third)?;
     let owner = worker(fourth)?;
     Some(Entry::Taken {
         key,
@@ -36,32 +36,32 @@ fn taken(text: &[u8]) -> Option<Entry>
     })
 }
 
-/// A tenure, and a row's counter after it was written.
+/// Reads a tenure's number, and the counter that its row has after the change.
 #[tactic(auto, unfolding(kcl_script_fields::specs::Fields::two))]
-fn written(text: &[u8]) -> Option<(TenureNo, u64)>
+fn parse_written(text: &[u8]) -> Option<(TenureNo, u64)>
     ensures { result ≡ two 32 number counter_of text.now }
 {
     let (first, second) = field(text)?;
     let tenure = read_u64(first)?;
-    let counter = counter(second)?;
+    let counter = counter_of(second)?;
     Some((TenureNo(tenure), counter))
 }
 
-fn renewed(text: &[u8]) -> Option<Entry>
+fn parse_renewed(text: &[u8]) -> Option<Entry>
     ensures { result ≡ renewed_of text.now }
 {
-    let (tenure, counter) = written(text)?;
+    let (tenure, counter) = parse_written(text)?;
     Some(Entry::Renewed { tenure, counter })
 }
 
-fn freed(text: &[u8]) -> Option<Entry>
+fn parse_freed(text: &[u8]) -> Option<Entry>
     ensures { result ≡ freed_of text.now }
 {
-    let (tenure, counter) = written(text)?;
+    let (tenure, counter) = parse_written(text)?;
     Some(Entry::Freed { tenure, counter })
 }
 
-fn opened(text: &[u8]) -> Option<Entry>
+fn parse_opened(text: &[u8]) -> Option<Entry>
     ensures { result ≡ opened_of text.now }
 {
     let tenure = read_u64(text)?;
@@ -71,7 +71,7 @@ fn opened(text: &[u8]) -> Option<Entry>
 }
 
 #[tactic(auto, unfolding(kcl_script_fields::specs::Fields::two))]
-fn read(alloc: Global, text: &[u8]) -> Result<Option<Entry>, Memory>
+fn parse_read(alloc: Global, text: &[u8]) -> Result<Option<Entry>, Memory>
     ensures { IfOk result (λ o. o ≡ read_of text.now) }
 {
     let Some((first, rest)) = field(text) else {
@@ -97,7 +97,7 @@ fn read(alloc: Global, text: &[u8]) -> Result<Option<Entry>, Memory>
     }))
 }
 
-fn given(text: &[u8]) -> Option<Entry>
+fn parse_given(text: &[u8]) -> Option<Entry>
     ensures { result ≡ given_of text.now }
 {
     let tenure = read_u64(text)?;
@@ -107,13 +107,13 @@ fn given(text: &[u8]) -> Option<Entry>
 }
 
 #[tactic(auto, unfolding(kcl_script_fields::specs::Fields::two))]
-fn marked(text: &[u8]) -> Option<Entry>
+fn parse_marked(text: &[u8]) -> Option<Entry>
     ensures { result ≡ marked_of text.now }
 {
     let (first, rest) = field(text)?;
     let tenure = read_u64(first)?;
     let (second, third) = field(rest)?;
-    let counter = counter(second)?;
+    let counter = counter_of(second)?;
     let to = target(third)?;
     Some(Entry::Marked {
         tenure: TenureNo(tenure),
@@ -123,37 +123,37 @@ fn marked(text: &[u8]) -> Option<Entry>
 }
 
 #[tactic(auto, unfolding(kcl_script_fields::specs::Fields::two))]
-fn cut(text: &[u8]) -> Option<Entry>
+fn parse_cut(text: &[u8]) -> Option<Entry>
     ensures { result ≡ cut_of text.now }
 {
     let (first, second) = field(text)?;
-    let key = key(first)?;
+    let key = key_of(first)?;
     let counter = read_u64(second)?;
     Some(Entry::LeaseCut { key, counter })
 }
 
-/// The entry of a lease, by its word and what follows it.
+/// Reads the entry about a lease that begins with `word`. `text` follows the word and a space.
 pub fn lease_entry(alloc: Global, word: &[u8], text: &[u8]) -> Result<Option<Entry>, Memory>
     ensures { IfOk result (λ o. o ≡ lease_by word.now text.now) }
 {
     if word == b"lease".as_slice() {
-        Ok(made(text))
+        Ok(parse_lease(text))
     } else if word == b"taken".as_slice() {
-        Ok(taken(text))
+        Ok(parse_taken(text))
     } else if word == b"renewed".as_slice() {
-        Ok(renewed(text))
+        Ok(parse_renewed(text))
     } else if word == b"freed".as_slice() {
-        Ok(freed(text))
+        Ok(parse_freed(text))
     } else if word == b"opened".as_slice() {
-        Ok(opened(text))
+        Ok(parse_opened(text))
     } else if word == b"read".as_slice() {
-        read(alloc, text)
+        parse_read(alloc, text)
     } else if word == b"given".as_slice() {
-        Ok(given(text))
+        Ok(parse_given(text))
     } else if word == b"marked".as_slice() {
-        Ok(marked(text))
+        Ok(parse_marked(text))
     } else if word == b"cut".as_slice() {
-        Ok(cut(text))
+        Ok(parse_cut(text))
     } else {
         Ok(None)
     }

@@ -1,4 +1,4 @@
-//! Lines of a journal as text: read in both versions, printed in the second.
+//! The text of a journal's lines: both versions are read, and the second one is printed.
 #![tactic(auto)]
 
 mod laws;

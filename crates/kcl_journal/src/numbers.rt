@@ -1,4 +1,4 @@
-//! Numbers in their ranges, the sizes of a put, and the batch of a read.
+//! Reads numbers within ranges, the sizes of a put, and the batch of a read.
 ghost use Rattle.std.specs.Prelude.{◌≡◌, ◌≤◌, IfOk, option_and_then};
 ghost use Rattle.kcl_script_fields.specs.Fields.{two};
 ghost use Rattle.kcl_journal.specs.Entries.{batch_of, counter_of, ended_of, fitting, numbers_of, sizes_of, switch_of, within, within_of, words};
@@ -19,7 +19,7 @@ fn if_within(n: u64, least: u64, most: u64) -> Option<u64>
     }
 }
 
-/// A number that lies between these, both included.
+/// Reads a number from `least` to `most`, both included.
 fn within64(text: &[u8], least: u64, most: u64) -> Option<u64>
     ensures { result ≡ within_of least most text.now }
 {
@@ -36,15 +36,15 @@ fn if_within32(n: u64, least: u32, most: u32) -> Option<u32>
     }
 }
 
-/// A number of 32 bits that lies between these, both included.
+/// Reads a 32-bit number from `least` to `most`, both included.
 pub fn within32(text: &[u8], least: u32, most: u32) -> Option<u32>
     ensures { result ≡ within_of least most text.now }
 {
     if_within32(read_u64(text)?, least, most)
 }
 
-/// A row's counter after it was written.
-pub fn counter(text: &[u8]) -> Option<u64>
+/// Reads the counter that a row has after a change. It is at least 1.
+pub fn counter_of(text: &[u8]) -> Option<u64>
     ensures { result ≡ counter_of text.now }
 {
     within64(text, 1, u64::MAX)
@@ -62,7 +62,7 @@ fn if_fitting(bytes: u64, key_bytes: u64) -> Option<(u64, u64)>
     }
 }
 
-/// The bytes of a payload and of its key.
+/// Reads the number of bytes of a payload and of its key.
 #[tactic(auto, unfolding(kcl_script_fields::specs::Fields::two))]
 fn both_sizes(text: &[u8]) -> Option<(u64, u64)>
     ensures { result ≡ option_and_then fitting (two 32 (within_of 0 RECORD_BYTES) (within_of 1 KEY_BYTES) text.now) }
@@ -73,7 +73,8 @@ fn both_sizes(text: &[u8]) -> Option<(u64, u64)>
     if_fitting(bytes, key_bytes)
 }
 
-/// The bytes of a payload and of its key, as this version tells them.
+/// Reads the number of bytes of a payload and of its key, as written in this version. In the first version the key has
+/// no bytes.
 pub fn sizes(version: u8, text: &[u8]) -> Option<(u64, u64)>
     ensures { result ≡ sizes_of version text.now }
 {
@@ -85,7 +86,7 @@ pub fn sizes(version: u8, text: &[u8]) -> Option<(u64, u64)>
     }
 }
 
-/// Whether limits are on: `on`, or `off`.
+/// Reads whether limits are on: `on` or `off`.
 pub fn switch(text: &[u8]) -> Option<bool>
     ensures { result ≡ switch_of text.now }
 {
@@ -98,7 +99,7 @@ pub fn switch(text: &[u8]) -> Option<bool>
     }
 }
 
-/// Whether a read ended the shard: `end`, or `more`.
+/// Reads whether a read reached the shard's end: `end` or `more`.
 fn ended(text: &[u8]) -> Option<bool>
     ensures { result ≡ ended_of text.now }
 {
@@ -111,7 +112,7 @@ fn ended(text: &[u8]) -> Option<bool>
     }
 }
 
-/// The numbers that spaces part.
+/// Reads sequence numbers with single spaces between them.
 fn numbers(alloc: Global, text: &[u8]) -> Result<Option<Items<Seq>>, Memory>
     ensures { IfOk result (λ o. o ≡ numbers_of (words text.now)) }
 {
@@ -131,7 +132,7 @@ fn numbers(alloc: Global, text: &[u8]) -> Result<Option<Items<Seq>>, Memory>
     Ok(Some(numbers))
 }
 
-/// Whether a read ended the shard, and the numbers of its batch.
+/// Reads whether a read reached the shard's end, and the sequence numbers of its batch.
 pub fn batch(alloc: Global, text: &[u8]) -> Result<Option<(bool, Items<Seq>)>, Memory>
     ensures { IfOk result (λ o. o ≡ batch_of text.now) }
 {

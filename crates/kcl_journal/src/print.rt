@@ -1,4 +1,5 @@
-//! Lines of a journal as text of the second version, each made in a room of its own and added whole.
+//! Prints a journal's lines in the second version. Each text is built in a buffer of its own, and added when it is
+//! complete.
 ghost use Rattle.std.specs.Prelude.{◌≡◌, ◌∷◌, ◌++◌, decimal, true, OnOk, OnErr};
 ghost use Rattle.kcl_journal.specs.Entries.{end_spelling, ended_text, entry_spelling, entry_text, heading, numbers_text, switch_text};
 ghost use Rattle.kcl_journal.specs.Ranges.{is_lease_entry, is_resharding, is_tenure_entry};
@@ -11,7 +12,7 @@ use kds_base::{Memory, Moment, Octets, Seq, write_u64, write_u128};
 use kds_defs::Entry;
 use std::alloc::Global;
 
-/// Adds a space and the number of a hash key.
+/// Adds a space and a hash key as a number.
 fn hash_field(alloc: Global, hash: u128, to: &mut Octets) -> Result<(), Memory>
     ensures { OnOk result (to.new ≡ to.old ++ 32 ∷ decimal hash) }
 {
@@ -28,7 +29,7 @@ fn three_numbers(alloc: Global, n: u64, m: u64, l: u64, to: &mut Octets) -> Resu
     number_field(alloc, l, to)
 }
 
-/// Adds a space, and whether limits are on.
+/// Adds a space, and `on` or `off`.
 fn switch_field(on: bool, to: &mut Octets) -> Result<(), Memory>
     ensures { OnOk result (to.new ≡ to.old ++ 32 ∷ switch_text on) }
 {
@@ -39,7 +40,7 @@ fn switch_field(on: bool, to: &mut Octets) -> Result<(), Memory>
     }
 }
 
-/// Adds a space, and whether a read ended the shard.
+/// Adds a space, and whether a read reached the shard's end: `end` or `more`.
 fn ended_field(end: bool, to: &mut Octets) -> Result<(), Memory>
     ensures { OnOk result (to.new ≡ to.old ++ 32 ∷ ended_text end) }
 {
@@ -60,7 +61,7 @@ fn number_fields(alloc: Global, numbers: &[Seq], to: &mut Octets) -> Result<(), 
     Ok(())
 }
 
-/// Adds the text of an entry of a tenure.
+/// Adds the text of an entry that names a tenure.
 fn fill_tenure(alloc: Global, what: &Entry, to: &mut Octets) -> Result<(), Memory>
     requires { is_tenure_entry what.now ≡ true }
     ensures { OnOk result (to.new ≡ to.old ++ entry_text 2 what.now) }
@@ -96,7 +97,7 @@ fn fill_tenure(alloc: Global, what: &Entry, to: &mut Octets) -> Result<(), Memor
     }
 }
 
-/// Adds the text of an entry of a lease.
+/// Adds the text of an entry about a lease.
 fn fill_lease(alloc: Global, what: &Entry, to: &mut Octets) -> Result<(), Memory>
     requires { is_lease_entry what.now ≡ true }
     ensures { OnOk result (to.new ≡ to.old ++ entry_text 2 what.now) }
@@ -199,7 +200,7 @@ fn fill_entry(alloc: Global, what: &Entry, to: &mut Octets) -> Result<(), Memory
     }
 }
 
-/// Adds the text of a line. After `Memory` a front of it may have been added.
+/// Adds the text of a line. If memory runs out, a prefix of the text may have been added.
 fn fill_line(alloc: Global, line: &EntryLine, to: &mut Octets) -> Result<(), Memory>
     ensures { OnOk result (to.new ≡ to.old ++ entry_spelling 2 line.now) }
 {
@@ -209,7 +210,7 @@ fn fill_line(alloc: Global, line: &EntryLine, to: &mut Octets) -> Result<(), Mem
     fill_entry(alloc, &line.what, to)
 }
 
-/// Adds the first line of a journal's text, without its line feed. After `Memory` nothing was added.
+/// Adds the heading of a journal's text, without a line feed. If memory runs out, nothing is added.
 pub fn print_heading(to: &mut Octets) -> Result<(), Memory>
     ensures ok { OnOk result (to.new ≡ to.old ++ heading) }
     ensures err { OnErr result (to.new ≡ to.old) }
@@ -217,7 +218,8 @@ pub fn print_heading(to: &mut Octets) -> Result<(), Memory>
     to.extend(HEADING.as_slice())
 }
 
-/// Adds the one text of a line of a journal, without its line feed. After `Memory` nothing was added.
+/// Adds the text of a journal's line, without a line feed. It is the only text that is read as this line. If memory
+/// runs out, nothing is added.
 pub fn print_entry(alloc: Global, line: &EntryLine, to: &mut Octets) -> Result<(), Memory>
     ensures ok { OnOk result (to.new ≡ to.old ++ entry_spelling 2 line.now) }
     ensures err { OnErr result (to.new ≡ to.old) }
@@ -227,7 +229,7 @@ pub fn print_entry(alloc: Global, line: &EntryLine, to: &mut Octets) -> Result<(
     to.extend(text.as_slice())
 }
 
-/// Adds the last line of a journal, without its line feed. After `Memory` nothing was added.
+/// Adds the last line of a journal with its clock, without a line feed. If memory runs out, nothing is added.
 pub fn print_end(alloc: Global, clock: Moment, to: &mut Octets) -> Result<(), Memory>
     ensures ok { OnOk result (to.new ≡ to.old ++ end_spelling clock) }
     ensures err { OnErr result (to.new ≡ to.old) }

@@ -1,41 +1,43 @@
-//! Lines of a journal, read.
+//! Reads lines of a journal.
 ghost use Rattle.std.specs.Prelude.{◌≡◌, IfOk};
 ghost use Rattle.kcl_journal.specs.Entries.{IsVersion, end_of, entry_by, entry_of};
 
 use crate::leases::lease_entry;
 use crate::line::EntryLine;
 use crate::numbers::within32;
-use crate::streams::{enforced, gone, kept, made, merged, put, split};
+use crate::streams::{
+    parse_enforced, parse_gone, parse_kept, parse_made, parse_merged, parse_put, parse_split,
+};
 use kcl_script_fields::{field, moment};
 use kds_base::{Memory, Moment};
 use kds_defs::Entry;
 use std::alloc::Global;
 
-/// The entry of a word and what follows it.
+/// Reads the entry that begins with `word`. `text` follows the word and a space.
 fn entry(alloc: Global, version: u8, word: &[u8], text: &[u8]) -> Result<Option<Entry>, Memory>
     ensures { IfOk result (λ o. o ≡ entry_by version word.now text.now) }
 {
     if word == b"made".as_slice() {
-        made(alloc, text)
+        parse_made(alloc, text)
     } else if word == b"gone".as_slice() {
-        Ok(gone(text))
+        Ok(parse_gone(text))
     } else if word == b"put".as_slice() {
-        Ok(put(version, text))
+        Ok(parse_put(version, text))
     } else if word == b"split".as_slice() {
-        Ok(split(text))
+        Ok(parse_split(text))
     } else if word == b"merged".as_slice() {
-        Ok(merged(text))
+        Ok(parse_merged(text))
     } else if word == b"kept".as_slice() {
-        Ok(kept(text))
+        Ok(parse_kept(text))
     } else if word == b"enforced".as_slice() {
-        Ok(enforced(text))
+        Ok(parse_enforced(text))
     } else {
         lease_entry(alloc, word, text)
     }
 }
 
-/// The line of a journal that a text of this version is, without its line feed, if it is one. In the first version
-/// the key of a put has no bytes. Condition: the version is 1 or 2.
+/// Reads a line of a journal from a text of this version, without a line feed. `None` if the text isn't such a line. In
+/// the first version the key of a put has no bytes. Precondition: the version is 1 or 2.
 #[tactic(auto, unfolding(crate::specs::Entries::entry_of))]
 pub fn read_entry(alloc: Global, text: &[u8], version: u8) -> Result<Option<EntryLine>, Memory>
     requires { IsVersion version }
@@ -62,7 +64,8 @@ pub fn read_entry(alloc: Global, text: &[u8], version: u8) -> Result<Option<Entr
     Ok(Some(EntryLine { clock, by, what }))
 }
 
-/// The clock of the last line of a journal, if the text is such a line, without its line feed.
+/// Reads the last line of a journal from a text without a line feed, and returns its clock. `None` if the text isn't a
+/// last line.
 #[tactic(auto, unfolding(crate::specs::Entries::end_of))]
 pub fn read_end(text: &[u8]) -> Option<Moment>
     ensures { result ≡ end_of text.now }

@@ -1,4 +1,4 @@
-//! Entries of streams, each read from what follows its word.
+//! Reads the entries about streams. Each function gets the text after the entry's word.
 ghost use Rattle.std.specs.Prelude.{◌≡◌, IfOk};
 ghost use Rattle.kcl_journal.specs.Entries.{enforced_of, gone_of, kept_of, made_of, merged_of, put_of, split_of};
 
@@ -9,9 +9,9 @@ use kds_defs::Entry;
 use kds_defs::limits::{LEAST_HOURS, LEAST_SHARDS, MOST_HOURS, MOST_SHARDS};
 use std::alloc::Global;
 
-/// `made STREAM NAME SHARDS`. The error is want of memory for the name.
+/// Reads the entry `made STREAM NAME SHARDS`. An error means that memory for the name ran out.
 #[tactic(auto, unfolding(kcl_script_fields::specs::Fields::two))]
-pub fn made(alloc: Global, text: &[u8]) -> Result<Option<Entry>, Memory>
+pub fn parse_made(alloc: Global, text: &[u8]) -> Result<Option<Entry>, Memory>
     ensures { IfOk result (λ o. o ≡ made_of text.now) }
 {
     let Some((first, rest)) = field(text) else {
@@ -36,8 +36,8 @@ pub fn made(alloc: Global, text: &[u8]) -> Result<Option<Entry>, Memory>
     }))
 }
 
-/// `gone STREAM`.
-pub fn gone(text: &[u8]) -> Option<Entry>
+/// Reads the entry `gone STREAM`.
+pub fn parse_gone(text: &[u8]) -> Option<Entry>
     ensures { result ≡ gone_of text.now }
 {
     let stream = read_u64(text)?;
@@ -46,9 +46,9 @@ pub fn gone(text: &[u8]) -> Option<Entry>
     })
 }
 
-/// `put STREAM SHARD SEQ HASH BYTES KEYBYTES`, and in the first version of journals without KEYBYTES.
+/// Reads the entry `put STREAM SHARD SEQ HASH BYTES KEYBYTES`. In the first version of journals, KEYBYTES is missing.
 #[tactic(auto, unfolding(kcl_script_fields::specs::Fields::two))]
-pub fn put(version: u8, text: &[u8]) -> Option<Entry>
+pub fn parse_put(version: u8, text: &[u8]) -> Option<Entry>
     ensures { result ≡ put_of version text.now }
 {
     let (first, rest) = field(text)?;
@@ -70,9 +70,9 @@ pub fn put(version: u8, text: &[u8]) -> Option<Entry>
     })
 }
 
-/// `split STREAM SHARD AT SEQ LOW HIGH`.
+/// Reads the entry `split STREAM SHARD AT SEQ LOW HIGH`.
 #[tactic(auto, unfolding(kcl_script_fields::specs::Fields::two))]
-pub fn split(text: &[u8]) -> Option<Entry>
+pub fn parse_split(text: &[u8]) -> Option<Entry>
     ensures { result ≡ split_of text.now }
 {
     let (first, rest) = field(text)?;
@@ -96,9 +96,9 @@ pub fn split(text: &[u8]) -> Option<Entry>
     })
 }
 
-/// `merged STREAM SHARD OTHER SEQ CHILD`.
+/// Reads the entry `merged STREAM SHARD OTHER SEQ CHILD`.
 #[tactic(auto, unfolding(kcl_script_fields::specs::Fields::two))]
-pub fn merged(text: &[u8]) -> Option<Entry>
+pub fn parse_merged(text: &[u8]) -> Option<Entry>
     ensures { result ≡ merged_of text.now }
 {
     let (first, rest) = field(text)?;
@@ -119,9 +119,9 @@ pub fn merged(text: &[u8]) -> Option<Entry>
     })
 }
 
-/// `kept STREAM HOURS`.
+/// Reads the entry `kept STREAM HOURS`.
 #[tactic(auto, unfolding(kcl_script_fields::specs::Fields::two))]
-pub fn kept(text: &[u8]) -> Option<Entry>
+pub fn parse_kept(text: &[u8]) -> Option<Entry>
     ensures { result ≡ kept_of text.now }
 {
     let (first, second) = field(text)?;
@@ -133,9 +133,9 @@ pub fn kept(text: &[u8]) -> Option<Entry>
     })
 }
 
-/// `enforced STREAM on` or `enforced STREAM off`.
+/// Reads the entry `enforced STREAM on` or `enforced STREAM off`.
 #[tactic(auto, unfolding(kcl_script_fields::specs::Fields::two))]
-pub fn enforced(text: &[u8]) -> Option<Entry>
+pub fn parse_enforced(text: &[u8]) -> Option<Entry>
     ensures { result ≡ enforced_of text.now }
 {
     let (first, second) = field(text)?;

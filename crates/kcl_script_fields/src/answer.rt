@@ -1,4 +1,4 @@
-//! Answers to commands for leases as text.
+//! The text of answers to commands for leases.
 ghost use Rattle.std.specs.Prelude.{◌≡◌, ◌∷◌, ◌++◌, flat_map, codes, length, true, OnOk, OnErr};
 ghost use Rattle.kds_defs.specs.Kinds.{is_lease_answer, is_lease_reply};
 ghost use Rattle.kcl_script_fields.specs.Fields.{key_text};
@@ -44,7 +44,7 @@ fn owned_key(
     owner(alloc, worker, to)
 }
 
-/// Adds a space and a row.
+/// Adds a space and the text of a row.
 fn row(alloc: Global, row: &Row, to: &mut Octets) -> Result<(), Memory>
     ensures { OnOk result (to.new ≡ to.old ++ row_text row.now) }
 {
@@ -158,7 +158,7 @@ fn fill_reply(alloc: Global, reply: &Reply, long: bool, to: &mut Octets) -> Resu
     }
 }
 
-/// The name of a refusal, without its value, as schedules and audits spell it.
+/// The name of a refusal, without its value, as schedules and audits print it.
 pub fn refusal_name(refusal: &Refusal) -> &'static str
     ensures { result.now ≡ name_of refusal.now }
 {
@@ -197,7 +197,7 @@ pub fn refusal_name(refusal: &Refusal) -> &'static str
     }
 }
 
-/// Adds a space and the value, where there is one.
+/// Adds a space and the refusal's value. It adds nothing if the refusal has no value.
 fn value(alloc: Global, refusal: &Refusal, to: &mut Octets) -> Result<(), Memory>
     ensures { OnOk result (to.new ≡ to.old ++ refusal_value refusal.now) }
 {
@@ -221,8 +221,8 @@ fn fill_refusal(alloc: Global, refusal: &Refusal, to: &mut Octets) -> Result<(),
     value(alloc, refusal, to)
 }
 
-/// Adds the text of an answer, as `print_answer` does, with no room of its own: after `Memory` a front of it may have been
-/// added.
+/// Adds the text of an answer as `print_answer` does, but directly, without a buffer of its own. If memory runs out, a
+/// prefix of the text may have been added.
 pub fn fill_answer(
     alloc: Global,
     answer: &Answer,
@@ -238,8 +238,9 @@ pub fn fill_answer(
     }
 }
 
-/// Adds the text of an answer. `long` asks for the rows of a survey in place of their number. Condition: it is the
-/// answer to a command for leases. After `Memory` nothing was added.
+/// Adds the text of an answer. If `long` is true, a survey's rows are printed instead of their number. Precondition: it
+/// answers a command for leases. If memory runs out, nothing is added. The function exists for users of the library:
+/// the program calls `fill_answer`.
 pub fn print_answer(
     alloc: Global,
     answer: &Answer,

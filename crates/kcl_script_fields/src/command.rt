@@ -1,4 +1,4 @@
-//! Commands for leases as text, each made in a room of its own and added whole.
+//! The text of commands for leases. Each text is built in a buffer of its own, and added when it is complete.
 ghost use Rattle.std.specs.Prelude.{◌≡◌, ◌∷◌, ◌++◌, false, true, OnOk, OnErr};
 ghost use Rattle.kds_defs.specs.Kinds.{is_counted, is_service};
 ghost use Rattle.kcl_script_fields.specs.Fields.{AddsFront, worker_text};
@@ -10,7 +10,7 @@ use kds_base::{Memory, Octets, WorkerNo, write_u64};
 use kds_defs::{Command, Origin, Target};
 use std::alloc::Global;
 
-/// Adds a space and a worker. After `Memory` a front of it was added, which may be empty.
+/// Adds a space and a worker. If memory runs out, a prefix of the text, possibly empty, has been added.
 pub fn owner_field(alloc: Global, owner: WorkerNo, to: &mut Octets) -> Result<(), Memory>
     ensures ok { OnOk result (to.new ≡ to.old ++ 32 ∷ worker_text owner) }
     ensures err { OnErr result (AddsFront to.old to.new (32 ∷ worker_text owner)) }
@@ -19,7 +19,8 @@ pub fn owner_field(alloc: Global, owner: WorkerNo, to: &mut Octets) -> Result<()
     write_u64(alloc, owner.0 as u64, to)
 }
 
-/// Adds a space and what a checkpoint is set to. After `Memory` a front of it was added, which may be empty.
+/// Adds a space and the target of a checkpoint. If memory runs out, a prefix of the text, possibly empty, has been
+/// added.
 pub fn target_field(alloc: Global, target: Target, to: &mut Octets) -> Result<(), Memory>
     ensures ok { OnOk result (to.new ≡ to.old ++ 32 ∷ target_text target) }
     ensures err { OnErr result (AddsFront to.old to.new (32 ∷ target_text target)) }
@@ -30,8 +31,8 @@ pub fn target_field(alloc: Global, target: Target, to: &mut Octets) -> Result<()
     }
 }
 
-/// Adds where reading begins, after a space, unless it is the first record. After `Memory` a front of it was added, which
-/// may be empty.
+/// Adds a space and the origin at which reading begins. It adds nothing for TRIM_HORIZON. If memory runs out, a prefix
+/// of the text, possibly empty, has been added.
 pub fn origin_field(alloc: Global, from: Origin, to: &mut Octets) -> Result<(), Memory>
     ensures ok { OnOk result (to.new ≡ to.old ++ origin_text from) }
     ensures err { OnErr result (AddsFront to.old to.new (origin_text from)) }
@@ -43,8 +44,8 @@ pub fn origin_field(alloc: Global, from: Origin, to: &mut Octets) -> Result<(), 
     }
 }
 
-/// Adds the one text of a command that names a tenure, and a counter or a place. After `Memory` a front of it may have
-/// been added.
+/// Adds the text of a command that names a tenure and then a counter or a position. Each command has exactly one text.
+/// If memory runs out, a prefix of the text may have been added.
 fn fill_counted(alloc: Global, what: &Command, to: &mut Octets) -> Result<(), Memory>
     requires { is_counted what.now ≡ true }
     ensures { OnOk result (to.new ≡ to.old ++ command_text what.now) }
@@ -76,7 +77,7 @@ fn fill_counted(alloc: Global, what: &Command, to: &mut Octets) -> Result<(), Me
     }
 }
 
-/// Adds the one text of a command. After `Memory` a front of it may have been added.
+/// Adds the text of a command for leases. If memory runs out, a prefix of the text may have been added.
 fn fill_command(alloc: Global, what: &Command, to: &mut Octets) -> Result<(), Memory>
     requires { is_service what.now ≡ false }
     ensures { OnOk result (to.new ≡ to.old ++ command_text what.now) }
@@ -106,7 +107,8 @@ fn fill_command(alloc: Global, what: &Command, to: &mut Octets) -> Result<(), Me
     }
 }
 
-/// Adds the one text of a command. Condition: it is a command for leases. After `Memory` nothing was added.
+/// Adds the text of a command, which is the only text that is read as this command. Precondition: it is a command for
+/// leases. If memory runs out, nothing is added.
 pub fn print_command(alloc: Global, what: &Command, to: &mut Octets) -> Result<(), Memory>
     requires { is_service what.now ≡ false }
     ensures ok { OnOk result (to.new ≡ to.old ++ command_text what.now) }

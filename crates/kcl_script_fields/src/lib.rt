@@ -1,4 +1,4 @@
-//! The text of a command for leases and of its answer, and the fields that lines of schedules and journals are made of.
+//! The text of commands for leases and of their answers, and the fields in the lines of schedules and journals.
 #![tactic(auto)]
 
 mod answer;
@@ -11,7 +11,7 @@ mod words;
 
 pub use answer::{fill_answer, print_answer, refusal_name};
 pub use command::{origin_field, owner_field, print_command, target_field};
-pub use fields::{count, field, key, moment, worker};
+pub use fields::{count, field, key_of, moment, worker};
 pub use laws::one_command_text;
 pub use origins::origin;
 pub use raw::{raw_command, row, target};

@@ -1,11 +1,11 @@
-//! Where reading begins.
+//! Reads the origin at which reading of a shard begins.
 ghost use Rattle.std.specs.Prelude.{◌≡◌};
 ghost use Rattle.kcl_script_fields.specs.Origins.{time_of, origin_of};
 
 use crate::fields::{field, moment};
 use kds_defs::Origin;
 
-/// The moment of `time M`.
+/// Reads `time M` as an origin, where M is a moment.
 fn time(text: &[u8]) -> Option<Origin>
     ensures { result ≡ time_of text.now }
 {
@@ -18,7 +18,7 @@ fn time(text: &[u8]) -> Option<Origin>
     }
 }
 
-/// Where reading begins: `latest` or `time M`.
+/// Reads an origin: `latest` or `time M`.
 pub fn origin(text: &[u8]) -> Option<Origin>
     ensures { result ≡ origin_of text.now }
 {

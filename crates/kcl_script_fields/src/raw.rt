@@ -1,15 +1,15 @@
-//! The commands of raw lines.
+//! Reads commands for leases, as they are written in raw lines.
 ghost use Rattle.std.specs.Prelude.{◌≡◌, option_map};
 ghost use Rattle.kcl_script_fields.specs.Fields.{two, number, count_of, worker_of, key_of};
 ghost use Rattle.kcl_script_fields.specs.Commands.{target_of, row_of, make_of, take_of, renew_of, free_of, open_of, read_of, give_of, mark_of, cut_of, words_of, longer_of, command_of};
 
-use crate::fields::{count, field, key, two_numbers, worker};
+use crate::fields::{count, field, key_of, two_numbers, worker};
 use crate::origins::origin;
 use kds_base::{Seq, ShardRef, TenureNo, read_u64};
 use kds_defs::limits::MOST;
 use kds_defs::{Command, Origin, Target};
 
-/// What a checkpoint is set to: a record's number, or `end`.
+/// Reads the target of a checkpoint: a record's number, or `end`.
 pub fn target(text: &[u8]) -> Option<Target>
     ensures { result ≡ target_of text.now }
 {
@@ -21,24 +21,24 @@ pub fn target(text: &[u8]) -> Option<Target>
     }
 }
 
-/// A key, and where the reading of its row begins: at the shard's first record where only the key is there.
+/// Reads a key, and the origin at which the key's row begins. If the text is only a key, the origin is TRIM_HORIZON.
 pub fn row(text: &[u8]) -> Option<(ShardRef, Origin)>
     ensures { result ≡ row_of text.now }
 {
     match field(text) {
         Some((first, rest)) => {
-            let key = key(first)?;
+            let key = key_of(first)?;
             let from = origin(rest)?;
             Some((key, from))
         }
         None => {
-            let key = key(text)?;
+            let key = key_of(text)?;
             Some((key, Origin::TrimHorizon))
         }
     }
 }
 
-fn make(text: &[u8]) -> Option<Command>
+fn parse_make(text: &[u8]) -> Option<Command>
     ensures { result ≡ make_of text.now }
 {
     let (key, from) = row(text)?;
@@ -46,11 +46,11 @@ fn make(text: &[u8]) -> Option<Command>
 }
 
 #[tactic(auto, unfolding(crate::specs::Fields::two))]
-fn take(text: &[u8]) -> Option<Command>
+fn parse_take(text: &[u8]) -> Option<Command>
     ensures { result ≡ take_of text.now }
 {
     let (first, rest) = field(text)?;
-    let key = key(first)?;
+    let key = key_of(first)?;
     let (second, third) = field(rest)?;
     let counter = read_u64(second)?;
     let owner = worker(third)?;
@@ -61,7 +61,7 @@ fn take(text: &[u8]) -> Option<Command>
     })
 }
 
-fn renew(text: &[u8]) -> Option<Command>
+fn parse_renew(text: &[u8]) -> Option<Command>
     ensures { result ≡ renew_of text.now }
 {
     let (tenure, counter) = two_numbers(text, b' ')?;
@@ -71,7 +71,7 @@ fn renew(text: &[u8]) -> Option<Command>
     })
 }
 
-fn free(text: &[u8]) -> Option<Command>
+fn parse_free(text: &[u8]) -> Option<Command>
     ensures { result ≡ free_of text.now }
 {
     let (tenure, counter) = two_numbers(text, b' ')?;
@@ -81,7 +81,7 @@ fn free(text: &[u8]) -> Option<Command>
     })
 }
 
-fn open_shard(text: &[u8]) -> Option<Command>
+fn parse_open(text: &[u8]) -> Option<Command>
     ensures { result ≡ open_of text.now }
 {
     let tenure = read_u64(text)?;
@@ -91,7 +91,7 @@ fn open_shard(text: &[u8]) -> Option<Command>
 }
 
 #[tactic(auto, unfolding(crate::specs::Fields::two))]
-fn read(text: &[u8]) -> Option<Command>
+fn parse_read(text: &[u8]) -> Option<Command>
     ensures { result ≡ read_of text.now }
 {
     let (first, rest) = field(text)?;
@@ -106,7 +106,7 @@ fn read(text: &[u8]) -> Option<Command>
     })
 }
 
-fn give(text: &[u8]) -> Option<Command>
+fn parse_give(text: &[u8]) -> Option<Command>
     ensures { result ≡ give_of text.now }
 {
     let tenure = read_u64(text)?;
@@ -116,7 +116,7 @@ fn give(text: &[u8]) -> Option<Command>
 }
 
 #[tactic(auto, unfolding(crate::specs::Fields::two))]
-fn mark(text: &[u8]) -> Option<Command>
+fn parse_mark(text: &[u8]) -> Option<Command>
     ensures { result ≡ mark_of text.now }
 {
     let (first, rest) = field(text)?;
@@ -132,51 +132,51 @@ fn mark(text: &[u8]) -> Option<Command>
 }
 
 #[tactic(auto, unfolding(crate::specs::Fields::two))]
-fn cut_lease(text: &[u8]) -> Option<Command>
+fn parse_cut(text: &[u8]) -> Option<Command>
     ensures { result ≡ cut_of text.now }
 {
     let (first, second) = field(text)?;
-    let key = key(first)?;
+    let key = key_of(first)?;
     let counter = read_u64(second)?;
     Some(Command::CutLease { key, counter })
 }
 
-/// The command of a word and what follows it.
-fn words(word: &[u8], text: &[u8]) -> Option<Command>
+/// Reads the command that begins with `word`. `text` follows the word and a space.
+fn parse_command(word: &[u8], text: &[u8]) -> Option<Command>
     ensures { result ≡ words_of word.now text.now }
 {
     if word == b"make".as_slice() {
-        make(text)
+        parse_make(text)
     } else if word == b"take".as_slice() {
-        take(text)
+        parse_take(text)
     } else if word == b"renew".as_slice() {
-        renew(text)
+        parse_renew(text)
     } else if word == b"free".as_slice() {
-        free(text)
+        parse_free(text)
     } else if word == b"open".as_slice() {
-        open_shard(text)
+        parse_open(text)
     } else if word == b"read".as_slice() {
-        read(text)
+        parse_read(text)
     } else if word == b"give".as_slice() {
-        give(text)
+        parse_give(text)
     } else if word == b"mark".as_slice() {
-        mark(text)
+        parse_mark(text)
     } else if word == b"cut".as_slice() {
-        cut_lease(text)
+        parse_cut(text)
     } else {
         None
     }
 }
 
-/// A command of more words than one.
+/// Reads a command that has more than one word.
 fn longer(text: &[u8]) -> Option<Command>
     ensures { result ≡ longer_of text.now }
 {
     let (word, rest) = field(text)?;
-    words(word, rest)
+    parse_command(word, rest)
 }
 
-/// The command that a text is, and whether the longer answer is asked for.
+/// Reads a command, and whether it asks for the long answer.
 pub fn raw_command(text: &[u8]) -> Option<(Command, bool)>
     ensures { result ≡ command_of text.now }
 {

@@ -1,4 +1,4 @@
-//! Words, numbers and keys as text. After `Memory` a front of it was added, which may be empty.
+//! Adds the text of words, numbers and keys. If memory runs out, a prefix of the text, possibly empty, has been added.
 ghost use Rattle.std.specs.Prelude.{◌≡◌, ◌∷◌, ◌++◌, decimal, OnErr, OnOk};
 ghost use Rattle.kcl_script_fields.specs.Fields.{AddsFront, key_text};
 
@@ -38,7 +38,7 @@ pub fn with_numbers(
     number_field(alloc, m, to)
 }
 
-/// Adds a key: STREAM/SHARD.
+/// Adds a key in the form STREAM/SHARD.
 pub fn write_key(alloc: Global, key: ShardRef, to: &mut Octets) -> Result<(), Memory>
     ensures ok { OnOk result (to.new ≡ to.old ++ key_text key) }
     ensures err { OnErr result (AddsFront to.old to.new (key_text key)) }

@@ -7,7 +7,7 @@ use Rattle.kcl_audit_streams.specs.Standing.{Shows}
 use Rattle.kcl_audit_streams.specs.Verdict.{same_flag, same_list}
 use Rattle.kcl_audit_streams.proofs.Others.{shows_lease}
 use Rattle.kcl_audit_judge.proofs.ReadTold.{numbers_are, read_entry, read_other, read_refused_entry}
-use Rattle.kcl_audit_judge.proofs.lease_entries.read.Goals as goal
+use Rattle.kcl_audit_judge.proofs.lease_entries.on_read.Goals as goal
 
 pub returns-in-Err-clause-judged : goal.returns-in-Err-clause-judged
 returns-in-Err-clause-judged c =

@@ -1,7 +1,7 @@
 use Rattle.kcl_leases.specs.Standing.{facing, leases}
 use Rattle.kcl_audit_streams.specs.Standing.{Shows}
 use Rattle.kcl_audit_judge.proofs.LeaseLines.{marked_entry}
-use Rattle.kcl_audit_judge.proofs.lease_entries.marked.Goals as goal
+use Rattle.kcl_audit_judge.proofs.lease_entries.on_mark.Goals as goal
 
 pub returns : goal.returns
 returns c =

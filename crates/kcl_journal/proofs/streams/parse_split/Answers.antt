@@ -1,6 +1,6 @@
 use Rattle.std.proofs.Common.{rules}
 use Rattle.kcl_script_fields.specs.Fields.{two}
-use Rattle.kcl_journal.proofs.streams.split.Goals as goal
+use Rattle.kcl_journal.proofs.streams.parse_split.Goals as goal
 
 pub returns : goal.returns
 unfolding two

@@ -1,7 +1,7 @@
 use Rattle.kcl_leases.specs.Standing.{facing, leases}
 use Rattle.kcl_audit_streams.specs.Standing.{Shows}
 use Rattle.kcl_audit_judge.proofs.LeaseLines.{opened_entry}
-use Rattle.kcl_audit_judge.proofs.lease_entries.opened.Goals as goal
+use Rattle.kcl_audit_judge.proofs.lease_entries.on_open.Goals as goal
 
 pub returns : goal.returns
 returns c =

@@ -6,7 +6,7 @@ use Rattle.kcl_leases.specs.Standing.{facing, leases}
 use Rattle.kcl_table.specs.Rows.{row_of}
 use Rattle.kcl_audit_streams.specs.Standing.{Shows}
 use Rattle.kcl_audit_judge.proofs.LeaseLines.{taken_entry, taken_other, taken_refused}
-use Rattle.kcl_audit_judge.proofs.lease_entries.taken.Goals as goal
+use Rattle.kcl_audit_judge.proofs.lease_entries.on_take.Goals as goal
 
 pub returns-in-Err-clause-judged : goal.returns-in-Err-clause-judged
 returns-in-Err-clause-judged c =

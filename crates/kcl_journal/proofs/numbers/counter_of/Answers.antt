@@ -1,5 +1,5 @@
 use Rattle.std.proofs.Common.{rules}
-use Rattle.kcl_journal.proofs.numbers.counter.Goals as goal
+use Rattle.kcl_journal.proofs.numbers.counter_of.Goals as goal
 
 pub returns : goal.returns
 returns c = search rules

@@ -7,7 +7,7 @@ use Rattle.kcl_audit_streams.specs.Standing.{Shows}
 use Rattle.kcl_audit_streams.specs.Verdict.{same_origin}
 use Rattle.kcl_audit_streams.proofs.SameEntries.{origin_so}
 use Rattle.kcl_audit_judge.proofs.LeaseLines.{counts_is, made_entry, made_gone, made_other, made_there}
-use Rattle.kcl_audit_judge.proofs.lease_entries.made.Goals as goal
+use Rattle.kcl_audit_judge.proofs.lease_entries.on_make.Goals as goal
 
 pub returns-in_default-clause-judged : goal.returns-in_default-clause-judged
 returns-in_default-clause-judged c =
