@@ -1,4 +1,4 @@
-//! The law.
+//! The law that an audit finds the journal of every history sound.
 ghost use Rattle.std.specs.Prelude.{◌≡◌, ◌≢◌, List};
 ghost use Rattle.std.specs.List.{AllByRecursion};
 ghost use Rattle.kds_defs.specs.declared.command.Turn.{Turn};
@@ -10,8 +10,9 @@ ghost use Rattle.kcl_audit.specs.Progress.{audit_of, over, sound};
 ghost use Rattle.kcl_audit.specs.Text.{IsJournal, counted};
 ghost use Rattle.kcl_audit_sound.specs.Bits.{HaveBits};
 
-/// Each line of a history's journal can be told by a text, and its whole text is that of a legal journal: an audit finds it
-/// sound, unless a line or the input is longer than the limits. The numbers of the turns have the bits of their types.
+/// Suppose that every number in the turns of a history fits its machine type. Then each line of the history's journal
+/// has a text, and the text of the whole journal is legal: an audit finds it sound, unless a line or the input is
+/// longer than the limits.
 pub fn sound_histories()
     ensures lines { (h : List Turn) → IsHistory h → HaveBits h → AllByRecursion (IsEntryLine VERSION) (history_entries h) }
     ensures legal { (h : List Turn) → IsHistory h → HaveBits h → IsJournal (journal_text h) (counted 0 (history_entries h)) }

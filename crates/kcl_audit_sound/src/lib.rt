@@ -1,4 +1,4 @@
-//! What holds of the text of every history's journal: an audit finds it sound.
+//! The proof that an audit finds the text of every history's journal sound.
 #![tactic(auto)]
 
 mod laws;

@@ -1,4 +1,4 @@
-//! The numbers of turns that a machine has.
+//! Proves that every number in a turn fits its machine type. The text of a journal needs this (decision 79).
 ghost use Rattle.std.specs.Prelude.{◌<◌, ◌^◌};
 ghost use Rattle.kcl_script_fields.specs.Commands.{AreNumbers, IsKey, IsTarget};
 ghost use Rattle.kcl_script_fields.specs.Origins.{IsOrigin};
@@ -49,7 +49,7 @@ fn is_target(to: &Target)
     }
 }
 
-/// The numbers of a command have the bits of their types.
+/// Every number of a command fits its machine type.
 fn are_numbers(what: &Command)
     ensures { AreNumbers what.now }
 {
@@ -92,7 +92,7 @@ fn are_numbers(what: &Command)
     }
 }
 
-/// The numbers of a turn that a machine has have the bits of their types. It looks at the turn, and does nothing.
+/// Every number in a turn that a machine holds fits its type. At run time the function only goes through the numbers.
 pub fn has_bits(turn: &Turn)
     ensures { HasBits turn.now }
 {
@@ -100,7 +100,7 @@ pub fn has_bits(turn: &Turn)
     are_numbers(&turn.what);
 }
 
-/// The numbers of the turns that a machine has have the bits of their types. It looks at each turn, and does nothing.
+/// Every number in the turns that a machine holds fits its type. At run time the function only goes through the turns.
 pub fn have_bits(turns: &[Turn])
     ensures { HaveBits turns.now }
 {

@@ -1,5 +1,5 @@
 -- What the line of a hand-off makes of a run.
-use Rattle.std.proofs.Common.{◌≡◌, ℕ, zero, suc, true, false, List, [], ◌∷◌, ◌++◌, length, Some, None, codes, refl, sym, ap, subst, ◌∙◌, inr}
+use Rattle.std.proofs.Common.{◌≡◌, ℕ, Bool, zero, suc, true, false, List, [], ◌∷◌, ◌++◌, length, Some, None, codes, refl, sym, ap, subst, ◌∙◌, inr}
 use Rattle.std.specs.Prelude.{option_map, slice_get, slice_set}
 use Rattle.kds_base.specs.declared.lease_key.ShardRef.{ShardRef}
 use Rattle.kcl_defs.specs.declared.plans.Held.{Held}
@@ -17,6 +17,7 @@ use Rattle.kcl_script.specs.declared.line.Line.TheVariants as line
 use Rattle.kcl_worker.specs.Adding.{AddsRelease, ReleasesNone}
 use Rattle.kcl_worker.specs.Standing.{StandsFor as WorkerStands}
 use Rattle.kcl_sim.specs.Hands.{Handing, IsHandOf, RanFirst, RanToEnd}
+use Rattle.kcl_sim.specs.Keeping.{if_wanted}
 use Rattle.kcl_sim.specs.Output.{Ran, hand_output, history_at, run_text, with_handed, with_release}
 use Rattle.kcl_sim.specs.Standing.{EmployAll, Employs, GoesOn, MayHaveBroken, RunsSo, SimValue, Stepped, place_among}
 use Rattle.kcl_sim.specs.Workers.{Employed, place_of, release_by}
@@ -57,14 +58,15 @@ released_so was now key h c v adds made maker held of_it begins e s =
 
 -- ---- where nothing is released
 
-pub nobody_hands : (old new : SimValue) (ran : Ran) (at by : ℕ) (key : ShardRef) (before after : List ℕ) → RunsSo old ran → old.over ≡ false → new ≡ old
+pub nobody_hands : (wanted : Bool) (old new : SimValue) (ran : Ran) (at by : ℕ) (key : ShardRef) (before after : List ℕ) → RunsSo old ran
+    → old.over ≡ false → new ≡ old
     → place_among by (length old.workers) ≡ None
-    → after ≡ before ++ (codes "none" ++ 10 ∷ []) → GoesOn new ran (line.Hand at by key) before after
-nobody_hands old new ran at by key before after s going same none wrote =
+    → after ≡ before ++ if_wanted wanted (codes "none" ++ 10 ∷ []) → GoesOn wanted new ran (line.Hand at by key) before after
+nobody_hands wanted old new ran at by key before after s going same none wrote =
     let is = nobody by (length old.workers) ran.workers (employ_length old.workers ran.workers (s.workers going)) none in
     record {
       made = subst (λ o. RunsSo new (with_handed ran at by key o)) (sym is) (subst (λ v. RunsSo v ran) (sym same) s);
-      wrote = wrote ∙ ap (λ o. before ++ hand_output ran.history at by (release_by key o)) (sym is);
+      wrote = wrote ∙ ap (λ o. before ++ if_wanted wanted (hand_output ran.history at by (release_by key o))) (sym is);
       going = ap (λ (v : SimValue). v.over) same ∙ going;
     }
 
@@ -73,12 +75,13 @@ set_same [] place w is = refl
 set_same (v ∷ ws) zero w is = let same : v ≡ w = cc in ap (λ u. u ∷ ws) (sym same)
 set_same (v ∷ ws) (suc place) w is = ap (λ us. v ∷ us) (set_same ws place w is)
 
-pub nothing_hands : (old new : SimValue) (ran : Ran) (at by place : ℕ) (key : ShardRef) (was now : Stepped) (before after : List ℕ) → RunsSo old ran
+pub nothing_hands : (wanted : Bool) (old new : SimValue) (ran : Ran) (at by place : ℕ) (key : ShardRef) (was now : Stepped) (before after : List ℕ)
+    → RunsSo old ran
     → old.over ≡ false → place_among by (length old.workers) ≡ Some place
     → slice_get old.workers place ≡ Some was → new ≡ record old { workers = slice_set old.workers place now } → now ≡ was → ReleasesNone Calls was key
-    → after ≡ before ++ (codes "none" ++ 10 ∷ [])
-    → GoesOn new ran (line.Hand at by key) before after
-nothing_hands old new ran at by place key was now before after s going there stood is kept releases wrote =
+    → after ≡ before ++ if_wanted wanted (codes "none" ++ 10 ∷ [])
+    → GoesOn wanted new ran (line.Hand at by key) before after
+nothing_hands wanted old new ran at by place key was now before after s going there stood is kept releases wrote =
     let w = works old ran by place was s going there stood in
     let none : release_by key (Some w.e) ≡ None =
     ap (λ m. released key (worker_after m (worker_past w.e.past))) (sym w.employs.made) ∙ releases (worker_past w.e.past) w.employs.stands in
@@ -86,20 +89,21 @@ nothing_hands old new ran at by place key was now before after s going there sto
     record {
       made = subst (λ o. RunsSo new (with_handed ran at by key o)) (sym w.is)
           (subst (λ o. RunsSo new (with_release ran at by key w.e o)) (sym none) (subst (λ v. RunsSo v ran) (sym same) s));
-      wrote = wrote ∙ ap (λ o. before ++ hand_output ran.history at by o) (sym none) ∙ ap (λ o. before ++ hand_output ran.history at by (release_by key o))
+      wrote = wrote ∙ ap (λ o. before ++ if_wanted wanted (hand_output ran.history at by o)) (sym none)
+          ∙ ap (λ o. before ++ if_wanted wanted (hand_output ran.history at by (release_by key o)))
           (sym w.is);
       going = ap (λ (v : SimValue). v.over) same ∙ going;
     }
 
 -- ---- where it ran to its end
 
-pub hand_goes : (old mid now new : SimValue) (ran : Ran) (at by place : ℕ) (key : ShardRef) (was next : Stepped) (v : Handing) (before after : List ℕ)
+pub hand_goes : (wanted : Bool) (old mid now new : SimValue) (ran : Ran) (at by place : ℕ) (key : ShardRef) (was next : Stepped) (v : Handing) (before after : List ℕ)
     → RunsSo old ran → old.over ≡ false
     → place_among by (length old.workers) ≡ Some place → slice_get old.workers place ≡ Some was → ((e : Employed) → Employs was e → IsReleased key e next v)
-    → mid ≡ record old { workers = slice_set old.workers place next; over = true } → RanToEnd at by mid now v before after → now.workers ≡ mid.workers
+    → mid ≡ record old { workers = slice_set old.workers place next; over = true } → RanToEnd wanted at by mid now v before after → now.workers ≡ mid.workers
     → new ≡ record now { over = false }
-    → GoesOn new ran (line.Hand at by key) before after
-hand_goes old mid now new ran at by place key was next v before after s going there stood releases mid_is t kept new_is =
+    → GoesOn wanted new ran (line.Hand at by key) before after
+hand_goes wanted old mid now new ran at by place key was next v before after s going there stood releases mid_is t kept new_is =
     let w = works old ran by place was s going there stood in
     let r = releases w.e w.employs in
     let first : mid.history ≡ ran.history = ap (λ (z : SimValue). z.history) mid_is ∙ s.history in
@@ -115,12 +119,13 @@ hand_goes old mid now new ran at by place key was next v before after s going th
             workers = λ g. subst (λ ws. EmployAll ws (slice_set ran.workers (place_of by) x)) (sym workers)
                 (replaced old ran by place was next x w (r.worker run.hand.since));
           }));
-      wrote = t.wrote (hand_of r.release []) r.hand ∙ ap (λ h. before ++ run_text (hand_run at by h (hand_of r.release []))) first
-          ∙ ap (λ o. before ++ hand_output ran.history at by o) (sym r.which) ∙ ap (λ o. before ++ hand_output ran.history at by (release_by key o)) (sym w.is);
+      wrote = t.wrote (hand_of r.release []) r.hand ∙ ap (λ h. before ++ if_wanted wanted (run_text (hand_run at by h (hand_of r.release [])))) first
+          ∙ ap (λ o. before ++ if_wanted wanted (hand_output ran.history at by o)) (sym r.which)
+          ∙ ap (λ o. before ++ if_wanted wanted (hand_output ran.history at by (release_by key o))) (sym w.is);
       going = ap (λ (z : SimValue). z.over) new_is;
     }
 
--- ---- want of memory
+-- ---- out of memory
 
 pub hand_may : (old mid new : SimValue) (ran : Ran) (at by place : ℕ) (key : ShardRef) (was next : Stepped) (v : Handing) → RunsSo old ran → old.over ≡ false
     → place_among by (length old.workers) ≡ Some place → slice_get old.workers place ≡ Some was → ((e : Employed) → Employs was e → IsReleased key e next v)

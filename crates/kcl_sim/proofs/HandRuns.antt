@@ -1,5 +1,5 @@
 -- A hand-off that is under way, beside its record.
-use Rattle.std.proofs.Common.{◌≡◌, ℕ, zero, suc, ◌+◌, ◌-◌, ◌<◌, ◌≤◌, List, [], ◌∷◌, ◌++◌, Some, None, Result, refl, sym, ap, subst, ◌∙◌, arith, ◌⊎◌, inl, inr}
+use Rattle.std.proofs.Common.{◌≡◌, ℕ, Bool, zero, suc, ◌+◌, ◌-◌, ◌<◌, ◌≤◌, List, [], ◌∷◌, ◌++◌, Some, None, Result, refl, sym, ap, subst, ◌∙◌, arith, ◌⊎◌, inl, inr}
 use Rattle.std.specs.Prelude.{IsSome}
 use Rattle.std.proofs.lemmas.List.{append_assoc, append-nil}
 use Rattle.kds_defs.specs.declared.command.Command.{Command}
@@ -20,9 +20,11 @@ use Rattle.kcl_hand.specs.Standing.{AddsHandAnswer, IsLeaving, StandsFor, turns_
 use Rattle.kcl_hand.proofs.Handings.{answered_leaves}
 use Rattle.kcl_proc.specs.Stocks.{StandsFor as Calls}
 use Rattle.kcl_sim.specs.Hands.{ComesNext, Handing, IsHandOf, MadeRound, RanCommand, RanFirst, RanToEnd, deal_at}
+use Rattle.kcl_sim.specs.Keeping.{if_wanted}
 use Rattle.kcl_sim.specs.Output.{deal_text, deals_text, left_text, raw_turn, run_text}
 use Rattle.kcl_sim.specs.Standing.{SimValue}
 use Rattle.kcl_sim.proofs.HandTelling.{round, rounds}
+use Rattle.kcl_sim.proofs.Wanting.{joined, none_wanted}
 
 -- ---- a call and a command of one
 
@@ -118,29 +120,31 @@ deals_more (d ∷ deals) deal = ap (λ z. deal_text d ++ z) (deals_more deals de
 -- ---- a run in which it is under way
 
 -- so many of its commands ran, and the call that was due is made
-pub record UnderWay (at by : ℕ) (old now : SimValue) (v w : Handing) (text : List ℕ) : Type 0 where
+pub record UnderWay (wanted : Bool) (at by : ℕ) (old now : SimValue) (v w : Handing) (text : List ℕ) : Type 0 where
   pub ran_of_it : ℕ
   pub deals : List Deal
   pub few : ran_of_it + turns_left_in w ≤ 3
-  pub wrote : text ≡ deals_text deals
+  pub wrote : text ≡ if_wanted wanted (deals_text deals)
   pub over : now.over ≡ old.over
   pub workers : now.workers ≡ old.workers
+  pub told : now.told ≡ old.told
   pub none_due : due_call w.consumer.phase ≡ None
   pub rest : (x : HandOff) → IsHandOf v x → (y : HandOff) × IsHandOf w y × IsRest at by old.history x ran_of_it deals now.history y
 
 none_of : (w : Handing) (y : HandOff) → IsHandOf w y → due_call w.consumer.phase ≡ None → hand_due y.made (state_of y) ≡ None
 none_of w y s none = sym (due_is w y s) ∙ none
 
-pub way_begins : (at by : ℕ) (old now : SimValue) (v w : Handing) (text : List ℕ) → now ≡ old → text ≡ [] → turns_left_in v ≤ 3
+pub way_begins : (wanted : Bool) (at by : ℕ) (old now : SimValue) (v w : Handing) (text : List ℕ) → now ≡ old → text ≡ [] → turns_left_in v ≤ 3
     → turns_left_in w ≤ turns_left_in v → due_call w.consumer.phase ≡ None
-    → ((x : HandOff) → IsHandOf v x → IsHandOf w (called_up x)) → UnderWay at by old now v w text
-way_begins at by old now v w text same empty few fewer none called = record {
+    → ((x : HandOff) → IsHandOf v x → IsHandOf w (called_up x)) → UnderWay wanted at by old now v w text
+way_begins wanted at by old now v w text same empty few fewer none called = record {
   ran_of_it = 0;
   deals = [];
   few = omega (arith, few, fewer);
-  wrote = empty;
+  wrote = empty ∙ none_wanted wanted;
   over = ap (λ (z : SimValue). z.over) same;
   workers = ap (λ (z : SimValue). z.workers) same;
+  told = ap (λ (z : SimValue). z.told) same;
   none_due = none;
   rest = λ x s.
       let here = called x s in (
@@ -151,16 +155,19 @@ way_begins at by old now v w text same empty few fewer none called = record {
       );
 }
 
-pub way_goes : (at by : ℕ) (old now new : SimValue) (v w u : Handing) (text more : List ℕ) → UnderWay at by old now v w text
-    → MadeRound at by now new w u text more → new.over ≡ now.over → new.workers ≡ now.workers
-    → turns_left_in u < turns_left_in w → due_call u.consumer.phase ≡ None → UnderWay at by old new v u more
-way_goes at by old now new v w u text more way r over workers fewer none = record {
+pub way_goes : (wanted : Bool) (at by : ℕ) (old now new : SimValue) (v w u : Handing) (text more : List ℕ) → UnderWay wanted at by old now v w text
+    → MadeRound wanted at by now new w u text more → new.over ≡ now.over → new.workers ≡ now.workers → new.told ≡ now.told
+    → turns_left_in u < turns_left_in w → due_call u.consumer.phase ≡ None → UnderWay wanted at by old new v u more
+way_goes wanted at by old now new v w u text more way r over workers told fewer none = record {
   ran_of_it = way.ran_of_it + 1;
   deals = way.deals ++ deal_at at by now.history r.what ∷ [];
   few = omega (arith, way.few, fewer);
-  wrote = r.wrote ∙ ap (λ z. z ++ deal_text (deal_at at by now.history r.what)) way.wrote ∙ sym (deals_more way.deals (deal_at at by now.history r.what));
+  wrote = r.wrote ∙ ap (λ z. z ++ if_wanted wanted (deal_text (deal_at at by now.history r.what))) way.wrote
+      ∙ joined wanted (deals_text way.deals) (deal_text (deal_at at by now.history r.what))
+      ∙ ap (if_wanted wanted) (sym (deals_more way.deals (deal_at at by now.history r.what)));
   over = over ∙ way.over;
   workers = workers ∙ way.workers;
+  told = told ∙ way.told;
   none_due = none;
   rest = λ x s.
       let y = way.rest x s in
@@ -180,11 +187,12 @@ ended_quiet h made phase (stand.Ended left) over = refl
 ended_quiet h made phase _ over = absurd cc
 
 -- the whole run of it
-whole_run : (at by : ℕ) (old now : SimValue) (v w : Handing) (text : List ℕ) (way : UnderWay at by old now v w text) → IsSome (left_at w.stand)
+whole_run : (wanted : Bool) (at by : ℕ) (old now : SimValue) (v w : Handing) (text : List ℕ) (way : UnderWay wanted at by old now v w text)
+    → IsSome (left_at w.stand)
     → (x : HandOff) (s : IsHandOf v x)
     → hand_run at by old.history x ≡ record { history = now.history; hand = (way.rest x s).0; deals = way.deals ++ [] }
 unfolding with_deals
-whole_run at by old now v w text way over x s =
+whole_run wanted at by old now v w text way over x s =
     let y = way.rest x s in
     let left : ℕ = 3 - way.ran_of_it in
     let three : 3 ≡ way.ran_of_it + left = omega (arith, way.few) in
@@ -193,25 +201,30 @@ whole_run at by old now v w text way over x s =
     ap (λ m. run_hand m at by old.history x) three ∙ y.2 left ∙ ap (with_deals way.deals)
     (ends_so left at by now.history y.0 quiet (none_of w y.0 y.1 way.none_due))
 
-pub way_ends : (at by : ℕ) (old now new : SimValue) (v w : Handing) (text line before after : List ℕ) → UnderWay at by old now v w text
-    → IsSome (left_at w.stand) → line ≡ text ++ (left_text (left_at w.stand) ++ 10 ∷ [])
-    → after ≡ before ++ line → new ≡ now → RanToEnd at by old new v before after
-way_ends at by old now new v w text line before after way over line_is wrote same = record {
-  history = λ x s. ap (λ (z : SimValue). z.history) same ∙ ap (λ r. r.history) (sym (whole_run at by old now v w text way over x s));
+pub way_ends : (wanted : Bool) (at by : ℕ) (old now new : SimValue) (v w : Handing) (text line before after : List ℕ) → UnderWay wanted at by old now v w text
+    → IsSome (left_at w.stand) → line ≡ text ++ if_wanted wanted (left_text (left_at w.stand) ++ 10 ∷ [])
+    → after ≡ before ++ line → new ≡ now → RanToEnd wanted at by old new v before after
+way_ends wanted at by old now new v w text line before after way over line_is wrote same = record {
+  history = λ x s. ap (λ (z : SimValue). z.history) same ∙ ap (λ r. r.history) (sym (whole_run wanted at by old now v w text way over x s));
   wrote = λ x s.
       let y = way.rest x s in
       let left : left_at w.stand ≡ hand_left (state_of y.0) = ap left_at (stand_is w y.0 y.1) in
-      wrote ∙ ap (λ z. before ++ z) (line_is ∙ ap (λ z. z ++ (left_text (left_at w.stand) ++ 10 ∷ [])) (way.wrote ∙ ap deals_text (sym (append-nil way.deals)))
-      ∙ ap (λ o. deals_text (way.deals ++ []) ++ (left_text o ++ 10 ∷ [])) left ∙ ap run_text (sym (whole_run at by old now v w text way over x s)));
+      let ends : List ℕ = deals_text (way.deals ++ []) in
+      wrote ∙ ap (λ z. before ++ z) (line_is ∙ ap (λ z. z ++ if_wanted wanted (left_text (left_at w.stand) ++ 10 ∷ []))
+      (way.wrote ∙ ap (λ ds. if_wanted wanted (deals_text ds)) (sym (append-nil way.deals)))
+      ∙ ap (λ o. if_wanted wanted ends ++ if_wanted wanted (left_text o ++ 10 ∷ [])) left
+      ∙ joined wanted ends (left_text (hand_left (state_of y.0)) ++ 10 ∷ [])
+      ∙ ap (λ r. if_wanted wanted (run_text r)) (sym (whole_run wanted at by old now v w text way over x s)));
 }
 
--- ---- want of memory
+-- ---- out of memory
 
 -- between its commands
-pub broke_between : (at by : ℕ) (old now new : SimValue) (v w : Handing) (text : List ℕ) → UnderWay at by old now v w text → new.history ≡ now.history
+pub broke_between : (wanted : Bool) (at by : ℕ) (old now new : SimValue) (v w : Handing) (text : List ℕ) → UnderWay wanted at by old now v w text
+    → new.history ≡ now.history
     → RanFirst at by old new v
 unfolding with_deals
-broke_between at by old now new v w text way same = record {
+broke_between wanted at by old now new v w text way same = record {
   ran_of_it = way.ran_of_it;
   few = omega (arith, way.few);
   history = λ x s.
@@ -226,10 +239,11 @@ one_left stand.Consumer (Giving reach waiting asked lost) going = omega arith
 one_left _ _ going = omega arith
 
 -- after the turn of one
-pub broke_after : (at by : ℕ) (old now new : SimValue) (v w : Handing) (text : List ℕ) → UnderWay at by old now v w text → left_at w.stand ≡ None
+pub broke_after : (wanted : Bool) (at by : ℕ) (old now new : SimValue) (v w : Handing) (text : List ℕ) → UnderWay wanted at by old now v w text
+    → left_at w.stand ≡ None
     → RanCommand at by now new w → RanFirst at by old new v
 unfolding with_deals
-broke_after at by old now new v w text way going r = record {
+broke_after wanted at by old now new v w text way going r = record {
   ran_of_it = way.ran_of_it + 1;
   few = omega (arith, way.few, one_left w.stand w.consumer.phase going);
   history = λ x s.
@@ -239,11 +253,12 @@ broke_after at by old now new v w text way going r = record {
       ∙ ap (λ z. z.history) (sym (y.2 1));
 }
 
-pub broke_round : (at by : ℕ) (old now new : SimValue) (v w : Handing) (text : List ℕ) → UnderWay at by old now v w text → left_at w.stand ≡ None
+pub broke_round : (wanted : Bool) (at by : ℕ) (old now new : SimValue) (v w : Handing) (text : List ℕ) → UnderWay wanted at by old now v w text
+    → left_at w.stand ≡ None
     → (new.history ≡ now.history) ⊎ RanCommand at by now new w
     → RanFirst at by old new v
-broke_round at by old now new v w text way going (inl same) = broke_between at by old now new v w text way same
-broke_round at by old now new v w text way going (inr r) = broke_after at by old now new v w text way going r
+broke_round wanted at by old now new v w text way going (inl same) = broke_between wanted at by old now new v w text way same
+broke_round wanted at by old now new v w text way going (inr r) = broke_after wanted at by old now new v w text way going r
 
 -- ---- one round
 
@@ -251,13 +266,13 @@ broke_round at by old now new v w text way going (inr r) = broke_after at by old
 comes_next : (v : Handing) (what : Command) → Some what ≡ command_at v.held v.consumer.made v.consumer.phase v.stand → ComesNext v what
 comes_next v what is x s = sym (next_is v x s) ∙ sym is
 
-pub round_made : (at by : ℕ) (old new : SimValue) (v mid w : Handing) (what : Command) (a : Result Reply Refusal) (before after : List ℕ)
+pub round_made : (wanted : Bool) (at by : ℕ) (old new : SimValue) (v mid w : Handing) (what : Command) (a : Result Reply Refusal) (before after : List ℕ)
     → Some what ≡ command_at v.held v.consumer.made v.consumer.phase v.stand
     → new ≡ record old { history = raw_turn at by what ∷ old.history } → a ≡ answer old.history (raw_turn at by what) → mid.held ≡ v.held
     → mid.consumer.made ≡ v.consumer.made → AddsHandAnswer Calls a v mid
-    → after ≡ before ++ deal_text (deal_at at by old.history what) → ((x : HandOff) → IsHandOf mid x → IsHandOf w (called_up x))
-    → MadeRound at by old new v w before after
-round_made at by old new v mid w what a before after next ran is held made adds wrote called = record {
+    → after ≡ before ++ if_wanted wanted (deal_text (deal_at at by old.history what)) → ((x : HandOff) → IsHandOf mid x → IsHandOf w (called_up x))
+    → MadeRound wanted at by old new v w before after
+round_made wanted at by old new v mid w what a before after next ran is held made adds wrote called = record {
   what = what;
   next = comes_next v what next;
   history = ap (λ (z : SimValue). z.history) ran;

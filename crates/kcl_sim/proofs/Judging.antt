@@ -1,15 +1,18 @@
 -- The lines of a schedule, one after another.
-use Rattle.std.proofs.Common.{◌≡◌, ℕ, ◌+◌, List, [], ◌∷◌, ◌++◌, length, Option, Some, None, refl, sym, ap, subst, ◌∙◌, arith, inl, inr}
+use Rattle.std.proofs.Common.{◌≡◌, ℕ, ◌+◌, Bool, true, false, List, [], ◌∷◌, ◌++◌, length, Option, Some, None, refl, sym, ap, subst, ◌∙◌, arith, inl, inr}
 use Rattle.std.proofs.lemmas.List.{append_assoc, append-nil}
 use Rattle.kds_lines.specs.Lines as input
 use Rattle.kds_lines.specs.Lines.{End}
-use Rattle.kds_lines.specs.Taking.{Goes, Breaks}
+use Rattle.kds_lines.specs.Taking.{Goes, Breaks, GoesOn as TextGoesOn}
+use Rattle.kds_defs.specs.declared.command.Turn.{Turn}
 use Rattle.kcl_script.specs.declared.line.Line.{Line}
 use Rattle.kcl_script.specs.Line.{line_of}
+use Rattle.kcl_sim.specs.Keeping.{AddsText}
+use Rattle.kcl_sim.proofs.MoreTurns.{line_grows}
 use Rattle.kcl_sim.specs.Output.{Ran, fresh, with_line, output_of, with_schedule, outputs}
 use Rattle.kcl_sim.specs.Schedule.{whole, judge_form, judge, preceded_by}
-use Rattle.kcl_sim.specs.Standing.{GoesOn, MayHaveBroken, RunsSo, SimValue}
-use Rattle.kcl_sim.specs.Taking.{Broke, judged_texts, Took, texts_output}
+use Rattle.kcl_sim.specs.Standing.{GoesOn, IsTold, MayHaveBroken, RunsSo, SimValue, Tells}
+use Rattle.kcl_sim.specs.Taking.{Broke, judged_texts, told_texts, Took, texts_output}
 
 pub outputs-append : (ran : Ran) (ls ks : List Line) → outputs ran (ls ++ ks) ≡ outputs ran ls ++ outputs (with_schedule ran ls) ks
 outputs-append ran [] ks = refl
@@ -57,30 +60,88 @@ output_more texts text l are is =
     ap (λ z. outputs fresh z.lines) (one_more texts text l are is) ∙ outputs-append fresh (judged_texts texts).lines (l ∷ [])
     ∙ ap (λ z. texts_output texts ++ z) (append-nil _)
 
-pub takes : (old new : SimValue) (text : List ℕ) (l : Line) (before after : List ℕ) → line_of text ≡ Some l → ((ran : Ran) → RunsSo old ran → GoesOn new ran l before after)
-    → (texts : List (List ℕ)) → Took old texts → Goes (λ z. Took new z) texts_output texts text before after
-takes old new text l before after is goes texts t =
-    let g = goes (with_schedule fresh (judged_texts texts).lines) t.made in record {
-      taken = took_more old new texts text l t is g.made;
-      added = output_of (with_schedule fresh (judged_texts texts).lines) l;
-      grows = output_more texts text l t.are_lines is;
-      wrote = g.wrote;
-    }
+-- ---- what is told of lines
 
-breaks_by : (old new : SimValue) (text : List ℕ) (l : Line) → line_of text ≡ Some l → (texts : List (List ℕ)) → Took old texts
-    → MayHaveBroken new (with_schedule fresh (judged_texts texts).lines) l → Breaks (λ z. Took new z) (λ z w. Broke new z w) texts_output texts text
-breaks_by old new text l is texts t (inl (inl same)) = inl (record { are_lines = t.are_lines; made = same })
-breaks_by old new text l is texts t (inl (inr made)) =
-    inr (inl (
-      took_more old new texts text l t is made,
-      (
-        output_of (with_schedule fresh (judged_texts texts).lines) l,
-        output_more texts text l t.are_lines
-            is,
-      ),
-    ))
-breaks_by old new text l is texts t (inr part) = inr (inr (record { are_lines = t.are_lines; line = l; is = is; part = part }))
+-- the text of a history begins with that of its earlier turns
+abbrev pub Grows : (List Turn → List ℕ) → Type 0
+Grows text = (h : List Turn) (turn : Turn) → TextGoesOn (text h) (text (turn ∷ h))
 
-pub breaks : (old new : SimValue) (text : List ℕ) (l : Line) → line_of text ≡ Some l → ((ran : Ran) → RunsSo old ran → MayHaveBroken new ran l)
-    → (texts : List (List ℕ)) → Took old texts → Breaks (λ z. Took new z) (λ z w. Broke new z w) texts_output texts text
-breaks old new text l is may texts t = breaks_by old new text l is texts t (may (with_schedule fresh (judged_texts texts).lines) t.made)
+text_grows : (text : List Turn → List ℕ) → Grows text → (more h : List Turn) → TextGoesOn (text h) (text (more ++ h))
+text_grows text grows [] h = ([], sym (append-nil (text h)))
+text_grows text grows (turn ∷ more) h =
+    let first = text_grows text grows more h in
+    let then = grows (more ++ h) turn in
+    (first.0 ++ then.0, then.1 ∙ ap (λ z. z ++ then.0) first.1 ∙ append_assoc (text h) first.0 then.0)
+
+-- so does that of a line more
+line_text_grows : (text : List Turn → List ℕ) → Grows text → (ran : Ran) (l : Line) → TextGoesOn (text ran.history) (text (with_line ran l).history)
+line_text_grows text grows ran l =
+    let g = line_grows ran l in
+    let t = text_grows text grows g.more ran.history in
+    (t.0, ap text g.grows ∙ t.1)
+
+text_more : (text : List Turn → List ℕ) (texts : List (List ℕ)) (line_text : List ℕ) (l : Line) → (judged_texts texts).ending ≡ whole
+    → line_of line_text ≡ Some l
+    → text (with_schedule fresh (judged_texts (texts ++ line_text ∷ [])).lines).history ≡ text (with_line (with_schedule fresh (judged_texts texts).lines) l).history
+text_more text texts line_text l are is =
+    ap (λ z. text (with_schedule fresh z.lines).history) (one_more texts line_text l are is)
+    ∙ ap (λ (r : Ran). text r.history) (with_schedule-append fresh (judged_texts texts).lines (l ∷ []))
+
+-- what is told of one line more
+told_more : (wanted : Bool) (text : List Turn → List ℕ) (texts : List (List ℕ)) (line_text : List ℕ) (l : Line) (before after : List ℕ)
+    → (judged_texts texts).ending ≡ whole → line_of line_text ≡ Some l → IsTold wanted text (with_schedule fresh (judged_texts texts).lines) l before after
+    → (added : List ℕ) × (told_texts wanted text (texts ++ line_text ∷ []) ≡ told_texts wanted text texts ++ added) × (after ≡ before ++ added)
+told_more true text texts line_text l before after are is wrote =
+    (output_of (with_schedule fresh (judged_texts texts).lines) l, output_more texts line_text l are is, wrote)
+told_more false text texts line_text l before after are is wrote = (wrote.0, text_more text texts line_text l are is ∙ wrote.1, wrote.2)
+
+told_grows : (wanted : Bool) (text : List Turn → List ℕ) → Grows text → (texts : List (List ℕ)) (line_text : List ℕ) (l : Line)
+    → (judged_texts texts).ending ≡ whole → line_of line_text ≡ Some l
+    → TextGoesOn (told_texts wanted text texts) (told_texts wanted text (texts ++ line_text ∷ []))
+told_grows true text grows texts line_text l are is =
+    (output_of (with_schedule fresh (judged_texts texts).lines) l, output_more texts line_text l are is)
+told_grows false text grows texts line_text l are is =
+    let t = line_text_grows text grows (with_schedule fresh (judged_texts texts).lines) l in
+    (t.0, text_more text texts line_text l are is ∙ t.1)
+
+-- ---- a line that was taken
+
+pub takes : (wanted : Bool) (text : List Turn → List ℕ) (old new : SimValue) (line_text : List ℕ) (l : Line) (before after : List ℕ)
+    → line_of line_text ≡ Some l
+    → ((ran : Ran) → RunsSo old ran → Tells wanted text new ran l before after)
+    → (texts : List (List ℕ)) → Took old texts → Goes (λ z. Took new z) (told_texts wanted text) texts line_text before after
+takes wanted text old new line_text l before after is goes texts t =
+    let g = goes (with_schedule fresh (judged_texts texts).lines) t.made in
+    let m = told_more wanted text texts line_text l before after t.are_lines is g.wrote in
+    record { taken = took_more old new texts line_text l t is g.made; added = m.0; grows = m.1; wrote = m.2 }
+
+breaks_by : (wanted : Bool) (text : List Turn → List ℕ) → Grows text → (old new : SimValue) (line_text : List ℕ) (l : Line) → line_of line_text ≡ Some l
+    → (texts : List (List ℕ)) → Took old texts → MayHaveBroken new (with_schedule fresh (judged_texts texts).lines) l
+    → Breaks (λ z. Took new z) (λ z w. Broke new z w) (told_texts wanted text) texts line_text
+breaks_by wanted text grows old new line_text l is texts t (inl (inl same)) = inl (record { are_lines = t.are_lines; made = same })
+breaks_by wanted text grows old new line_text l is texts t (inl (inr made)) =
+    inr (inl (took_more old new texts line_text l t is made, told_grows wanted text grows texts line_text l t.are_lines is))
+breaks_by wanted text grows old new line_text l is texts t (inr part) = inr (inr (record { are_lines = t.are_lines; line = l; is = is; part = part }))
+
+pub breaks : (wanted : Bool) (text : List Turn → List ℕ) → Grows text → (old new : SimValue) (line_text : List ℕ) (l : Line) → line_of line_text ≡ Some l
+    → ((ran : Ran) → RunsSo old ran → MayHaveBroken new ran l)
+    → (texts : List (List ℕ)) → Took old texts → Breaks (λ z. Took new z) (λ z w. Broke new z w) (told_texts wanted text) texts line_text
+breaks wanted text grows old new line_text l is may texts t =
+    breaks_by wanted text grows old new line_text l is texts t (may (with_schedule fresh (judged_texts texts).lines) t.made)
+
+-- ---- a line by its two ways of telling
+
+pub tells_answer : (wanted : Bool) (text : List Turn → List ℕ) (s : SimValue) (ran : Ran) (l : Line) (before after : List ℕ) → wanted ≡ true
+    → GoesOn wanted s ran l before after → Tells wanted text s ran l before after
+tells_answer true text s ran l before after so g = record { made = g.made; wrote = g.wrote }
+tells_answer false text s ran l before after so g = absurd cc
+
+-- the text of the turns since the run of the lines before
+pub tells_text : (wanted : Bool) (text : List Turn → List ℕ) (s : SimValue) (ran : Ran) (l : Line) (since : List Turn) (from to before after : List ℕ)
+    → wanted ≡ false
+    → since ≡ ran.history → GoesOn wanted s ran l from to → AddsText (text since) (text s.history) before after → Tells wanted text s ran l before after
+tells_text true text s ran l since from to before after so is g adds = absurd cc
+tells_text false text s ran l since from to before after so is g adds = record {
+  made = g.made;
+  wrote = (adds.0, sym (ap text g.made.history) ∙ adds.1 ∙ ap (λ h. text h ++ adds.0) is, adds.2);
+}

@@ -81,7 +81,7 @@ pub hand_lawful : (ran : Ran) (at by : ℕ) (key : ShardRef) (o : Option Employe
 hand_lawful ran at by key None is early h past = past
 hand_lawful ran at by key (Some e) is early h past = release_lawful ran at by key e (release_by key (Some e)) refl early (bounded_by by ran.workers e is h) past
 
--- ---- want of memory in the middle of one
+-- ---- out of memory in the middle of one
 
 released_part : (n at by : ℕ) (h k : List Turn) (key : ShardRef) (e : Employed) (o : Option Release) → release_by key (Some e) ≡ o
     → option_map (history_at n h at by) o ≡ Some k

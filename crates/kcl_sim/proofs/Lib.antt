@@ -7,6 +7,7 @@ pub mod LawfulSteps
 pub mod LawfulHands
 pub mod LawfulLines
 pub mod Stepping
+pub mod Wanting
 pub mod Running
 pub mod HandRuns
 pub mod HandLines

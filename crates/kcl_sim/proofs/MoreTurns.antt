@@ -90,7 +90,7 @@ line_grows ran (Step at by) = step_grows ran at by (employed_by by ran.workers)
 line_grows ran (Stop at by) = stop_grows ran by (employed_by by ran.workers)
 line_grows ran (Hand at by key) = handed_grows ran at by key (employed_by by ran.workers)
 
--- ---- want of memory in the middle of one
+-- ---- out of memory in the middle of one
 
 part_by : (n at by : ℕ) (h k : List Turn) (o : Option Release) → option_map (history_at n h at by) o ≡ Some k → n ≤ 3 → GrowsFew h k
 part_by n at by h k None is few = absurd cc

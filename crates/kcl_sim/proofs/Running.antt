@@ -11,6 +11,7 @@ use Rattle.kcl_proc.specs.declared.stock.Kind.{Kind}
 use Rattle.kcl_proc.specs.Stocks.{StandsFor as Calls, asked_of}
 use Rattle.kcl_script.specs.declared.line.Line.TheVariants as line
 use Rattle.kcl_worker.specs.Standing.{StandsFor}
+use Rattle.kcl_sim.specs.Keeping.{if_wanted}
 use Rattle.kcl_sim.specs.Output.{Ran, command_output, raw_turn, step_output, stop_output, with_command, with_step, with_stop}
 use Rattle.kcl_sim.specs.Standing.{ChangedAt, EmployAll, Employs, GoesOn, HasAsked, IsFree, MayHaveRun, RunsSo, SimValue, StepsAt, Stepped, TookAnswer, TurnRan, employed_after, history_after, place_among}
 use Rattle.kcl_sim.specs.Workers.{Employed, actor_at, all_called, command_at, employed_by, hired, place_of, stopped}
@@ -26,39 +27,42 @@ on_ok_so (Err e) h f = tt
 
 -- ---- one more worker
 
-pub hired_goes : (old new : SimValue) (ran : Ran) (w : Stepped) (at name by : ℕ) (kind : Kind) (from : Origin) (before after : List ℕ) → RunsSo old ran → old.over ≡ false
+pub hired_goes : (wanted : Bool) (old new : SimValue) (ran : Ran) (w : Stepped) (at name by : ℕ) (kind : Kind) (from : Origin) (before after : List ℕ)
+    → RunsSo old ran → old.over ≡ false
     → new ≡ record old { workers = old.workers ++ w ∷ [] } → w.made ≡ record { name = name; settings = record usual_settings { from = from } } → w.maker ≡ kind → StandsFor Calls w []
-    → by ≡ length old.workers + MOST_ACTOR + 1 → after ≡ before ++ (codes "worker " ++ (decimal by ++ 10 ∷ []))
-    → GoesOn new ran (line.Worker at name kind from) before after
-hired_goes old new ran w at name by kind from before after s going is made maker stands number wrote =
+    → by ≡ length old.workers + MOST_ACTOR + 1 → after ≡ before ++ if_wanted wanted (codes "worker " ++ (decimal by ++ 10 ∷ []))
+    → GoesOn wanted new ran (line.Worker at name kind from) before after
+hired_goes wanted old new ran w at name by kind from before after s going is made maker stands number wrote =
     let all = s.workers going in
     let actor : by ≡ actor_at (length ran.workers) = omega (arith, number, employ_length old.workers ran.workers all) in
     let e : Employs w (hired name kind from) = record { made = made; kind = λ batch. ap (λ m. asked_of m batch) maker; stands = stands } in
-    subst (λ v. GoesOn v ran (line.Worker at name kind from) before after) (sym is) (record {
+    subst (λ v. GoesOn wanted v ran (line.Worker at name kind from) before after) (sym is) (record {
       made = record { history = s.history; workers = λ g. employ_more old.workers ran.workers w (hired name kind from) all e };
-      wrote = wrote ∙ ap (λ n. before ++ (codes "worker " ++ (decimal n ++ 10 ∷ []))) actor;
+      wrote = wrote ∙ ap (λ n. before ++ if_wanted wanted (codes "worker " ++ (decimal n ++ 10 ∷ []))) actor;
       going = going;
     })
 
 -- ---- an actor without a worker
 
-pub nobody_stops : (old new : SimValue) (ran : Ran) (at by : ℕ) (before after : List ℕ) → RunsSo old ran → old.over ≡ false → new ≡ old → place_among by (length old.workers) ≡ None
-    → after ≡ before ++ (codes "none" ++ 10 ∷ []) → GoesOn new ran (line.Stop at by) before after
-nobody_stops old new ran at by before after s going same none wrote =
+pub nobody_stops : (wanted : Bool) (old new : SimValue) (ran : Ran) (at by : ℕ) (before after : List ℕ) → RunsSo old ran → old.over ≡ false → new ≡ old
+    → place_among by (length old.workers) ≡ None
+    → after ≡ before ++ if_wanted wanted (codes "none" ++ 10 ∷ []) → GoesOn wanted new ran (line.Stop at by) before after
+nobody_stops wanted old new ran at by before after s going same none wrote =
     let is = nobody by (length old.workers) ran.workers (employ_length old.workers ran.workers (s.workers going)) none in
     record {
       made = subst (λ o. RunsSo new (with_stop ran by o)) (sym is) (subst (λ v. RunsSo v ran) (sym same) s);
-      wrote = wrote ∙ ap (λ o. before ++ stop_output o) (sym is);
+      wrote = wrote ∙ ap (λ o. before ++ if_wanted wanted (stop_output o)) (sym is);
       going = ap (λ (v : SimValue). v.over) same ∙ going;
     }
 
-pub nobody_steps : (old new : SimValue) (ran : Ran) (at by : ℕ) (before after : List ℕ) → RunsSo old ran → old.over ≡ false → new ≡ old → place_among by (length old.workers) ≡ None
-    → after ≡ before ++ (codes "none" ++ 10 ∷ []) → GoesOn new ran (line.Step at by) before after
-nobody_steps old new ran at by before after s going same none wrote =
+pub nobody_steps : (wanted : Bool) (old new : SimValue) (ran : Ran) (at by : ℕ) (before after : List ℕ) → RunsSo old ran → old.over ≡ false → new ≡ old
+    → place_among by (length old.workers) ≡ None
+    → after ≡ before ++ if_wanted wanted (codes "none" ++ 10 ∷ []) → GoesOn wanted new ran (line.Step at by) before after
+nobody_steps wanted old new ran at by before after s going same none wrote =
     let is = nobody by (length old.workers) ran.workers (employ_length old.workers ran.workers (s.workers going)) none in
     record {
       made = subst (λ o. RunsSo new (with_step ran at by o)) (sym is) (subst (λ v. RunsSo v ran) (sym same) s);
-      wrote = wrote ∙ ap (λ o. before ++ step_output ran at by o) (sym is);
+      wrote = wrote ∙ ap (λ o. before ++ if_wanted wanted (step_output ran at by o)) (sym is);
       going = ap (λ (v : SimValue). v.over) same ∙ going;
     }
 
@@ -84,15 +88,17 @@ pub replaced : (old : SimValue) (ran : Ran) (by place : ℕ) (was new : Stepped)
 replaced old ran by place was new d w h =
     subst (λ n. EmployAll (slice_set old.workers place new) (slice_set ran.workers n d)) (sym w.at_place) (employ_set old.workers ran.workers place new d w.all h)
 
-pub stop_goes : (old new : SimValue) (ran : Ran) (at by place : ℕ) (was now : Stepped) (before after : List ℕ) → RunsSo old ran → old.over ≡ false → place_among by (length old.workers) ≡ Some place → slice_get old.workers place ≡ Some was
-    → new ≡ record old { workers = slice_set old.workers place now } → ((e : Employed) → Employs was e → Employs now (stopped e)) → after ≡ before ++ (codes "stopping" ++ 10 ∷ [])
-    → GoesOn new ran (line.Stop at by) before after
-stop_goes old new ran at by place was now before after s going there stood is stops wrote =
+pub stop_goes : (wanted : Bool) (old new : SimValue) (ran : Ran) (at by place : ℕ) (was now : Stepped) (before after : List ℕ) → RunsSo old ran
+    → old.over ≡ false → place_among by (length old.workers) ≡ Some place → slice_get old.workers place ≡ Some was
+    → new ≡ record old { workers = slice_set old.workers place now } → ((e : Employed) → Employs was e → Employs now (stopped e))
+    → after ≡ before ++ if_wanted wanted (codes "stopping" ++ 10 ∷ [])
+    → GoesOn wanted new ran (line.Stop at by) before after
+stop_goes wanted old new ran at by place was now before after s going there stood is stops wrote =
     let w = works old ran by place was s going there stood in
-    subst (λ v. GoesOn v ran (line.Stop at by) before after) (sym is) (record {
+    subst (λ v. GoesOn wanted v ran (line.Stop at by) before after) (sym is) (record {
       made = subst (λ o. RunsSo (record old { workers = slice_set old.workers place now }) (with_stop ran by o)) (sym w.is)
           (record { history = s.history; workers = λ g. replaced old ran by place was now (stopped w.e) w (stops w.e w.employs) });
-      wrote = wrote ∙ ap (λ o. before ++ stop_output o) (sym w.is);
+      wrote = wrote ∙ ap (λ o. before ++ if_wanted wanted (stop_output o)) (sym w.is);
       going = going;
     })
 
@@ -105,9 +111,10 @@ step_made : (new : SimValue) (ran : Ran) (at by place : ℕ) (e : Employed) (o :
 step_made new ran at by place e None history workers = record { history = history; workers = λ g. workers }
 step_made new ran at by place e (Some what) history workers = record { history = history; workers = λ g. workers }
 
-pub step_goes : (old new : SimValue) (ran : Ran) (at by place : ℕ) (before after : List ℕ) → RunsSo old ran → old.over ≡ false → place_among by (length old.workers) ≡ Some place
-    → StepsAt at by place old new before after → new.over ≡ false → GoesOn new ran (line.Step at by) before after
-step_goes old new ran at by place before after s going there t still =
+pub step_goes : (wanted : Bool) (old new : SimValue) (ran : Ran) (at by place : ℕ) (before after : List ℕ) → RunsSo old ran → old.over ≡ false
+    → place_among by (length old.workers) ≡ Some place
+    → StepsAt wanted at by place old new before after → new.over ≡ false → GoesOn wanted new ran (line.Step at by) before after
+step_goes wanted old new ran at by place before after s going there t still =
     let c = t.workers in
     let w = works old ran by place c.was s going there c.stood in
     let f = c.related.1 w.e w.employs in
@@ -119,12 +126,13 @@ step_goes old new ran at by place before after s going there t still =
       made = subst (λ o. RunsSo new (with_step ran at by o)) (sym w.is)
           (subst (λ o. RunsSo new (with_command ran at by (all_called w.e) o)) (sym next)
           (step_made new ran at by place w.e t.what (t.history ∙ ap (λ h. history_after h at by t.what) s.history) all));
-      wrote = t.wrote ∙ ap (λ h. before ++ command_output h at by t.what) s.history ∙ ap (λ o. before ++ command_output ran.history at by o) (sym next)
-          ∙ ap (λ o. before ++ step_output ran at by o) (sym w.is);
+      wrote = t.wrote ∙ ap (λ h. before ++ if_wanted wanted (command_output h at by t.what)) s.history
+          ∙ ap (λ o. before ++ if_wanted wanted (command_output ran.history at by o)) (sym next)
+          ∙ ap (λ o. before ++ if_wanted wanted (step_output ran at by o)) (sym w.is);
       going = still;
     }
 
--- ---- want of memory
+-- ---- out of memory
 
 pub step_may : (old new : SimValue) (ran : Ran) (at by place : ℕ) → RunsSo old ran → old.over ≡ false → place_among by (length old.workers) ≡ Some place → new.over ≡ true
     → (new.history ≡ old.history) ⊎ TurnRan at by place old new → MayHaveRun new ran (line.Step at by)
@@ -178,9 +186,11 @@ asked_at old at place ws first second was called lent now result same lt got aga
     }
 
 -- where it was idle
-pub idle_steps : (old new : SimValue) (at by place : ℕ) (result : Option Command) (now : Stepped) (before after : List ℕ) → Asked at place old result now → result ≡ None
-    → new ≡ record old { workers = slice_set old.workers place now } → after ≡ before ++ (codes "idle" ++ 10 ∷ []) → StepsAt at by place old new before after
-idle_steps old new at by place result now before after a none is wrote =
+pub idle_steps : (wanted : Bool) (old new : SimValue) (at by place : ℕ) (result : Option Command) (now : Stepped) (before after : List ℕ)
+    → Asked at place old result now → result ≡ None
+    → new ≡ record old { workers = slice_set old.workers place now } → after ≡ before ++ if_wanted wanted (codes "idle" ++ 10 ∷ [])
+    → StepsAt wanted at by place old new before after
+idle_steps wanted old new at by place result now before after a none is wrote =
     record {
       what = None;
       history = ap (λ (v : SimValue). v.history) is;
@@ -195,11 +205,11 @@ idle_steps old new at by place result now before after a none is wrote =
     }
 
 -- where its turn ran
-turn_steps_of : (old new : SimValue) (at by place : ℕ) (result : Option Command) (what : Command) (mid : List Stepped) (now : Stepped) (before after : List ℕ) → Asked at place old result now → result ≡ Some what
+turn_steps_of : (wanted : Bool) (old new : SimValue) (at by place : ℕ) (result : Option Command) (what : Command) (mid : List Stepped) (now : Stepped) (before after : List ℕ) → Asked at place old result now → result ≡ Some what
     → mid ≡ slice_set old.workers place now → place < length old.workers → new.history ≡ (raw_turn at by what ∷ old.history)
     → ChangedAt place (TookAnswer at by what old.history) mid new.workers
-    → after ≡ before ++ command_output old.history at by (Some what) → StepsAt at by place old new before after
-turn_steps_of old new at by place result what mid now before after a some mid_is lt history changed wrote =
+    → after ≡ before ++ if_wanted wanted (command_output old.history at by (Some what)) → StepsAt wanted at by place old new before after
+turn_steps_of wanted old new at by place result what mid now before after a some mid_is lt history changed wrote =
     let was_now : changed.was ≡ now = same_some changed.was now (sym changed.stood ∙ ap (λ ws. slice_get ws place) mid_is ∙ got_set old.workers place now lt) in
     record {
       what = Some what;
@@ -214,17 +224,17 @@ turn_steps_of old new at by place result what mid now before after a some mid_is
       wrote = wrote;
     }
 
-pub turn_steps : (old new : SimValue) (at by place : ℕ) (result : Option Command) (what : Command) (h : List Turn) (mid : List Stepped) (now : Stepped) (before after : List ℕ) → Asked at place old result now → result ≡ Some what
+pub turn_steps : (wanted : Bool) (old new : SimValue) (at by place : ℕ) (result : Option Command) (what : Command) (h : List Turn) (mid : List Stepped) (now : Stepped) (before after : List ℕ) → Asked at place old result now → result ≡ Some what
     → h ≡ old.history → mid ≡ slice_set old.workers place now → place < length old.workers → new.history ≡ (raw_turn at by what ∷ h)
     → ChangedAt place (TookAnswer at by what h) mid new.workers
-    → after ≡ before ++ command_output h at by (Some what) → StepsAt at by place old new before after
-turn_steps old new at by place result what h mid now before after a some same mid_is lt history changed wrote =
-    turn_steps_of old new at by place result what mid now before after a some mid_is lt
+    → after ≡ before ++ if_wanted wanted (command_output h at by (Some what)) → StepsAt wanted at by place old new before after
+turn_steps wanted old new at by place result what h mid now before after a some same mid_is lt history changed wrote =
+    turn_steps_of wanted old new at by place result what mid now before after a some mid_is lt
     (history ∙ ap (λ k. raw_turn at by what ∷ k) same)
     (subst (λ k. ChangedAt place (TookAnswer at by what k) mid new.workers) same changed)
-    (wrote ∙ ap (λ k. before ++ command_output k at by (Some what)) same)
+    (wrote ∙ ap (λ k. before ++ if_wanted wanted (command_output k at by (Some what))) same)
 
--- after want of memory it ran or not
+-- after running out of memory it ran or not
 pub turn_may : (old new : SimValue) (at by place : ℕ) (result : Option Command) (what : Command) (h : List Turn) (now : Stepped) → Asked at place old result now → result ≡ Some what
     → h ≡ old.history → (new.history ≡ h) ⊎ (new.history ≡ raw_turn at by what ∷ h) → (new.history ≡ old.history) ⊎ TurnRan at by place old new
 turn_may old new at by place result what h now a some same (inl is) = inl (is ∙ same)
@@ -247,13 +257,15 @@ on_any_err (Err e) h = h
 
 -- ---- that a run is over says nothing of its turns and workers
 
-steps_as : (old new : SimValue) (b d : Bool) (at by place : ℕ) (before after : List ℕ) → StepsAt at by place (record old { over = b }) new before after → StepsAt at by place old (record new { over = d }) before after
-steps_as old new b d at by place before after t = record { what = t.what; history = t.history; workers = t.workers; wrote = t.wrote }
+steps_as : (wanted : Bool) (old new : SimValue) (b d : Bool) (at by place : ℕ) (before after : List ℕ)
+    → StepsAt wanted at by place (record old { over = b }) new before after → StepsAt wanted at by place old (record new { over = d }) before after
+steps_as wanted old new b d at by place before after t = record { what = t.what; history = t.history; workers = t.workers; wrote = t.wrote }
 
-pub step_done : (old mid now new : SimValue) (at by place : ℕ) (before after : List ℕ) → mid ≡ record old { over = true } → new ≡ record now { over = false } → StepsAt at by place mid now before after → StepsAt at by place old new before after
-step_done old mid now new at by place before after before_is after_is t =
-    subst (λ v. StepsAt at by place old v before after) (sym after_is)
-    (steps_as old now true false at by place before after (subst (λ v. StepsAt at by place v now before after) before_is t))
+pub step_done : (wanted : Bool) (old mid now new : SimValue) (at by place : ℕ) (before after : List ℕ) → mid ≡ record old { over = true }
+    → new ≡ record now { over = false } → StepsAt wanted at by place mid now before after → StepsAt wanted at by place old new before after
+step_done wanted old mid now new at by place before after before_is after_is t =
+    subst (λ v. StepsAt wanted at by place old v before after) (sym after_is)
+    (steps_as wanted old now true false at by place before after (subst (λ v. StepsAt wanted at by place v now before after) before_is t))
 
 ran_as : (old new : SimValue) (b : Bool) (at by place : ℕ) → TurnRan at by place (record old { over = b }) new → TurnRan at by place old new
 ran_as old new b at by place t = record { was = t.was; stood = t.stood; what = t.what; next = t.next; history = t.history }

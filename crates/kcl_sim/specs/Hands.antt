@@ -1,5 +1,5 @@
 -- A hand-off that is under way in a run, beside its record.
-use Rattle.std.specs.Prelude.{◌≡◌, ◌≤◌, ℕ, List, ◌∷◌, ◌++◌, Some}
+use Rattle.std.specs.Prelude.{◌≡◌, ◌≤◌, ℕ, Bool, List, ◌∷◌, ◌++◌, Some}
 use Rattle.kds_defs.specs.declared.command.Command.{Command}
 use Rattle.kds_defs.specs.declared.command.Turn.{Turn}
 use Rattle.kds_defs.specs.Histories.{answer}
@@ -10,6 +10,7 @@ use Rattle.kcl_hand.specs.Runs.{answered_by, called_up, hand_run, run_hand}
 use Rattle.kcl_hand.specs.Standing.{HandStanding, IsLeaving, StandsFor}
 use Rattle.kcl_proc.specs.declared.stock.Stock.{Stock}
 use Rattle.kcl_proc.specs.Stocks.{StandsFor as Calls}
+use Rattle.kcl_sim.specs.Keeping.{if_wanted}
 use Rattle.kcl_sim.specs.Output.{deal_text, raw_turn, run_text}
 use Rattle.kcl_sim.specs.Standing.{SimValue}
 
@@ -33,12 +34,12 @@ abbrev pub ComesNext : Handing → Command → Type 0
 ComesNext v what = (x : HandOff) → IsHandOf v x → hand_command x.held x.made (state_of x) ≡ Some what
 
 -- the command that comes next ran and was answered, and the call that was due then was made
-pub record MadeRound (at by : ℕ) (old new : SimValue) (v w : Handing) (before after : List ℕ) : Type 0 where
+pub record MadeRound (wanted : Bool) (at by : ℕ) (old new : SimValue) (v w : Handing) (before after : List ℕ) : Type 0 where
   pub what : Command
   pub next : ComesNext v what
   pub history : new.history ≡ raw_turn at by what ∷ old.history
   pub hand : (x : HandOff) → IsHandOf v x → IsHandOf w (called_up (answered_by at by old.history x what))
-  pub wrote : after ≡ before ++ deal_text (deal_at at by old.history what)
+  pub wrote : after ≡ before ++ if_wanted wanted (deal_text (deal_at at by old.history what))
 
 -- memory ran out after its turn ran
 pub record RanCommand (at by : ℕ) (old new : SimValue) (v : Handing) : Type 0 where
@@ -46,10 +47,10 @@ pub record RanCommand (at by : ℕ) (old new : SimValue) (v : Handing) : Type 0 
   pub next : ComesNext v what
   pub history : new.history ≡ raw_turn at by what ∷ old.history
 
--- it ran to its end, and its line of output was added
-pub record RanToEnd (at by : ℕ) (old new : SimValue) (v : Handing) (before after : List ℕ) : Type 0 where
+-- it ran to its end, and its line of output was added, where answers are wanted
+pub record RanToEnd (wanted : Bool) (at by : ℕ) (old new : SimValue) (v : Handing) (before after : List ℕ) : Type 0 where
   pub history : (x : HandOff) → IsHandOf v x → new.history ≡ (hand_run at by old.history x).history
-  pub wrote : (x : HandOff) → IsHandOf v x → after ≡ before ++ run_text (hand_run at by old.history x)
+  pub wrote : (x : HandOff) → IsHandOf v x → after ≡ before ++ if_wanted wanted (run_text (hand_run at by old.history x))
 
 -- memory ran out: the first so many of its turns ran
 pub record RanFirst (at by : ℕ) (old new : SimValue) (v : Handing) : Type 0 where

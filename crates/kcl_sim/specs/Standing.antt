@@ -12,6 +12,7 @@ use Rattle.kcl_hand.specs.Joints.{worker_past}
 use Rattle.kcl_script.specs.declared.line.Line.{Line}
 use Rattle.kds_defs.specs.declared.command.Command.{Command}
 use Rattle.kds_defs.specs.Histories.{answer}
+use Rattle.kcl_sim.specs.Keeping.{AddsText, if_wanted}
 use Rattle.kcl_sim.specs.Output.{Ran, command_output, output_of, part_of, raw_turn, with_line}
 use Rattle.kcl_sim.specs.Workers.{Employed, all_called, answered, command_at, place_of}
 
@@ -19,9 +20,11 @@ use Rattle.kcl_sim.specs.Workers.{Employed, all_called, answered, command_at, pl
 abbrev pub Stepped : Type 0
 Stepped = WorkerStanding Stock Kind
 
--- the turns that ran, the newest first, the workers, and whether memory ran out in a step or a hand-off of one
+-- the turns that ran, the newest first, those of them that ran before the text of turns was last emptied, the workers, and whether
+-- memory ran out in a step or a hand-off of one
 pub record SimValue : Type 0 where
   pub history : List Turn
+  pub told : List Turn
   pub workers : List Stepped
   pub over : Bool
 
@@ -52,11 +55,21 @@ pub record RunsSo (s : SimValue) (ran : Ran) : Type 0 where
 
 -- ---- what a line does
 
--- the line was run after this run: its output was added, the run is that with the line, and it isn't over
-pub record GoesOn (s : SimValue) (ran : Ran) (line : Line) (before after : List ℕ) : Type 0 where
+-- the line was run after this run: its output was added, where answers are wanted, the run is that with the line, and it isn't over
+pub record GoesOn (wanted : Bool) (s : SimValue) (ran : Ran) (line : Line) (before after : List ℕ) : Type 0 where
   pub made : RunsSo s (with_line ran line)
-  pub wrote : after ≡ before ++ output_of ran line
+  pub wrote : after ≡ before ++ if_wanted wanted (output_of ran line)
   pub going : s.over ≡ false
+
+-- what is told of a line was added: its answer, or where answers aren't wanted the text of its turns
+abbrev pub IsTold : Bool → (List Turn → List ℕ) → Ran → Line → List ℕ → List ℕ → Type 0
+IsTold true text ran line before after = after ≡ before ++ output_of ran line
+IsTold false text ran line before after = AddsText (text ran.history) (text (with_line ran line).history) before after
+
+-- the line was run after this run, and what is told of it was added
+pub record Tells (wanted : Bool) (text : List Turn → List ℕ) (s : SimValue) (ran : Ran) (line : Line) (before after : List ℕ) : Type 0 where
+  pub made : RunsSo s (with_line ran line)
+  pub wrote : IsTold wanted text ran line before after
 
 -- memory ran out: the line was run or not
 abbrev pub MayHaveRun : SimValue → Ran → Line → Type 0
@@ -118,11 +131,11 @@ abbrev pub MadeStep : ℕ → ℕ → Option Command → List Turn → Stepped �
 MadeStep at by what h w v = IsFree v × ((e : Employed) → Employs w e → (command_at at (all_called e) ≡ what) × Employs v (employed_after h at by what e))
 
 -- a step of the worker at a place, which gave the command that comes next, where one does
-pub record StepsAt (at by place : ℕ) (old new : SimValue) (before after : List ℕ) : Type 0 where
+pub record StepsAt (wanted : Bool) (at by place : ℕ) (old new : SimValue) (before after : List ℕ) : Type 0 where
   pub what : Option Command
   pub history : new.history ≡ history_after old.history at by what
   pub workers : ChangedAt place (MadeStep at by what old.history) old.workers new.workers
-  pub wrote : after ≡ before ++ command_output old.history at by what
+  pub wrote : after ≡ before ++ if_wanted wanted (command_output old.history at by what)
 
 -- memory ran out after its turn ran
 pub record TurnRan (at by place : ℕ) (old new : SimValue) : Type 0 where

@@ -1,5 +1,6 @@
 -- A run as what takes the lines of an input.
-use Rattle.std.specs.Prelude.{◌≡◌, ℕ, List, Some, None}
+use Rattle.std.specs.Prelude.{◌≡◌, ℕ, Bool, true, false, List, [], Some, None, refl}
+use Rattle.kds_defs.specs.declared.command.Turn.{Turn}
 use Rattle.kds_lines.specs.Lines as input
 use Rattle.kcl_script.specs.declared.line.Line.{Line}
 use Rattle.kcl_script.specs.Line.{line_of}
@@ -27,6 +28,16 @@ pub record Broke (s : SimValue) (texts : List (List ℕ)) (text : List ℕ) : Ty
 abbrev pub IsNoLine : List (List ℕ) → List ℕ → Type 0
 IsNoLine texts text = line_of text ≡ None
 
--- the output of lines
+-- the answers of lines
 abbrev pub texts_output : List (List ℕ) → List ℕ
 texts_output texts = outputs fresh (judged_texts texts).lines
+
+-- what is told of lines: their answers, or where these aren't wanted the text of their turns
+abbrev pub told_texts : Bool → (List Turn → List ℕ) → List (List ℕ) → List ℕ
+told_texts true text texts = texts_output texts
+told_texts false text texts = text (with_schedule fresh (judged_texts texts).lines).history
+
+-- of no line nothing is told
+pub nothing_told : (wanted : Bool) (text : List Turn → List ℕ) → text [] ≡ [] → told_texts wanted text [] ≡ []
+nothing_told true text none = refl
+nothing_told false text none = none

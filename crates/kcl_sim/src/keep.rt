@@ -1,37 +1,69 @@
-//! What a run keeps of its turns: all of them, or none.
-ghost use Rattle.std.specs.Prelude.{◌≡◌, [], ◌∷◌, List, reverse, true, false, IfOk, OnOk, OnErr};
+//! What a run keeps of its turns: all of them, none, or the text of what they add (decision 103).
+ghost use Rattle.std.specs.Prelude.{◌≡◌, ℕ, Bool, [], ◌∷◌, List, refl, reverse, true, false, IfOk, OnOk, OnErr};
 ghost use Rattle.kds_defs.specs.declared.command.Turn.{Turn};
 ghost use Rattle.kds_defs.specs.Histories.{answer};
 ghost use Rattle.kds_defs.specs.Kinds.{is_lease_answer, is_service, is_service_answer};
 ghost use Rattle.kds_defs.specs.Lawful.{IsLawful};
+ghost use Rattle.kds_lines.specs.Taking.{GoesOn};
+ghost use Rattle.kcl_sim.specs.Keeping.{AddsText};
 
-use kds_base::Memory;
+use kds_base::{Memory, Octets};
 use kds_defs::{Answer, Machine, Turn};
 use std::alloc::Global;
 
-/// What a run keeps of its turns.
+/// Decides what a run keeps of its turns.
 pub trait Keep {
-    /// This is what is kept of a history, the newest turn first.
-    ghost keeps: { Self → List Turn → Type 0 };
+    /// `keeps k since h`: `k` has kept what it should of the history `h`, whose newest turn comes first. The text was
+    /// last emptied when the history was `since`.
+    ghost keeps: { Self → List Turn → List Turn → Type 0 };
 
-    /// Applies a turn to the machine, and keeps of it what is to be kept. After `Memory` neither was done.
+    /// Whether the texts of answers are wanted.
+    ghost wanted: { Bool };
+
+    /// The text of a history. A run outputs it if the texts of answers aren't wanted.
+    ghost text: { List Turn → List ℕ };
+
+    ghost nothing: { text [] ≡ [] };
+
+    /// Whether the texts of answers are wanted. If not, no text of an answer is made.
+    fn wants_answers() -> bool
+        ensures { result ≡ wanted };
+
+    /// A further turn only appends to the text of a history.
+    fn grows()
+        ensures { (h : List Turn) (turn : Turn) → GoesOn (text h) (text (turn ∷ h)) };
+
+    /// Applies a turn to the machine, and keeps what should be kept of the turn and of its answer. Precondition: the
+    /// machine stands for a history, and `self` has kept what it should of that history. If memory runs out, the turn
+    /// isn't applied and nothing is kept of it.
     fn apply<M: Machine>(
         &mut self,
         alloc: Global,
         machine: &mut M,
         turn: Turn,
     ) -> Result<Answer, Memory>
-        requires { IsLawful turn }
+        requires lawful { IsLawful turn }
+        requires stands { (since : List Turn) × ((h : List Turn) × (M.stands_for machine.old h × keeps self.old since h)) }
         ensures answered { (h : List Turn) → M.stands_for machine.old h
             → IfOk result (λ a. (a ≡ answer h turn) × M.stands_for machine.new (turn ∷ h)) }
-        ensures added { (h : List Turn) → keeps self.old h → OnOk result (keeps self.new (turn ∷ h)) }
+        ensures added { (since h : List Turn) → M.stands_for machine.old h → keeps self.old since h → OnOk result (keeps self.new since (turn ∷ h)) }
         ensures err { (h : List Turn) → M.stands_for machine.old h → OnErr result (M.stands_for machine.new h) }
-        ensures kept { (h : List Turn) → keeps self.old h → OnErr result (keeps self.new h) }
+        ensures kept { (since h : List Turn) → keeps self.old since h → OnErr result (keeps self.new since h) }
         ensures own { is_service turn.what ≡ true → IfOk result (λ a. is_service_answer a ≡ true) }
         ensures leased { is_service turn.what ≡ false → IfOk result (λ a. is_lease_answer a ≡ true) };
+
+    /// Empties the text of the turns.
+    fn clear(&mut self)
+        ensures { (since h : List Turn) → keeps self.old since h → keeps self.new h h };
+
+    /// Appends to `to` the text of the turns that ran since the text was last emptied. If memory runs out, nothing is
+    /// appended. The call also returns `Memory` if memory for the text ran out in an earlier turn.
+    fn tell(&self, to: &mut Octets) -> Result<(), Memory>
+        ensures ok { (since h : List Turn) → keeps self.now since h → OnOk result (AddsText (text since) (text h) to.old to.new) }
+        ensures err { OnErr result (to.new ≡ to.old) };
 }
 
-/// All turns are kept, in the order in which they ran.
+/// Keeps all turns, in the order in which they ran.
 #[derive(Drop)]
 pub struct AllTurns {
     turns: Vec<Turn>,
@@ -54,7 +86,19 @@ impl AllTurns {
 }
 
 impl Keep for AllTurns {
-    ghost keeps = { λ k h. k.turns.items ≡ reverse h };
+    ghost keeps = { λ k since h. k.turns.items ≡ reverse h };
+
+    ghost wanted = { true };
+
+    ghost text = { λ h. [] };
+
+    ghost nothing = { refl };
+
+    fn wants_answers() -> bool {
+        true
+    }
+
+    fn grows() {}
 
     fn apply<M: Machine>(
         &mut self,
@@ -68,14 +112,33 @@ impl Keep for AllTurns {
         self.turns.push_reserved(copy);
         Ok(answer)
     }
+
+    fn clear(&mut self) {}
+
+    fn tell(&self, to: &mut Octets) -> Result<(), Memory> {
+        let _ = to;
+        Ok(())
+    }
 }
 
-/// No turn is kept, so a run takes the same memory however many there are, and no turn is copied.
+/// Keeps no turn and copies none, so its memory doesn't grow with the number of turns.
 #[derive(Drop)]
 pub struct NoTurns;
 
 impl Keep for NoTurns {
-    ghost keeps = { λ k h. Unit {0} };
+    ghost keeps = { λ k since h. Unit {0} };
+
+    ghost wanted = { true };
+
+    ghost text = { λ h. [] };
+
+    ghost nothing = { refl };
+
+    fn wants_answers() -> bool {
+        true
+    }
+
+    fn grows() {}
 
     fn apply<M: Machine>(
         &mut self,
@@ -85,5 +148,12 @@ impl Keep for NoTurns {
     ) -> Result<Answer, Memory> {
         let _ = alloc;
         machine.apply(turn)
+    }
+
+    fn clear(&mut self) {}
+
+    fn tell(&self, to: &mut Octets) -> Result<(), Memory> {
+        let _ = to;
+        Ok(())
     }
 }

@@ -15,19 +15,20 @@ use kcl_hand::{handed, never_again, service};
 use kcl_script::one_spelling;
 use kds_json::asks_lawfully;
 
-mod hands;
+mod handoffs;
 mod keep;
 mod past;
 mod print;
 mod sim;
 mod steps;
+mod wanted;
 mod workers;
 
 pub use keep::{AllTurns, Keep, NoTurns};
 pub use sim::Sim;
 
-/// The turns of every schedule are lawful, and so are those of its first lines, also where memory ran out in the middle of
-/// the next one.
+/// In every schedule all turns are lawful. The same holds for the turns of the first lines of a schedule, even if
+/// memory ran out in the middle of the next line.
 pub fn lawful()
     ensures whole { (bytes : List ℕ) → IsHistory (history bytes) }
     ensures first { (bytes : List ℕ) (lines later : List Line) → (judged bytes).lines ≡ lines ++ later
@@ -39,8 +40,8 @@ pub fn lawful()
     one_spelling();
 }
 
-/// In every schedule the processors of each worker, and of what it released, are called for the given reads of their
-/// tenures, and so after its first lines.
+/// In every schedule, the processors of each worker, and of each lease that it released, are called for the given reads
+/// of their tenures. The same holds after the first lines of a schedule.
 pub fn served()
     ensures whole { (bytes : List ℕ) → AreAllServed (ran bytes) }
     ensures first { (bytes : List ℕ) (lines later : List Line) → (judged bytes).lines ≡ lines ++ later
@@ -50,9 +51,9 @@ pub fn served()
     service();
 }
 
-/// In every schedule, where a hand-off freed its row, each batch that its processor was handed is given, and what was given
-/// is at or below the row's checkpoint, after each of its lines as long as the row is there. And none of it is delivered in
-/// a tenure of the key that begins after these lines.
+/// Consider a schedule after any of its lines, and a hand-off that freed its row. Each batch that the hand-off's
+/// processor was handed has been given. As long as the row exists, all records that were given are at or below the
+/// row's checkpoint. None of these records is delivered in a tenure of the key that begins after these lines.
 pub fn handed_off()
     ensures marked { (bytes : List ℕ) (lines later : List Line) → (judged bytes).lines ≡ lines ++ later
         → AreHandedOff (with_schedule fresh lines) }
@@ -65,7 +66,7 @@ pub fn handed_off()
     never_again();
 }
 
-/// Lines run one after another: those so far go on to what follows.
+/// Lines run one after another: later lines continue from the state that the earlier lines left.
 pub fn one_after_another()
     ensures judged { (texts more : List (List ℕ)) (end : End) → (judged_texts texts).ending ≡ whole
         → judge 0 (texts ++ more) end ≡ preceded_by (judged_texts texts).lines (judge (length texts) more end) }
@@ -73,7 +74,7 @@ pub fn one_after_another()
     ensures outputs { (ran : Ran) (ls ks : List Line) → outputs ran (ls ++ ks) ≡ outputs ran ls ++ outputs (with_schedule ran ls) ks }
 {}
 
-/// A line adds at most three turns to a run, and so does one in whose middle memory ran out.
+/// A line adds at most three turns to a run, even if memory runs out in the middle of the line.
 pub fn few_turns()
     ensures line { (ran : Ran) (line : Line) → GrowsFew ran.history (with_line ran line).history }
     ensures part { (s : SimValue) (ran : Ran) (line : Line) → HasRunPart s ran line → GrowsFew ran.history s.history }

@@ -1,4 +1,5 @@
-//! Lines of output. Short ones are made in a room that is used again; each is added whole, or nothing of it.
+//! Functions that add lines of output. A short line is first made in a buffer that is reused. A line is added whole or
+//! not at all.
 ghost use Rattle.std.specs.Prelude.{◌≡◌, [], ◌∷◌, ◌++◌, codes, decimal, take, vec_len, true, false, IsUtf8, OnOk, OnErr};
 ghost use Rattle.kds_defs.specs.Kinds.{is_lease_answer};
 ghost use Rattle.kds_reply.specs.Replies.{fault_reply};
@@ -13,7 +14,7 @@ use kds_json_members::Fault;
 use kds_reply::fault;
 use std::alloc::Global;
 
-/// Adds a status, and a space where a body follows it. After `Memory` a front of them may have been added.
+/// Adds a status, and a space if a body follows. If memory runs out, a prefix of this may have been added.
 fn fill_head(alloc: Global, status: u16, body: &[u8], line: &mut Octets) -> Result<(), Memory>
     ensures { OnOk result (line.new ++ body.now ≡ line.old ++ (decimal status ++ body_part body.now)) }
 {
@@ -24,7 +25,7 @@ fn fill_head(alloc: Global, status: u16, body: &[u8], line: &mut Octets) -> Resu
     line.extend(b" ".as_slice())
 }
 
-/// Adds what stands before a body, the body, and a line feed. After `Memory` a front of them may have been added.
+/// Adds a line: `head`, `body`, and a line feed. If memory runs out, a prefix of the line may have been added.
 fn add_line(text: &mut Vec<u8>, head: &[u8], body: &[u8]) -> Result<(), Memory>
     ensures front { take (vec_len text.old) text.new.items ≡ text.old.items }
     ensures ok { OnOk result (text.new.items ≡ text.old.items ++ ((head.now ++ body.now) ++ 10 ∷ [])) }
@@ -35,8 +36,8 @@ fn add_line(text: &mut Vec<u8>, head: &[u8], body: &[u8]) -> Result<(), Memory>
     Ok(())
 }
 
-/// Adds a status and a body as a line. The body, which may be long, is copied once, and only what stands before it is made
-/// in `line`. After `Memory` nothing was added.
+/// Adds a line with a status and a body. The body, which may be long, is copied once: only the status is made in
+/// `line`. If memory runs out, nothing is added.
 pub fn print(
     alloc: Global,
     status: u16,
@@ -49,7 +50,7 @@ pub fn print(
 {
     line.clear();
     fill_head(alloc, status, body, line)?;
-    let mut text = to.take()?;
+    let mut text = to.take_vec()?;
     let before = text.len();
     let added = add_line(&mut text, line.as_slice(), body);
     if added.is_err() {
@@ -59,7 +60,8 @@ pub fn print(
     added
 }
 
-/// Adds the line of output of a request with a fault, which is no turn. After `Memory` nothing was added.
+/// Adds the line of output for a request with a fault. Such a request makes no turn. If memory runs out, nothing is
+/// added.
 pub fn print_fault(
     alloc: Global,
     problem: &Fault,
@@ -74,7 +76,7 @@ pub fn print_fault(
     print(alloc, status, body.as_slice(), line, to)
 }
 
-/// Adds the text of an answer to a command for leases as a line. After `Memory` nothing was added.
+/// Adds a line with the text of the answer to a lease command. If memory runs out, nothing is added.
 pub fn print_raw(
     alloc: Global,
     answer: &Answer,
@@ -92,7 +94,7 @@ pub fn print_raw(
     to.extend(line.as_slice())
 }
 
-/// Adds a word as a line. After `Memory` nothing was added.
+/// Adds a line that consists of `word`. If memory runs out, nothing is added.
 pub fn print_word(word: &[u8], line: &mut Octets, to: &mut Octets) -> Result<(), Memory>
     ensures ok { OnOk result (to.new ≡ to.old ++ (word.now ++ 10 ∷ [])) }
     ensures err { OnErr result (to.new ≡ to.old) }
@@ -103,7 +105,7 @@ pub fn print_word(word: &[u8], line: &mut Octets, to: &mut Octets) -> Result<(),
     to.extend(line.as_slice())
 }
 
-/// Adds the number of a worker's actor as a line. After `Memory` nothing was added.
+/// Adds a line with the number of a worker's actor. If memory runs out, nothing is added.
 pub fn print_worker(
     alloc: Global,
     by: u64,
@@ -120,7 +122,7 @@ pub fn print_worker(
     to.extend(line.as_slice())
 }
 
-/// Adds the answer to a worker's command, behind the command, and ends the line.
+/// Adds the answer to a worker's command, behind the command that is already in the line, and ends the line.
 pub fn print_answered(alloc: Global, answer: &Answer, line: &mut Octets) -> Result<(), Memory>
     requires { is_lease_answer answer.now ≡ true }
     ensures { OnOk result (line.new ≡ line.old ++ (codes " = " ++ (answer_text false answer.now ++ 10 ∷ []))) }
@@ -130,7 +132,7 @@ pub fn print_answered(alloc: Global, answer: &Answer, line: &mut Octets) -> Resu
     line.extend(b"\n".as_slice())
 }
 
-/// Adds the answer to a command of a hand-off, behind the command. More of the line follows.
+/// Adds the answer to a hand-off's command, behind the command that is already in the line. The line isn't ended.
 pub fn print_part(alloc: Global, answer: &Answer, line: &mut Octets) -> Result<(), Memory>
     requires { is_lease_answer answer.now ≡ true }
     ensures { OnOk result (line.new ≡ line.old ++ (codes " = " ++ (answer_text false answer.now ++ codes "; "))) }
@@ -140,7 +142,7 @@ pub fn print_part(alloc: Global, answer: &Answer, line: &mut Octets) -> Result<(
     line.extend(b"; ".as_slice())
 }
 
-/// Adds how a hand-off ended, and ends the line.
+/// Adds the outcome of a hand-off, and ends the line.
 pub fn print_left(left: Option<Left>, line: &mut Octets) -> Result<(), Memory>
     ensures { OnOk result (line.new ≡ line.old ++ (left_text left ++ 10 ∷ [])) }
 {

@@ -1,4 +1,4 @@
-//! The lines of workers.
+//! How a run executes the lines that add, step and stop workers.
 ghost use Rattle.std.specs.Prelude.{◌≡◌, ℕ, ◌∷◌, ◌++◌, ◌<◌, ◌≤◌, ◌^◌, length, slice_get, true, false, ◌⊎◌, Some, IfSome, IsSome, OnErr, OnOk};
 ghost use Rattle.kcl_defs.specs.Workers.{usual_settings};
 ghost use Rattle.kds_defs.specs.Histories.{answer};
@@ -6,23 +6,23 @@ ghost use Rattle.kds_defs.specs.Kinds.{is_service};
 ghost use Rattle.kds_defs.specs.Lawful.{IsLawfulCommand};
 ghost use Rattle.kcl_script.specs.declared.line.Line.TheVariants as line;
 ghost use Rattle.kcl_sim.specs.Output.{Ran, command_output, raw_turn};
+ghost use Rattle.kcl_sim.specs.Keeping.{if_wanted};
 ghost use Rattle.kcl_sim.specs.Standing.{ChangedAt, Employs, GoesOn, HasAsked, IsFree, MayHaveRun, RunsSo, StepsAt, TookAnswer, TurnRan, place_among};
 ghost use Rattle.kcl_sim.specs.Workers.{Employed, answered, stopped};
 
 use crate::keep::Keep;
-use crate::print::{print_answered, print_word, print_worker};
 use crate::sim::Sim;
+use crate::wanted::{say_answered, say_command, say_word, say_worker};
 use crate::workers::{absorb, ask, call_all};
 use kcl_defs::Settings;
 use kcl_proc::Kind;
-use kcl_script_fields::print_command;
 use kcl_worker::Worker;
 use kds_base::{Memory, Moment, Octets, WorkerNo};
 use kds_defs::limits::MOST_ACTOR;
 use kds_defs::{Command, Machine, Origin, Turn};
 use std::alloc::Global;
 
-/// The settings of a worker whose rows begin at this origin.
+/// The usual settings of a worker, with `from` as the origin at which its rows begin.
 fn settings(from: Origin) -> Settings
     ensures { result ≡ record usual_settings { from = from } }
 {
@@ -32,7 +32,7 @@ fn settings(from: Origin) -> Settings
 }
 
 impl<M: Machine, K: Keep> Sim<M, K> {
-    /// One more worker, and the number of its actor as a line of output. After `Memory` nothing was done.
+    /// Adds a worker, and adds a line of output with the number of its actor. If memory runs out, nothing has changed.
     pub(crate) fn hire(
         &mut self,
         alloc: Global,
@@ -44,14 +44,15 @@ impl<M: Machine, K: Keep> Sim<M, K> {
     ) -> Result<(), Memory>
         requires name { 1 ≤ name }
         requires going { self.old.over ≡ false }
-        ensures goes { OnOk result ((ran : Ran) → RunsSo self.old ran → GoesOn self.new ran (line.Worker at name kind from) to.old to.new) }
+        ensures goes { OnOk result ((ran : Ran) → RunsSo self.old ran → GoesOn K.wanted self.new ran (line.Worker at name kind from) to.old to.new) }
+        ensures told { OnOk result (self.new.told ≡ self.old.told) }
         ensures kept { OnErr result (self.new ≡ self.old) }
         ensures same { OnErr result (to.new ≡ to.old) }
     {
         let _ = at;
         self.workers.reserve(1)?;
         let by = self.workers.len() as u64 + MOST_ACTOR as u64 + 1;
-        print_worker(alloc, by, &mut self.line, to)?;
+        say_worker::<K>(alloc, by, &mut self.line, to)?;
         let worker = Worker::new(alloc, name, settings(from), kind);
         match self.workers.push(worker) {
             Ok(()) => Ok(()),
@@ -59,8 +60,8 @@ impl<M: Machine, K: Keep> Sim<M, K> {
         }
     }
 
-    /// The place of an actor's worker, where it is one's.
-    pub(crate) fn place_of(&self, by: u32) -> Option<usize>
+    /// The index of the worker of actor `by`, or `None` if that actor has no worker.
+    pub(crate) fn index_of(&self, by: u32) -> Option<usize>
         ensures { result ≡ place_among by (length self.now.workers) }
     {
         if by <= MOST_ACTOR {
@@ -74,26 +75,27 @@ impl<M: Machine, K: Keep> Sim<M, K> {
         }
     }
 
-    /// Stops an actor's worker. After `Memory` nothing was done.
+    /// Stops the worker of actor `by`. If memory runs out, nothing has changed.
     pub(crate) fn stop(&mut self, at: Moment, by: u32, to: &mut Octets) -> Result<(), Memory>
         requires { self.old.over ≡ false }
-        ensures goes { OnOk result ((ran : Ran) → RunsSo self.old ran → GoesOn self.new ran (line.Stop at by) to.old to.new) }
+        ensures goes { OnOk result ((ran : Ran) → RunsSo self.old ran → GoesOn K.wanted self.new ran (line.Stop at by) to.old to.new) }
+        ensures told { OnOk result (self.new.told ≡ self.old.told) }
         ensures kept { OnErr result (self.new ≡ self.old) }
         ensures same { OnErr result (to.new ≡ to.old) }
     {
         let _ = at;
-        match self.place_of(by) {
+        match self.index_of(by) {
             Some(place) => {
-                print_word(b"stopping".as_slice(), &mut self.line, to)?;
+                say_word::<K>(b"stopping".as_slice(), &mut self.line, to)?;
                 self.workers[place].stop();
                 Ok(())
             }
-            None => print_word(b"none".as_slice(), &mut self.line, to),
+            None => say_word::<K>(b"none".as_slice(), &mut self.line, to),
         }
     }
 
-    /// The turn of a worker at a place, whose command this is, and its line of output. After `Memory` nothing was added to
-    /// the output, and the turn ran or not.
+    /// Runs the command `what` as a turn of the worker at `place`, and adds its line of output. If memory runs out,
+    /// nothing is added to the output, and the turn may have run.
     fn turn_of(
         &mut self,
         alloc: Global,
@@ -110,22 +112,23 @@ impl<M: Machine, K: Keep> Sim<M, K> {
         requires asked { IfSome (slice_get self.old.workers place) (λ w. IsSome w.waiting) }
         requires there { place < length self.old.workers }
         ensures over { self.new.over ≡ true }
+        ensures told { OnOk result (self.new.told ≡ self.old.told) }
         ensures history { OnOk result (self.new.history ≡ raw_turn at by what ∷ self.old.history) }
         ensures worker { OnOk result (ChangedAt place (TookAnswer at by what self.old.history) self.old.workers self.new.workers) }
-        ensures output { OnOk result (to.new ≡ to.old ++ command_output self.old.history at by (Some what)) }
+        ensures output { OnOk result (to.new ≡ to.old ++ if_wanted K.wanted (command_output self.old.history at by (Some what))) }
         ensures breaks { OnErr result ((self.new.history ≡ self.old.history) ⊎ (self.new.history ≡ raw_turn at by what ∷ self.old.history)) }
         ensures same { OnErr result (to.new ≡ to.old) }
     {
         let mut text = Octets::new(alloc);
-        print_command(alloc, &what, &mut text)?;
+        say_command::<K>(alloc, &what, &mut text)?;
         let answer = self.run(alloc, Turn { by, at, what })?;
-        print_answered(alloc, &answer, &mut text)?;
+        say_answered::<K>(alloc, &answer, &mut text)?;
         absorb(&mut self.workers[place], at, answer)?;
         to.extend(text.as_slice())
     }
 
-    /// A step of the worker at a place: all calls of its processors that are due, and then its turn. After `Memory` nothing
-    /// was added to the output, and the turn ran or not.
+    /// Makes a step of the worker at `place`: first all processor calls that are due, then its turn. If memory runs
+    /// out, nothing is added to the output, and the turn may have run.
     fn step_at(
         &mut self,
         alloc: Global,
@@ -139,20 +142,21 @@ impl<M: Machine, K: Keep> Sim<M, K> {
         requires there { place < length self.old.workers }
         requires free { IfSome (slice_get self.old.workers place) IsFree }
         ensures over { self.new.over ≡ true }
-        ensures steps { OnOk result (StepsAt at by place self.old self.new to.old to.new) }
+        ensures told { OnOk result (self.new.told ≡ self.old.told) }
+        ensures steps { OnOk result (StepsAt K.wanted at by place self.old self.new to.old to.new) }
         ensures breaks { OnErr result ((self.new.history ≡ self.old.history) ⊎ TurnRan at by place self.old self.new) }
         ensures same { OnErr result (to.new ≡ to.old) }
     {
         call_all(&mut self.workers[place])?;
         match ask(&mut self.workers[place], at) {
             Some(what) => self.turn_of(alloc, at, by, place, what, to),
-            None => print_word(b"idle".as_slice(), &mut self.line, to),
+            None => say_word::<K>(b"idle".as_slice(), &mut self.line, to),
         }
     }
 
-    /// A step of an actor's worker. After `Memory` nothing was added to the output, the turn ran or not, and the run is
-    /// over.
-    pub(crate) fn step(
+    /// Makes a step of the worker of actor `by`. If memory runs out, nothing is added to the output, the turn may have
+    /// run, and the run is over if the actor has a worker.
+    pub(crate) fn step_worker(
         &mut self,
         alloc: Global,
         at: Moment,
@@ -161,12 +165,13 @@ impl<M: Machine, K: Keep> Sim<M, K> {
     ) -> Result<(), Memory>
         requires early { at < 2 ^ 62 }
         requires going { self.old.over ≡ false }
-        ensures goes { OnOk result ((ran : Ran) → RunsSo self.old ran → GoesOn self.new ran (line.Step at by) to.old to.new) }
+        ensures goes { OnOk result ((ran : Ran) → RunsSo self.old ran → GoesOn K.wanted self.new ran (line.Step at by) to.old to.new) }
+        ensures told { OnOk result (self.new.told ≡ self.old.told) }
         ensures breaks { OnErr result ((ran : Ran) → RunsSo self.old ran → MayHaveRun self.new ran (line.Step at by)) }
         ensures same { OnErr result (to.new ≡ to.old) }
     {
-        let Some(place) = self.place_of(by) else {
-            return print_word(b"none".as_slice(), &mut self.line, to);
+        let Some(place) = self.index_of(by) else {
+            return say_word::<K>(b"none".as_slice(), &mut self.line, to);
         };
         self.over = true;
         self.step_at(alloc, at, by, place, to)?;

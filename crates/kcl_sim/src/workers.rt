@@ -1,4 +1,4 @@
-//! What a step makes of a worker. After want of memory some of it may have been done.
+//! What a step does with its worker. If memory runs out in one of these functions, its work may be partly done.
 ghost use Rattle.std.specs.Prelude.{◌≡◌, ◌<◌, ◌^◌, false, None, Result, IfSome, OnOk, IsSome, MatchOption};
 ghost use Rattle.kcl_worker_lists.specs.Lists.{due_in};
 ghost use Rattle.kcl_sim.specs.Standing.{Employs, HasAsked};
@@ -11,7 +11,7 @@ use kcl_worker::{NoRoom, Worker};
 use kds_base::{Memory, Moment};
 use kds_defs::{Answer, Command, let_go};
 
-/// Makes all calls of its processors that are due.
+/// Makes all processor calls that are due.
 pub fn call_all(worker: &mut Worker<Stock, Kind>) -> Result<(), Memory>
     requires { worker.old.waiting ≡ None }
     ensures free { worker.new.waiting ≡ None }
@@ -24,7 +24,7 @@ pub fn call_all(worker: &mut Worker<Stock, Kind>) -> Result<(), Memory>
     Ok(())
 }
 
-/// The command that comes next, unless the worker is idle.
+/// The worker's next command, or `None` if the worker is idle.
 pub fn ask(worker: &mut Worker<Stock, Kind>, now: Moment) -> Option<Command>
     requires free { worker.old.waiting ≡ None }
     requires none_due { due_in worker.old.consumers ≡ None }
@@ -41,13 +41,13 @@ pub fn ask(worker: &mut Worker<Stock, Kind>, now: Moment) -> Option<Command>
     }
 }
 
-/// The answer that wasn't taken isn't needed any more.
+/// Drops the answer that the worker had no memory to take.
 fn without(left: NoRoom) -> Memory {
     let_go(left.answer);
     Memory
 }
 
-/// Takes the answer to the command that came next.
+/// Takes the answer to the worker's command.
 pub fn absorb(worker: &mut Worker<Stock, Kind>, now: Moment, answer: Answer) -> Result<(), Memory>
     requires { IsSome worker.old.waiting }
     ensures free { OnOk result (worker.new.waiting ≡ None) }

@@ -1,4 +1,4 @@
-//! The entries of commands on streams that were accepted.
+//! The journal entries of accepted commands on streams.
 ghost use Rattle.std.specs.Prelude.{◌≡◌, ◌+◌, ◌<◌, ◌∷◌, [], IfOk};
 ghost use Rattle.std.specs.List.{filter};
 ghost use Rattle.kds_defs.specs.declared.entry.Entry.TheVariants as entry;
@@ -10,7 +10,7 @@ use kds_base::{Items, Memory, Seq, ShardNo, StreamNo};
 use kds_defs::{Command, Entry, NewItem, Outcome, Place, Reply};
 use std::alloc::Global;
 
-/// A list of one entry.
+/// A list with one entry.
 pub fn one(alloc: Global, entry: Entry) -> Result<Items<Entry>, Memory>
     ensures { IfOk result (λ es. es ≡ entry ∷ []) }
 {
@@ -19,7 +19,7 @@ pub fn one(alloc: Global, entry: Entry) -> Result<Items<Entry>, Memory>
     Ok(entries)
 }
 
-/// The entry of a record that was put.
+/// The entry of a record that was put at `place`.
 fn put(stream: StreamNo, item: &NewItem, place: &Place) -> Entry
     ensures { result ≡ put_entry stream item.now place.now }
 {
@@ -33,7 +33,7 @@ fn put(stream: StreamNo, item: &NewItem, place: &Place) -> Entry
     }
 }
 
-/// The entries of records that were put together, without those that the limits held back.
+/// The entries of records that were put by one command. Records that the throughput limits rejected get no entry.
 fn puts(
     alloc: Global,
     stream: StreamNo,
@@ -51,7 +51,7 @@ fn puts(
     Ok(entries)
 }
 
-/// The splits and merges among entries.
+/// The splits and merges among `entries`.
 fn steps(alloc: Global, entries: &[Entry]) -> Result<Items<Entry>, Memory>
     ensures { IfOk result (λ es. es ≡ filter is_step entries.now) }
 {
@@ -92,7 +92,7 @@ fn steps(alloc: Global, entries: &[Entry]) -> Result<Items<Entry>, Memory>
     Ok(steps)
 }
 
-/// The entry of a split of the stream's shard, whose children come after its last one.
+/// The entry of a split of one of the stream's shards. The two children get the numbers after the stream's last shard.
 fn split(stream: &Known, shard: ShardNo, at: u128) -> Entry
     requires drawn { stream.now.drawn < last_number }
     requires shard { stream.now.shard + 1 < last_number }
@@ -108,7 +108,7 @@ fn split(stream: &Known, shard: ShardNo, at: u128) -> Entry
     }
 }
 
-/// The entry of a merge of two of the stream's shards, whose child comes after its last one.
+/// The entry of a merge of two of the stream's shards. The child gets the number after the stream's last shard.
 fn merged(stream: &Known, shard: ShardNo, other: ShardNo) -> Entry
     requires drawn { stream.now.drawn < last_number }
     requires shard { stream.now.shard < last_number }
@@ -123,7 +123,8 @@ fn merged(stream: &Known, shard: ShardNo, other: ShardNo) -> Entry
     }
 }
 
-/// The entries of a command on a stream, by its reply. Condition: the numbers that it draws are there.
+/// The entries of an accepted command on a stream, given its reply. Precondition: the sequence numbers and shard
+/// numbers that the command uses up are within range.
 pub fn on_stream(
     alloc: Global,
     stream: &Known,

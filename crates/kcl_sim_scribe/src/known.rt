@@ -1,4 +1,4 @@
-//! The live streams, as a scribe knows them.
+//! The live streams in a scribe's state.
 ghost use Rattle.std.specs.Prelude.{◌≡◌, option_map};
 ghost use Rattle.kcl_sim_scribe.specs.Known.{changed, known_as, renumbered};
 
@@ -6,7 +6,8 @@ use kds_base::{Name, StreamNo};
 use kds_defs::Entry;
 use std::marker::Model;
 
-/// A live stream: its number, its name, the sequence number that it drew last, or 0, and the number of its last shard.
+/// A live stream: its number, its name, the sequence number that it assigned last (0 if none), and the number of its
+/// last shard.
 #[derive(Drop)]
 pub struct Known {
     pub no: StreamNo,
@@ -24,7 +25,7 @@ impl Model for Known {
 }
 
 impl Known {
-    /// Keeps the numbers that an entry gives the stream.
+    /// Updates the stream's last sequence number and last shard after an entry.
     fn renumber(&mut self, what: &Entry)
         ensures { self.new ≡ renumbered what.now self.old }
     {
@@ -61,14 +62,14 @@ impl Known {
     }
 }
 
-/// The stream of a name, if there is one.
+/// The live stream called `name`, if there is one.
 pub fn find<'a>(streams: &'a [Known], name: &Name) -> Option<&'a Known>
     ensures { option_map (λ k. k.now) result ≡ known_as name.now streams.now }
 {
     streams.iter().find(|known| known.name == *name)
 }
 
-/// Keeps what an entry changes, other than a making.
+/// Updates the streams after an entry, which isn't the creation of a stream.
 pub fn keep(streams: &mut Vec<Known>, what: &Entry)
     ensures { streams.new.items ≡ changed what.now streams.old.items }
 {

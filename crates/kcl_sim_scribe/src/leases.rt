@@ -1,4 +1,4 @@
-//! The entries of commands on leases that were accepted.
+//! The journal entries of accepted commands for leases.
 ghost use Rattle.std.specs.Prelude.{◌≡◌, ◌∷◌, [], IfOk};
 ghost use Rattle.kds_defs.specs.declared.entry.Entry.TheVariants as entry;
 ghost use Rattle.kds_defs.specs.declared.reply.Reply.TheVariants as reply;
@@ -9,8 +9,8 @@ use kds_base::{Items, Memory, Seq, TenureNo};
 use kds_defs::{Command, Entry, Reply, Stored};
 use std::alloc::Global;
 
-/// The numbers of records.
-fn numbers(alloc: Global, batch: &[Stored]) -> Result<Items<Seq>, Memory>
+/// The sequence numbers of the records.
+fn numbers_of(alloc: Global, batch: &[Stored]) -> Result<Items<Seq>, Memory>
     ensures { IfOk result (λ ns. ns ≡ numbers_read batch.now) }
 {
     let mut numbers = Items::new(alloc);
@@ -20,8 +20,8 @@ fn numbers(alloc: Global, batch: &[Stored]) -> Result<Items<Seq>, Memory>
     Ok(numbers)
 }
 
-/// The entry of a read.
-fn read(
+/// The entry of a read, as a list.
+fn read_entries(
     alloc: Global,
     tenure: TenureNo,
     limit: u32,
@@ -30,7 +30,7 @@ fn read(
 ) -> Result<Items<Entry>, Memory>
     ensures { IfOk result (λ es. es ≡ entry.Read tenure limit end (numbers_read batch.now) ∷ []) }
 {
-    let numbers = numbers(alloc, batch)?;
+    let numbers = numbers_of(alloc, batch)?;
     one(
         alloc,
         Entry::Read {
@@ -42,7 +42,7 @@ fn read(
     )
 }
 
-/// The entries of a command that is answered with a row's counter.
+/// The entries of a command whose reply is a row's counter.
 fn counted(alloc: Global, what: &Command, counter: u64) -> Result<Items<Entry>, Memory>
     ensures { IfOk result (λ es. es ≡ lease_entries what.now (reply.Counter counter)) }
 {
@@ -70,7 +70,7 @@ fn counted(alloc: Global, what: &Command, counter: u64) -> Result<Items<Entry>, 
     }
 }
 
-/// The entries of a command that its reply says nothing of.
+/// The entries of a command that needs no value from its reply.
 fn plain(alloc: Global, what: &Command) -> Result<Items<Entry>, Memory>
     ensures { IfOk result (λ es. es ≡ lease_entries what.now reply.Done) }
 {
@@ -85,7 +85,7 @@ fn plain(alloc: Global, what: &Command) -> Result<Items<Entry>, Memory>
     }
 }
 
-/// The entries of a command on leases, by its reply.
+/// The entries of an accepted command for leases, given its reply.
 pub fn on_leases(alloc: Global, what: &Command, reply: &Reply) -> Result<Items<Entry>, Memory>
     ensures { IfOk result (λ es. es ≡ lease_entries what.now reply.now) }
 {
@@ -118,7 +118,7 @@ pub fn on_leases(alloc: Global, what: &Command, reply: &Reply) -> Result<Items<E
         },
         Command::Read { tenure, limit, .. } => match reply {
             Reply::Read { batch, end, .. } => {
-                read(alloc, *tenure, *limit, *end, batch.as_slice())
+                read_entries(alloc, *tenure, *limit, *end, batch.as_slice())
             }
             _ => Ok(Items::new(alloc)),
         },

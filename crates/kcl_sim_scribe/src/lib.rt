@@ -1,4 +1,4 @@
-//! From turns and their answers to the lines of the journal.
+//! Computes the lines of the journal from turns and their answers.
 #![tactic(auto)]
 
 mod entries;

@@ -1,4 +1,4 @@
-//! A scribe.
+//! The scribe, which writes the journal.
 ghost use Rattle.std.specs.Prelude.{◌≡◌, ◌+◌, ◌≤◌, ◌==◌, ◌∷◌, [], false, List, map, IfOk, OnErr, OnOk, option_map};
 ghost use Rattle.kds_defs.specs.declared.command.Turn.{Turn};
 ghost use Rattle.kds_defs.specs.declared.entry.Entry.TheVariants as entry;
@@ -18,8 +18,8 @@ use kds_defs::{Answer, Command, Entry, Reply, Turn};
 use std::alloc::Global;
 use std::marker::Model;
 
-/// Tells the lines of the journal that each turn adds, of the turns and their answers alone. It stands for the turns
-/// that it noted.
+/// Computes the lines that each turn adds to the journal. It uses only the turns and their answers. It stands for the
+/// history of the turns that it has noted.
 #[derive(Drop)]
 pub struct Scribe {
     clock: Moment,
@@ -36,7 +36,7 @@ impl Model for Scribe {
     ghost view = { λ s. record { clock = s.clock; made = s.made; streams = s.streams.items } };
 }
 
-/// The name of the stream that a command changes, other than its making.
+/// The name of the stream that a command changes. `None` if the command changes no stream, or creates it.
 fn changed_name(what: &Command) -> Option<&Name>
     ensures { option_map (λ n. n.now) result ≡ name_changed what.now }
 {
@@ -47,9 +47,9 @@ fn changed_name(what: &Command) -> Option<&Name>
     }
 }
 
-/// The entries of a command that was accepted, other than the making of a stream. Condition: the numbers that it draws
-/// are there.
-fn entries(
+/// The entries of an accepted command that doesn't create a stream. Precondition: the sequence numbers and shard
+/// numbers that the command uses up are within range.
+fn entries_of(
     alloc: Global,
     streams: &[Known],
     what: &Command,
@@ -67,8 +67,8 @@ fn entries(
     }
 }
 
-/// The lines of entries by one actor at one clock.
-fn lines(
+/// The journal lines of `entries`, all with the actor `by` and the clock `clock`.
+fn lines_of(
     alloc: Global,
     clock: Moment,
     by: u32,
@@ -83,7 +83,7 @@ fn lines(
     Ok(lines)
 }
 
-/// Keeps what the entries of lines change, one after another.
+/// Updates the streams after the entries of these lines, one after another.
 fn keep_all(streams: &mut Vec<Known>, lines: &[EntryLine])
     ensures { streams.new.items ≡ changed_by (map (λ l. l.what) lines.now) streams.old.items }
 {
@@ -93,7 +93,7 @@ fn keep_all(streams: &mut Vec<Known>, lines: &[EntryLine])
 }
 
 impl Scribe {
-    /// It noted nothing.
+    /// A scribe that has noted no turn.
     pub fn new(alloc: Global) -> Scribe
         ensures { StandsFor result [] }
     {
@@ -104,7 +104,7 @@ impl Scribe {
         }
     }
 
-    /// A stream was made. After `Memory` all is as before.
+    /// Notes that a stream was created. If memory runs out, nothing has changed.
     fn make(
         &mut self,
         alloc: Global,
@@ -139,7 +139,8 @@ impl Scribe {
         Ok(lines)
     }
 
-    /// A command was accepted: its lines, and what is known from now on. After `Memory` all is as before.
+    /// Notes that a command was accepted: returns its lines, and updates the state. If memory runs out, nothing has
+    /// changed.
     fn accept(
         &mut self,
         alloc: Global,
@@ -156,15 +157,15 @@ impl Scribe {
         if let Command::Create { name, shards } = what {
             return self.make(alloc, clock, by, name, *shards);
         }
-        let entries = entries(alloc, &self.streams, what, reply)?;
-        let lines = lines(alloc, clock, by, entries)?;
+        let entries = entries_of(alloc, &self.streams, what, reply)?;
+        let lines = lines_of(alloc, clock, by, entries)?;
         keep_all(&mut self.streams, lines.as_slice());
         Ok(lines)
     }
 
-    /// The lines of the journal that a turn adds, by its answer. It is to be told every turn, refused ones too.
-    /// Condition: the turn is lawful, and the answer is that of the definitions after the turns that it noted. After
-    /// `Memory` all is as before.
+    /// Notes a turn, and returns the lines that it adds to the journal, given its answer. Every turn must be noted,
+    /// even if it was refused. Precondition: the turn is lawful, and `answer` is the one that the definitions give
+    /// after the turns noted so far. If memory runs out, nothing has changed.
     pub fn note(
         &mut self,
         alloc: Global,

@@ -13,7 +13,7 @@ use Rattle.kds_ends.specs.declared.status.Status.{Status}
 use Rattle.kds_ends.specs.declared.status.Status.TheVariants.{Done, BadLine, Read, Write, Memory, TooLong}
 use Rattle.kcl_audit.specs.Progress.{audit_of, over, sound}
 use Rattle.kcl_audit.specs.Text.{counted}
-use Rattle.kcl_sim_recorder.specs.Recording.{lines_journal}
+use Rattle.kds_cli_runs.specs.Entries.{lines_journal}
 use Rattle.kcl_sim_scribe.specs.Added.{entries_text, history_entries, journal_text}
 use Rattle.kcl_journal.specs.Entries.{end_spelling}
 use Rattle.kcl_sim.specs.Output.{fresh, with_schedule}

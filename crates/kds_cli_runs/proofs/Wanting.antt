@@ -21,7 +21,7 @@ use Rattle.kds_cli_runs.proofs.Journaling.{nothing_recorded, nothing_written}
 
 -- no turn ran
 still : SimValue
-still = record { history = []; workers = []; over = false }
+still = record { history = []; told = []; workers = []; over = false }
 
 none_ran : (output : List Line → List ℕ) (bytes : List ℕ) (held : Option (List ℕ)) → RanBy output Memory bytes held held still
 unfolding still

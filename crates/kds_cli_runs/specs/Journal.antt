@@ -8,10 +8,10 @@ use Rattle.kds_ends.specs.Causes.{AppendsPart}
 use Rattle.kcl_audit.specs.Progress.{audit_of, over, sound}
 use Rattle.kcl_audit.specs.Text.{counted}
 use Rattle.kcl_journal.specs.Entries.{end_spelling, heading}
-use Rattle.kcl_sim_recorder.specs.Recording.{lines_journal}
 use Rattle.kcl_script.specs.declared.line.Line.{Line}
 use Rattle.kcl_sim_scribe.specs.Added.{history_entries, journal_text}
 use Rattle.kcl_sim.specs.Output.{fresh, with_schedule}
+use Rattle.kds_cli_runs.specs.Entries.{lines_journal}
 use Rattle.kcl_sim.specs.Schedule.{whole, too_long, bad_line, ending, history, judged}
 
 -- the entries that a schedule's lines make

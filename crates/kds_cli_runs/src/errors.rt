@@ -1,4 +1,4 @@
-//! What the error output is told. It takes no memory.
+//! Writes messages to the error output. This allocates no memory.
 ghost use Rattle.std.specs.Prelude.{◌≡◌, ◌⊎◌, ◌≤◌, OnOk};
 ghost use Rattle.std.specs.Io.KnownBytes.{Appends};
 ghost use Rattle.kds_ends.specs.Causes.{Rose, HasCause};
@@ -40,7 +40,7 @@ fn write_text<E: Sink>(err: &mut E, status: Status) -> Result<(), Failed>
     }
 }
 
-/// Tells the error output how the run ended. A fault of that output changes nothing.
+/// Writes to the error output how the run ended. If that output fails, the failure is ignored.
 pub fn tell<E: Sink>(err: &mut E, status: Status)
     ensures { Appends (E.held err.old) (E.held err.new) (error_text status) ⊎ Rose (E.faults err.old) (E.faults err.new) }
 {

@@ -1,4 +1,4 @@
-//! The program over the ends of the system that it runs on.
+//! Runs the program with the inputs and outputs of the operating system.
 use crate::errors::tell;
 use crate::program::run;
 use kds_ends::{Status, StdSink, StdSource, SystemClock, TcpDoor};
@@ -8,7 +8,8 @@ use std::process::ExitCode;
 use std::sync::Wait;
 use std::thread::Threads;
 
-/// The words after the program's name, or want of memory. Words that can't be had otherwise, as they are no UTF-8, are no command.
+/// The words after the program's name. `None` if memory runs out. If the words can't be read for another reason,
+/// because they aren't UTF-8, they are treated as words that name no task.
 fn given_words(rt: &HostRuntime) -> Option<Vec<String>> {
     let mut words = Vec::new(rt.alloc());
     match env::args(rt) {
@@ -23,9 +24,10 @@ fn given_words(rt: &HostRuntime) -> Option<Vec<String>> {
     }
 }
 
-/// What `main` does: `run` with the words after the program's name, over the system's input, output, error output, clock and
-/// sockets. It stands here and not in the program, since a check of a program loads anew all that the program reaches. Only
-/// `main` may say who starts threads and waits for them: it gives the system twice.
+/// The body of `main`: calls `run` with the words after the program's name, and with the system's input, output, error
+/// output, clock and sockets. It is in this crate since a check of the program's crate reloads everything that the
+/// program reaches. Only `main` may state which value starts threads and waits for them, so it passes the system twice,
+/// as `rt` and as `threads`.
 pub fn run_here<R: Threads + Wait + Sync>(rt: HostRuntime, threads: &R) -> ExitCode {
     let mut err = StdSink::new(rt.stderr());
     let Some(words) = given_words(&rt) else {

@@ -1,4 +1,4 @@
-//! Laws of every schedule, and of a task that wants memory before anything is read.
+//! Laws of every schedule, and of a task on which memory runs out before anything is read.
 ghost use Rattle.std.specs.Prelude.{◌≡◌, List, ℕ};
 ghost use Rattle.std.specs.declared.option.Option.{Option};
 ghost use Rattle.kds_defs.specs.declared.command.Turn.{Turn};
@@ -15,15 +15,16 @@ ghost use Rattle.kds_cli_runs.specs.Ends.{Performed};
 use kcl_sim::{lawful, served};
 use kds_ends::Status;
 
-/// The state of every lawful history is safe, at its clock.
+/// The state after every lawful history is safe, at the history's clock.
 pub fn safety()
     ensures { (h : List Turn) → IsHistory h → IsSafe (journal_of h) (clock_of h) }
 {
     kcl_laws::step();
 }
 
-/// The state of every schedule's turns is safe, at their clock; its workers' processors are called for what is given; and
-/// what was given in a tenure that was handed off isn't read in a tenure of the key that begins after it.
+/// The state after the turns of every schedule is safe, at their clock. The processors of its workers are called for
+/// the reads that are delivered. Records that were delivered in a tenure which was then handed off aren't read again in
+/// any tenure of the same key that begins later.
 pub fn schedules()
     ensures safe { (bytes : List ℕ) → IsSafe (journal_of (history bytes)) (clock_of (history bytes)) }
     ensures served { (bytes : List ℕ) → AreAllServed (ran bytes) }
@@ -35,7 +36,7 @@ pub fn schedules()
     kcl_sim::handed_off();
 }
 
-/// Want of memory before anything is read is an end of each task, whose door doesn't listen.
+/// Each task may end with Memory before anything is read. Its door doesn't listen then.
 pub fn no_room()
     ensures { (task : Task) (bytes left moments held : Option (List ℕ)) → Performed task Status.Memory
         (record { input = around bytes left; out = around held held; moments = moments; listens = λ port. ⊥ }) }

@@ -1,4 +1,4 @@
-//! The whole program.
+//! The program as a whole.
 ghost use Rattle.std.specs.Prelude.{◌≡◌, ◌⊎◌, Bool, true, false, None, Some, IfSome};
 ghost use Rattle.kds_defs.specs.Histories.{clock as clock_of, journal as journal_of};
 ghost use Rattle.kds_defs.specs.Safe.{IsSafe};
@@ -23,7 +23,7 @@ use std::alloc::Global;
 use std::sync::Wait;
 use std::thread::Threads;
 
-/// Does what the words ask for, and gives the end.
+/// Performs the task that the words name, and returns its status.
 fn perform_words<R, S, K, C, D>(
     rt: &R,
     alloc: Global,
@@ -63,19 +63,20 @@ where
     }
 }
 
-/// The whole program: its words, its input, its output, its error output, its clock and its door. The answer is the exit
-/// status.
+/// The program as a whole, with its words, input, output, error output, clock and door. Returns the exit status.
 ///
-/// - `usage`, `refused`, `untouched`: it is 2 only if the words ask for no task; if they ask for none, it is 2 or 6, and the
-///   input and the output are as they were.
-/// - `door_left`, `input_left`: the door and the input are left alone unless the words ask for them.
-/// - `ended`: each task ends as told, and the error output is told this very end.
-/// - `complete`: over ends whose faults don't rise each task ends as the bytes of its input decide, or by want of memory.
-/// - `safe`, `served`: of a schedule that is replayed, with its answers or its journal, the state of its turns is safe, at
-///   their clock, and its workers' processors are called for the given reads of their tenures.
-/// - `handed`: what was given in a tenure that was handed off isn't read in a tenure of the key that begins after it.
-/// - `sound`: a journal that is whole is found sound.
-/// - `read`, `write`, `door`: 4, 5 and 8 come only where the input, the output or the door failed.
+/// - `usage`, `refused`, `untouched`: the exit status is 2 only if the words name no task. If they name no task, it is
+///   2 or 6, and the input and the output are untouched.
+/// - `door_left`, `input_left`: the door and the input are untouched unless the task uses them.
+/// - `ended`: each task ends as its contract states, and the message for the exit status is written to the error
+///   output.
+/// - `complete`: if no input or output fails, the bytes of the input decide how each task ends, unless memory runs out.
+/// - `safe`, `served`: if a schedule is replayed, with answers or with a journal, the state after its turns is safe, at
+///   their clock, and the processors of its workers are called for the delivered reads of their tenures.
+/// - `handed`: records that were delivered in a tenure which was then handed off aren't read in a tenure of the same
+///   key that begins later.
+/// - `sound`: an audit of a journal that was written to its end finds it sound.
+/// - `read`, `write`, `door`: the exit status is 4, 5 or 8 only if the input, the output or the door failed.
 pub fn run<R, S, K, E, C, D>(
     rt: &R,
     alloc: Global,

@@ -1,4 +1,4 @@
-//! The runs of a schedule, of a connection and of a door.
+//! Runs a schedule, a connection or a door.
 ghost use Rattle.std.specs.Prelude.{◌≡◌, ◌≤◌, [], ℕ, true, IfSome};
 ghost use Rattle.kds_defs.specs.Histories.{clock as clock_of, journal as journal_of};
 ghost use Rattle.kds_defs.specs.Safe.{IsSafe};
@@ -26,39 +26,40 @@ use std::alloc::Global;
 use std::sync::{Mutex, Wait};
 use std::thread::Threads;
 
-/// Runs a schedule from its bytes, and writes the answers of its lines; with `journal`, its journal in their place: the
-/// first line, an entry for each change that the turns make, and the last line exactly with Done. Done: it was read to its
-/// end. BadLine: exactly at the first line that is none. TooLong: exactly where a line or the input is longer than the
-/// limits; these three unless an end failed or memory ran out before. Read, Write: the source or the sink failed.
-/// Memory: want of memory.
+/// Runs a schedule from its bytes, and writes the answers to its lines. If `journal` is true, it writes the journal
+/// instead: the first line, an entry for each change that a turn makes, and the last line exactly if the status is
+/// Done. Done: the schedule was read to its end. BadLine: exactly at the first line that isn't a line of a schedule.
+/// TooLong: exactly if a line or the input is longer than the limits. One of these three is returned unless the input
+/// or the output failed, or memory ran out, before. Read, Write: the source or the sink failed. Memory: memory ran out.
 pub fn run_replay<S: Source, K: Sink>(
     alloc: Global,
     input: &mut S,
     out: &mut K,
     journal: bool,
 ) -> Status
-    // Over a source that tells its bytes, the output of the schedule and its end are these.
+    // If the source's contract exposes its bytes, these bytes determine the output and the status.
     ensures told { IfSome (S.left input.old) (λ bytes.
         ReplayTells journal result bytes (S.left input.new) (K.held out.old) (K.held out.new)) }
 
-    // The turns that ran are those of the schedule's lines that were answered, and with Memory perhaps the first turns of
-    // one more. Their state is safe, at their clock, the lines' workers' processors were called for what is given, and what
-    // these workers handed off isn't read again.
+    // The turns that were made are those of the answered lines of the schedule; if the status is Memory, the first
+    // turns of the next line may have been made too. The state after these turns is safe, at their clock. The workers'
+    // processors were called for the delivered reads, and the records that these workers handed off aren't read again.
     ensures ran { IfSome (S.left input.old) (λ bytes.
         RanSafely (shown journal result) result bytes (K.held out.old) (K.held out.new)) }
 
-    // So it is of all of the schedule's turns and workers.
+    // The same holds for all turns and workers of the whole schedule.
     ensures safe { IfSome (S.left input.old) (λ bytes. IsSafe (journal_of (history bytes)) (clock_of (history bytes))) }
     ensures served { IfSome (S.left input.old) (λ bytes. AreAllServed (ran bytes)) }
 
-    // What was given in a tenure that was handed off isn't read in a tenure of the key that begins after it.
+    // Records that were delivered in a tenure which was then handed off aren't read in a tenure of the same key that
+    // begins later.
     ensures handed { IfSome (S.left input.old) AreHandedOn }
 
-    // A journal that is written to its end is found sound by an audit.
+    // An audit of a journal that was written to its end finds it sound.
     ensures sound { journal ≡ true → result ≡ Status.Done → IfSome (S.left input.old) IsAuditedSound }
 
-    // Over ends whose faults don't rise the bytes decide the end, unless memory runs out: with Done, and so with the whole
-    // output, where all lines are lines of a schedule.
+    // If neither the source nor the sink fails, the bytes decide the status, unless memory runs out. If all lines are
+    // lines of a schedule, the status is Done, and so the whole output is written.
     ensures complete { (Rose (S.faults input.old) (S.faults input.new) → ⊥) → (Rose (K.faults out.old) (K.faults out.new) → ⊥)
         → IfSome (S.left input.old) (λ bytes. ReplaysAs bytes result) }
     ensures read { result ≡ Status.Read → Rose (S.faults input.old) (S.faults input.new) }
@@ -75,22 +76,22 @@ pub fn run_replay<S: Source, K: Sink>(
     run_schedule(alloc, World::new(alloc), input, out).status
 }
 
-/// Serves one connection from its bytes, on a machine without turns, and writes the responses. Done: the bytes ended
-/// at the boundary of two requests, or after one that closes the connection. Cut: exactly where they ended inside a
-/// request. Refused: exactly where a head was refused. Read, Write: the source or the sink failed. Memory: want of
-/// memory.
+/// Serves one connection from its bytes, on a machine without earlier turns, and writes the responses. Done: the bytes
+/// ended between two requests, or a request closed the connection. Cut: exactly if they ended inside a request.
+/// Refused: exactly if a request's head was refused. Read, Write: the source or the sink failed. Memory: memory ran
+/// out.
 pub fn run_answer<S: Source, K: Sink, C: Clock>(
     alloc: Global,
     input: &mut S,
     out: &mut K,
     clock: &mut C,
 ) -> Status
-    // The turns are those of the commands, each at its moment from the clock. Over a source that tells its bytes, the
-    // commands, the responses and the end are those of these bytes.
+    // A turn is made for each command, at a moment from the clock. If the source's contract exposes its bytes, these
+    // bytes determine the commands, the responses and the status.
     ensures served { Served [] (around (S.left input.old) (S.left input.new)) (around (C.moments clock.old) (C.moments clock.new))
         (around (K.held out.old) (K.held out.new)) result }
 
-    // Over ends whose faults don't rise the connection ends as its bytes do, unless memory runs out.
+    // If neither the source nor the sink fails, the bytes decide how the connection ends, unless memory runs out.
     ensures complete { (Rose (S.faults input.old) (S.faults input.new) → ⊥) → (Rose (K.faults out.old) (K.faults out.new) → ⊥)
         → IfSome (S.left input.old) (λ bytes. EndsAs bytes result) }
     ensures read { result ≡ Status.Read → Rose (S.faults input.old) (S.faults input.new) }
@@ -101,7 +102,8 @@ pub fn run_answer<S: Source, K: Sink, C: Clock>(
     serve_lone(alloc, &mut machine, input, out, clock)
 }
 
-/// Serves the connections of a door on a machine without turns, by so many passes, each in a thread of its own.
+/// Serves the connections of a door on a machine without earlier turns, with `passes` passes. Each connection is served
+/// in a thread of its own.
 fn serve_door<R, C, D>(rt: &R, alloc: Global, passes: u32, clock: C, door: &mut D) -> Status
 where
     R: Threads + Wait + Sync,
@@ -121,8 +123,8 @@ where
     }
 }
 
-/// Listens at a port, says so, and serves the connections that come. Door: the door failed. Write: the sink failed.
-/// Memory: want of memory.
+/// Listens at a port, writes `listening`, and serves the connections that arrive. Door: the door failed. Write: the
+/// sink failed. Memory: memory ran out.
 pub fn run_serve<R, K, C, D>(
     rt: &R,
     alloc: Global,
@@ -140,7 +142,7 @@ where
     D::Input: Send,
     D::Output: Send,
     requires { 1 ≤ passes }
-    // It listens at this port before it says so.
+    // It writes `listening` only after it has begun to listen at this port.
     ensures told { ServeTells result (K.held out.old) (K.held out.new) (D.listens door.new port) }
     ensures write { result ≡ Status.Write → Rose (K.faults out.old) (K.faults out.new) }
     ensures door { result ≡ Status.Door → Rose (D.faults door.old) (D.faults door.new) }

@@ -1,4 +1,4 @@
-//! Runs a schedule to its end.
+//! Runs a schedule to its end on any machine.
 ghost use Rattle.std.specs.Prelude.{◌≡◌, [], IfSome};
 ghost use Rattle.kds_ends.specs.Causes.{Rose};
 ghost use Rattle.kds_cli_runs.specs.Answered.{status_of as status_at, RanSo};
@@ -10,14 +10,14 @@ use kds_ends::{Sink, Source, Status};
 use kds_lines::{Outcome, read_lines};
 use std::alloc::Global;
 
-/// How a run of a schedule ended, and the machine and the workers that it leaves. Its turns aren't kept.
+/// The status of a schedule's run, with the machine and the workers at the run's end. The turns aren't kept.
 #[derive(Drop)]
 pub struct Replay<M: Machine> {
     pub status: Status,
     pub sim: Sim<M, NoTurns>,
 }
 
-/// The end of a run by that of the reading of its input: what has no line feed is no line.
+/// The status of a run, given how reading its input ended. If the last line has no line feed, it is a bad line.
 pub fn status_of(outcome: Outcome) -> Status
     ensures { result ≡ status_at outcome }
 {
@@ -31,7 +31,7 @@ pub fn status_of(outcome: Outcome) -> Status
     }
 }
 
-/// Runs a schedule on a machine, and writes its output. Condition: the machine stands for the empty history.
+/// Runs a schedule on a machine, and writes the answers. Precondition: the machine stands for the empty history.
 pub fn run_schedule<M: Machine + Drop, S: Source, K: Sink>(
     alloc: Global,
     machine: M,
@@ -42,8 +42,9 @@ pub fn run_schedule<M: Machine + Drop, S: Source, K: Sink>(
     ensures told { IfSome (S.left input.old) (λ bytes.
         Tells result.status bytes (S.left input.new) (K.held out.old) (K.held out.new)) }
 
-    // The turns that ran are those of the schedule's lines that were answered: all of them, unless an end failed or memory
-    // ran out, and with Memory perhaps the first turns of one more. The machine stands for these turns.
+    // The turns that were made are those of the answered lines of the schedule. All turns of these lines were made,
+    // unless an input or output failed or memory ran out. If the status is Memory, the first turns of the next line may
+    // have been made too. The machine stands for all turns that were made.
     ensures ran { IfSome (S.left input.old) (λ bytes. RanSo result.status bytes (K.held out.old) (K.held out.new) result.sim) }
     ensures read { result.status ≡ Status.Read → Rose (S.faults input.old) (S.faults input.new) }
     ensures write { result.status ≡ Status.Write → Rose (K.faults out.old) (K.faults out.new) }

@@ -1,4 +1,4 @@
-//! What each task runs.
+//! Performs each task.
 ghost use Rattle.std.specs.Prelude.{◌≡◌, false};
 ghost use Rattle.kds_ends.specs.Causes.{Rose};
 ghost use Rattle.kds_cli_words.specs.Words.{IsWithin};
@@ -15,8 +15,9 @@ use std::alloc::Global;
 use std::sync::Wait;
 use std::thread::Threads;
 
-/// Does a task, and gives its end. Condition: its numbers are within the table's ranges. Read, Write, Door: the source, the
-/// sink or the door failed. A task leaves the ends alone that it hasn't (`door_left`, `input_left`).
+/// Performs a task, and returns its status. Precondition: the task's numbers are within their ranges. Read, Write,
+/// Door: the source, the sink or the door failed. A task leaves the inputs and outputs that it doesn't use untouched
+/// (`door_left`, `input_left`).
 pub fn perform<R, S, K, C, D>(
     rt: &R,
     alloc: Global,

@@ -17,7 +17,7 @@ pub returns-then-journal-clause-ran : goal.returns-then-journal-clause-ran
 returns-then-journal-clause-ran g c =
     rw c.if-journal.true
     (ran_safely (recorded c.record_schedule.result.status) c.record_schedule.result.status (g.S.Source.left c.args.input.now) _ _
-    c.record_schedule.result.recorder (record {
+    c.record_schedule.result.sim (record {
       lawful = c.lawful.ensures.first;
       part = c.lawful.ensures.part;
       safe = c.safety.ensures;

@@ -4,7 +4,7 @@ use Rattle.kcl_sim.proofs.sim.Sim.hand_over.Given as goal
 
 -- so many of its commands ran, and what is left of it is left of the whole
 abbrev pub invariant-loop-alloc : goal.invariant-loop-alloc
-invariant-loop-alloc g l = UnderWay l.at l.by l.fn.self l.self l.fn.hand l.hand l.text
+invariant-loop-alloc g l = UnderWay g.K.Keep.wanted l.at l.by l.fn.self l.self l.fn.hand l.hand l.text
 
 abbrev pub decreases-loop-alloc : goal.decreases-loop-alloc
 decreases-loop-alloc g l = turns_left_in l.hand

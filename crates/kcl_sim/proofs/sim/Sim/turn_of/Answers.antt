@@ -5,7 +5,9 @@ use Rattle.kcl_script_fields.specs.Commands.{command_text}
 use Rattle.kcl_sim.specs.Standing.{Employs, SimValue}
 use Rattle.kcl_sim.specs.Workers.{answered}
 use Rattle.kcl_sim.proofs.Employing.{got_there}
+use Rattle.kcl_sim.specs.Keeping.{if_wanted}
 use Rattle.kcl_sim.proofs.Running.{on_any, on_ok_so}
+use Rattle.kcl_sim.proofs.Wanting.{joined}
 use Rattle.kcl_sim.proofs.sim.Sim.turn_of.Goals as goal
 
 pub returns-clause-worker : goal.returns-clause-worker
@@ -23,6 +25,9 @@ returns-clause-worker g c =
 pub returns-clause-output : goal.returns-clause-output
 returns-clause-output g c =
     on_ok_so c.extend.result c.extend.ensures.ok (λ wrote.
-    wrote ∙ ap (λ l. c.args.to.now ++ l) (c.as_slice.ensures ∙ c.in_ok-print_answered.ensures
-    ∙ ap (λ l. l ++ (codes " = " ++ (answer_text false c.in_ok-answer.answer ++ 10 ∷ []))) (c.in_ok-print_command.ensures.ok ∙ ap (λ n. n ++ command_text c.args.what) c.new-text.ensures)
-    ∙ ap (λ a. command_text c.args.what ++ (codes " = " ++ (answer_text false a ++ 10 ∷ []))) c.in_ok-answer.ensures.answered))
+    let w = g.K.Keep.wanted in
+    let end = codes " = " ++ (answer_text false c.in_ok-answer.answer ++ 10 ∷ []) in
+    wrote ∙ ap (λ l. c.args.to.now ++ l) (c.as_slice.ensures ∙ c.in_ok-say_answered.ensures
+    ∙ ap (λ l. l ++ if_wanted w end) (c.in_ok-say_command.ensures.ok ∙ ap (λ n. n ++ if_wanted w (command_text c.args.what)) c.new-text.ensures)
+    ∙ joined w (command_text c.args.what) end
+    ∙ ap (λ a. if_wanted w (command_text c.args.what ++ (codes " = " ++ (answer_text false a ++ 10 ∷ [])))) c.in_ok-answer.ensures.answered))

@@ -1,0 +1,5 @@
+use Rattle.std.proofs.Common.{[], refl}
+use Rattle.kcl_sim.proofs.keep.AllTurnsKeep.grows.Goals as goal
+
+pub returns : goal.returns
+returns c = λ h turn. ([], refl)

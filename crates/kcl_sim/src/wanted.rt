@@ -1,0 +1,171 @@
+//! Functions that add lines of output if `K` wants answers. Otherwise they make no text and add nothing.
+ghost use Rattle.std.specs.Prelude.{◌≡◌, ◌∷◌, ◌++◌, [], codes, decimal, true, false, IsUtf8, OnErr, OnOk};
+ghost use Rattle.kds_defs.specs.Kinds.{is_lease_answer, is_service, is_service_answer};
+ghost use Rattle.kds_reply.specs.Replies.{fault_reply, reply_of};
+ghost use Rattle.kcl_script_fields.specs.Answers.{answer_text};
+ghost use Rattle.kcl_script_fields.specs.Commands.{command_text};
+ghost use Rattle.kcl_sim.specs.Keeping.{if_wanted};
+ghost use Rattle.kcl_sim.specs.Output.{left_text, printed};
+
+use crate::keep::Keep;
+use crate::print::{
+    print, print_answered, print_fault, print_left, print_part, print_raw, print_word, print_worker,
+};
+use kcl_hand::Left;
+use kcl_script_fields::print_command;
+use kds_base::{Memory, Octets};
+use kds_defs::{Answer, Command};
+use kds_json_members::Fault;
+use kds_reply::reply;
+use std::alloc::Global;
+
+/// Adds a line with the answer to a request. If memory runs out, nothing is added.
+fn print_reply(
+    alloc: Global,
+    answer: &Answer,
+    line: &mut Octets,
+    to: &mut Octets,
+) -> Result<(), Memory>
+    requires { is_service_answer answer.now ≡ true }
+    ensures ok { OnOk result (to.new ≡ to.old ++ printed (reply_of answer.now)) }
+    ensures err { OnErr result (to.new ≡ to.old) }
+{
+    let (status, body) = reply(alloc, answer)?;
+    print(alloc, status, body.as_slice(), line, to)
+}
+
+/// Adds a line with the answer to a request. If memory runs out, nothing is added.
+pub fn say_reply<K: Keep>(
+    alloc: Global,
+    answer: &Answer,
+    line: &mut Octets,
+    to: &mut Octets,
+) -> Result<(), Memory>
+    requires { is_service_answer answer.now ≡ true }
+    ensures ok { OnOk result (to.new ≡ to.old ++ if_wanted K.wanted (printed (reply_of answer.now))) }
+    ensures err { OnErr result (to.new ≡ to.old) }
+{
+    if K::wants_answers() {
+        print_reply(alloc, answer, line, to)
+    } else {
+        Ok(())
+    }
+}
+
+/// Adds the line of output for a request with a fault. If memory runs out, nothing is added.
+pub fn say_fault<K: Keep>(
+    alloc: Global,
+    problem: &Fault,
+    line: &mut Octets,
+    to: &mut Octets,
+) -> Result<(), Memory>
+    requires { IsUtf8 problem.now.member }
+    ensures ok { OnOk result (to.new ≡ to.old ++ if_wanted K.wanted (printed (fault_reply problem.now))) }
+    ensures err { OnErr result (to.new ≡ to.old) }
+{
+    if K::wants_answers() {
+        print_fault(alloc, problem, line, to)
+    } else {
+        Ok(())
+    }
+}
+
+/// Adds a line with the text of the answer to a lease command. If memory runs out, nothing is added.
+pub fn say_raw<K: Keep>(
+    alloc: Global,
+    answer: &Answer,
+    long: bool,
+    line: &mut Octets,
+    to: &mut Octets,
+) -> Result<(), Memory>
+    requires { is_lease_answer answer.now ≡ true }
+    ensures ok { OnOk result (to.new ≡ to.old ++ if_wanted K.wanted (answer_text long answer.now ++ 10 ∷ [])) }
+    ensures err { OnErr result (to.new ≡ to.old) }
+{
+    if K::wants_answers() {
+        print_raw(alloc, answer, long, line, to)
+    } else {
+        Ok(())
+    }
+}
+
+/// Adds a line that consists of `word`. If memory runs out, nothing is added.
+pub fn say_word<K: Keep>(word: &[u8], line: &mut Octets, to: &mut Octets) -> Result<(), Memory>
+    ensures ok { OnOk result (to.new ≡ to.old ++ if_wanted K.wanted (word.now ++ 10 ∷ [])) }
+    ensures err { OnErr result (to.new ≡ to.old) }
+{
+    if K::wants_answers() {
+        print_word(word, line, to)
+    } else {
+        Ok(())
+    }
+}
+
+/// Adds a line with the number of a worker's actor. If memory runs out, nothing is added.
+pub fn say_worker<K: Keep>(
+    alloc: Global,
+    by: u64,
+    line: &mut Octets,
+    to: &mut Octets,
+) -> Result<(), Memory>
+    ensures ok { OnOk result (to.new ≡ to.old ++ if_wanted K.wanted (codes "worker " ++ (decimal by ++ 10 ∷ []))) }
+    ensures err { OnErr result (to.new ≡ to.old) }
+{
+    if K::wants_answers() {
+        print_worker(alloc, by, line, to)
+    } else {
+        Ok(())
+    }
+}
+
+/// Adds the text of a command. If memory runs out, nothing is added.
+pub fn say_command<K: Keep>(alloc: Global, what: &Command, to: &mut Octets) -> Result<(), Memory>
+    requires { is_service what.now ≡ false }
+    ensures ok { OnOk result (to.new ≡ to.old ++ if_wanted K.wanted (command_text what.now)) }
+    ensures err { OnErr result (to.new ≡ to.old) }
+{
+    if K::wants_answers() {
+        print_command(alloc, what, to)
+    } else {
+        Ok(())
+    }
+}
+
+/// Adds the answer to a worker's command, behind the command that is already in the line, and ends the line.
+pub fn say_answered<K: Keep>(
+    alloc: Global,
+    answer: &Answer,
+    line: &mut Octets,
+) -> Result<(), Memory>
+    requires { is_lease_answer answer.now ≡ true }
+    ensures { OnOk result (line.new ≡ line.old ++ if_wanted K.wanted (codes " = " ++ (answer_text false answer.now ++ 10 ∷ []))) }
+{
+    if K::wants_answers() {
+        print_answered(alloc, answer, line)
+    } else {
+        Ok(())
+    }
+}
+
+/// Adds the answer to a hand-off's command, behind the command that is already in the line. The line isn't ended.
+pub fn say_part<K: Keep>(alloc: Global, answer: &Answer, line: &mut Octets) -> Result<(), Memory>
+    requires { is_lease_answer answer.now ≡ true }
+    ensures { OnOk result (line.new ≡ line.old ++ if_wanted K.wanted (codes " = " ++ (answer_text false answer.now ++ codes "; "))) }
+{
+    if K::wants_answers() {
+        print_part(alloc, answer, line)
+    } else {
+        Ok(())
+    }
+}
+
+/// Adds the outcome of a hand-off, and ends the line.
+pub fn say_left<K: Keep>(left: Option<Left>, line: &mut Octets) -> Result<(), Memory>
+    ensures { OnOk result (line.new ≡ line.old ++ if_wanted K.wanted (left_text left ++ 10 ∷ [])) }
+{
+    if K::wants_answers() {
+        print_left(left, line)
+    } else {
+        Ok(())
+    }
+}

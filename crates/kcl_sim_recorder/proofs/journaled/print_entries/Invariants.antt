@@ -1,7 +1,0 @@
-use Rattle.std.proofs.Common.{◌≡◌, take}
-use Rattle.kcl_sim_scribe.specs.Added.{entries_text}
-use Rattle.kcl_sim_recorder.proofs.journaled.print_entries.Given as goal
-
--- the text of the lines so far
-abbrev pub invariant-loop-line : goal.invariant-loop-line
-invariant-loop-line l = l.text ≡ entries_text (take l.line-index l.lines)

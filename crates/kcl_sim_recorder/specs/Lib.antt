@@ -1,2 +1,0 @@
-pub mod Journaling
-pub mod Recording

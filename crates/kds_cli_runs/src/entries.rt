@@ -1,0 +1,140 @@
+//! The journal entries of a schedule's turns, as text.
+ghost use Rattle.std.specs.Prelude.{◌≡◌, ◌∷◌, ◌++◌, [], List, ℕ, refl, true, false, IfOk, OnOk, OnErr};
+ghost use Rattle.kds_defs.specs.declared.command.Turn.{Turn};
+ghost use Rattle.kds_defs.specs.Histories.{answer as answer_after};
+ghost use Rattle.kds_defs.specs.Lawful.{IsLawful};
+ghost use Rattle.kcl_audit_sound.specs.Bits.{HaveBits};
+ghost use Rattle.kcl_sim_scribe.specs.Added.{entries_text};
+ghost use Rattle.kcl_sim_scribe.specs.Known.{StandsFor};
+ghost use Rattle.kds_cli_runs.specs.Entries.{IsNoted, entries_of};
+
+use kcl_audit_sound::has_bits;
+use kcl_journal::{EntryLine, print_entry};
+use kcl_sim::Keep;
+use kcl_sim_scribe::{Scribe, turn_by_turn};
+use kds_base::{Memory, Octets};
+use kds_defs::{Answer, Machine, Turn};
+use std::alloc::Global;
+
+/// Keeps the text of the entries that the turns add to the journal. Its contract also records that the numbers of all
+/// turns fit their types, which the soundness of a journal needs. A machine owes some answers even when no memory is
+/// left. So running out of memory for the text stops no turn; from then on there is no text.
+#[derive(Drop)]
+pub struct Journal {
+    scribe: Scribe,
+    /// The text that was added since the text was last emptied. `None` after memory for the text ran out.
+    text: Option<Octets>,
+}
+
+impl Journal {
+    /// The journal before the first turn.
+    pub fn new(alloc: Global) -> Journal
+        ensures text { IsNoted result.scribe result.text [] [] }
+    {
+        Journal {
+            scribe: Scribe::new(alloc),
+            text: Some(Octets::new(alloc)),
+        }
+    }
+}
+
+/// Appends `lines`, each followed by a line feed, to `text`.
+fn print_entries(alloc: Global, lines: &[EntryLine], text: Octets) -> Result<Octets, Memory>
+    ensures { IfOk result (λ to. to ≡ text ++ entries_text lines.now) }
+{
+    let mut text = text;
+    for line in lines {
+        print_entry(alloc, line, &mut text)?;
+        text.extend(b"\n".as_slice())?;
+    }
+    Ok(text)
+}
+
+/// Appends to `text` the entries of the further turn `turn`, whose answer is `answer`. The result is `None` if memory
+/// for the entries runs out. Preconditions: the turn is lawful, and `answer` is the one that the definitions give after
+/// the turns that the scribe has noted.
+fn note_turn(
+    alloc: Global,
+    scribe: &mut Scribe,
+    text: Octets,
+    turn: &Turn,
+    answer: &Answer,
+) -> Option<Octets>
+    requires lawful { IsLawful turn.now }
+    requires answered { (h : List Turn) × (StandsFor scribe.old h × (answer.now ≡ answer_after h turn.now)) }
+    ensures { (since h : List Turn) → StandsFor scribe.old h → entries_of h ≡ entries_of since ++ text → answer.now ≡ answer_after h turn.now
+        → IsNoted scribe.new result since (turn.now ∷ h) }
+{
+    turn_by_turn();
+    match scribe.note(alloc, turn, answer) {
+        Ok(lines) => match print_entries(alloc, lines.as_slice(), text) {
+            Ok(text) => Some(text),
+            Err(_) => None,
+        },
+        Err(_) => None,
+    }
+}
+
+/// Like `note_turn`, but `text` is `None` if memory ran out in an earlier turn, and then the result is `None` too.
+fn note(
+    alloc: Global,
+    scribe: &mut Scribe,
+    text: Option<Octets>,
+    turn: &Turn,
+    answer: &Answer,
+) -> Option<Octets>
+    requires lawful { IsLawful turn.now }
+    requires answered { (since : List Turn) × ((h : List Turn) × (IsNoted scribe.old text since h × (answer.now ≡ answer_after h turn.now))) }
+    ensures { (since h : List Turn) → IsNoted scribe.old text since h → answer.now ≡ answer_after h turn.now
+        → IsNoted scribe.new result since (turn.now ∷ h) }
+{
+    match text {
+        Some(text) => note_turn(alloc, scribe, text, turn, answer),
+        None => None,
+    }
+}
+
+impl Keep for Journal {
+    ghost keeps = { λ j since h. HaveBits h × IsNoted j.scribe j.text since h };
+
+    ghost wanted = { false };
+
+    ghost text = { entries_of };
+
+    ghost nothing = { refl };
+
+    fn wants_answers() -> bool {
+        false
+    }
+
+    fn grows() {
+        turn_by_turn();
+    }
+
+    fn apply<M: Machine>(
+        &mut self,
+        alloc: Global,
+        machine: &mut M,
+        turn: Turn,
+    ) -> Result<Answer, Memory> {
+        has_bits(&turn);
+        let copy = turn.copy(alloc)?;
+        let answer = machine.apply(turn)?;
+        let text = self.text.take();
+        self.text = note(alloc, &mut self.scribe, text, &copy, &answer);
+        Ok(answer)
+    }
+
+    fn clear(&mut self) {
+        if let Some(text) = &mut self.text {
+            text.clear();
+        }
+    }
+
+    fn tell(&self, to: &mut Octets) -> Result<(), Memory> {
+        match &self.text {
+            Some(text) => to.extend(text.as_slice()),
+            None => Err(Memory),
+        }
+    }
+}
