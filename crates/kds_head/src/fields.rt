@@ -1,10 +1,10 @@
-//! The names and values of the headers of a head, read through the spans that the parser gives.
+//! The names and values of a head's headers. The parser gives them as spans of the head's bytes.
 ghost use Rattle.std.specs.Prelude.{◌≡◌, slice_range};
 ghost use Rattle.kds_head.specs.Headers as spec;
 
 use httparse::spans::Span;
 
-/// The bytes that a span covers.
+/// The bytes of `front` that `span` covers.
 pub fn covered(front: &[u8], span: Span) -> &[u8]
     ensures { result.now ≡ slice_range front.now span.start span.end }
 {
@@ -13,8 +13,7 @@ pub fn covered(front: &[u8], span: Span) -> &[u8]
     &front[start..end]
 }
 
-/// Whether two words are the same without regard to ASCII case, as names of headers are compared
-/// (RFC 9110, section 5.1).
+/// Whether two words are equal, ignoring ASCII case. Header names are compared in this way (RFC 9110, section 5.1).
 pub fn same_word(word: &[u8], other: &[u8]) -> bool
     ensures { result ≡ spec.same_word word.now other.now }
 {

@@ -1,4 +1,4 @@
-//! What stands at the front of the bytes of a connection.
+//! Finds a request's head at the front of a connection's bytes.
 ghost use Rattle.std.specs.Prelude.{◌≡◌, length, take, None, IfOk, IfSome};
 ghost use Rattle.httparse.specs.Spans.{RequestExceeds};
 ghost use Rattle.kds_head.specs.Find.{IsFoundIn, IsFound, IsWithinLimits};
@@ -13,12 +13,12 @@ use httparse::{Error, Status};
 use kds_base::Memory;
 use std::alloc::Global;
 
-/// The headers for which room is made at first, since making room costs. Most heads have fewer: one with more is read
-/// again with more room.
+/// The number of headers for which the first parse has space. It is small since initialising the space takes time. Most
+/// heads have fewer headers; a head with more is parsed again with more space.
 const FEW_HEADERS: usize = 16;
 
-/// The bytes that a head may have.
-fn front_of(bytes: &[u8]) -> &[u8]
+/// The first `HEAD_BYTES` of the bytes: a whole head must lie within them.
+fn head_bytes(bytes: &[u8]) -> &[u8]
     ensures { result.now ≡ take HEAD_BYTES bytes.now }
 {
     if bytes.len() > HEAD_BYTES {
@@ -29,7 +29,7 @@ fn front_of(bytes: &[u8]) -> &[u8]
     }
 }
 
-/// What is found where a head may still come.
+/// The finding if the bytes aren't a whole head, but may become one when more bytes follow.
 fn undecided(front: &[u8]) -> Found
     ensures { result ≡ spec.undecided (length front.now) }
 {
@@ -40,7 +40,7 @@ fn undecided(front: &[u8]) -> Found
     }
 }
 
-/// What is found of the bytes that a head may have, with room for so many headers. `None` where a head has more.
+/// The finding in the bytes `front`, with space for as many headers as `spans` has. `None` if there are more headers.
 fn find_in(alloc: Global, front: &[u8], spans: &mut [HeaderSpan]) -> Result<Option<Found>, Memory>
     ensures found { IfOk result (λ o. IfSome o (IsFoundIn front.now)) }
     ensures room { IfOk result (λ o. o ≡ None → RequestExceeds (length spans.old) front.now) }
@@ -53,7 +53,7 @@ fn find_in(alloc: Global, front: &[u8], spans: &mut [HeaderSpan]) -> Result<Opti
         Ok(Status::Partial) => Ok(Some(undecided(front))),
         Err(Error::TooManyHeaders) => Ok(None),
         Err(_) => {
-            // Whether a target is UTF-8 is judged at its end, not before.
+            // A target's UTF-8 is only decided at the target's end, since its last character may be incomplete.
             if ends_in_target(front) {
                 Ok(Some(undecided(front)))
             } else {
@@ -63,8 +63,8 @@ fn find_in(alloc: Global, front: &[u8], spans: &mut [HeaderSpan]) -> Result<Opti
     }
 }
 
-/// What is found of the bytes that a head may have, however many headers there are. Each of them has three bytes or
-/// more: a name, a colon and a line feed.
+/// The finding in the bytes `front`, with any number of headers. The space suffices, since a header has at least three
+/// bytes: a name, a colon and a line feed.
 fn find_long(alloc: Global, front: &[u8]) -> Result<Found, Memory>
     ensures { IfOk result (IsFoundIn front.now) }
 {
@@ -75,7 +75,8 @@ fn find_long(alloc: Global, front: &[u8]) -> Result<Found, Memory>
     }
 }
 
-/// What is found of the bytes that a head may have, with room for one header more than a head may have.
+/// The finding in the bytes `front`. It first tries space for `HEADERS` + 1 headers. This suffices to decide unless
+/// there are even further headers.
 fn find_many(alloc: Global, front: &[u8]) -> Result<Found, Memory>
     ensures { IfOk result (IsFoundIn front.now) }
 {
@@ -86,16 +87,16 @@ fn find_many(alloc: Global, front: &[u8]) -> Result<Found, Memory>
     }
 }
 
-/// What stands at the front of the bytes of a connection: a head that the service takes, the status
-/// with which it refuses, or too few bytes to say (RFC 9112, sections 2 to 6).
+/// What the bytes of a connection begin with: a head that the service accepts, a refusal with its status, or too few
+/// bytes to decide (RFC 9112, sections 2 to 6).
 ///
-/// `Memory` is want of memory: for the operation's name, or for the headers where they are more than `FEW_HEADERS`. No clause says
-/// that it comes only then.
+/// `Memory` means that memory ran out: for the operation's name, or for the headers if there are more than
+/// `FEW_HEADERS`. No clause states that `Memory` is returned only in these cases.
 pub fn head(alloc: Global, bytes: &[u8]) -> Result<Found, Memory>
     ensures found { IfOk result (IsFound bytes.now) }
     ensures limits { IfOk result (IsWithinLimits bytes.now) }
 {
-    let front = front_of(bytes);
+    let front = head_bytes(bytes);
     let mut spans = [EMPTY_HEADER_SPAN; FEW_HEADERS];
     match find_in(alloc, front, spans.as_mut_slice())? {
         Some(found) => Ok(found),

@@ -1,4 +1,4 @@
-//! What one pass over the headers of a head finds of the names that the service reads.
+//! One pass over the headers of a head, which finds the headers that the service reads.
 ghost use Rattle.std.specs.Prelude.{◌≡◌, map, fold};
 ghost use Rattle.std.specs.Option.{option_map};
 ghost use Rattle.httparse.specs.Spans.{header_bytes};
@@ -8,19 +8,19 @@ ghost use Rattle.kds_head.specs.Findings.{seen_after, findings_after, no_finding
 use crate::fields::{covered, same_word};
 use httparse::spans::{HeaderSpan, Span};
 
-/// What was seen of the headers of one name.
+/// How often a header name was seen, with the value if it was seen once.
 #[derive(Clone, Copy)]
 pub enum Seen {
-    /// There is none.
+    /// No header has the name.
     Nowhere,
-    /// There is one, whose value stands here.
+    /// Exactly one header has the name, with this value.
     Once(Span),
-    /// There are several.
+    /// More than one header has the name.
     Often,
 }
 
 impl Seen {
-    /// What was seen after one more header, which has the name or another, and this value.
+    /// The result after one further header with the value `value`. `named` is true if that header has the name.
     fn after(self, named: bool, value: Span) -> Seen
         ensures { result ≡ seen_after self named value }
     {
@@ -33,7 +33,7 @@ impl Seen {
         }
     }
 
-    /// Whether some header has the name.
+    /// Whether at least one header has the name.
     pub fn is_somewhere(self) -> bool
         ensures { result ≡ is_somewhere self }
     {
@@ -44,22 +44,22 @@ impl Seen {
     }
 }
 
-/// What was seen of the headers that the service reads.
+/// The headers that the service reads, as found so far.
 #[derive(Clone, Copy)]
 pub struct Findings {
-    /// Of the name Transfer-Encoding.
+    /// The Transfer-Encoding headers.
     pub encoding: Seen,
-    /// Of the name Content-Length.
+    /// The Content-Length headers.
     pub length: Seen,
-    /// Of the name X-Amz-Target.
+    /// The X-Amz-Target headers.
     pub target: Seen,
-    /// Of the name Content-Type.
+    /// The Content-Type headers.
     pub media_type: Seen,
-    /// Whether some header Connection is `close`.
+    /// Whether there is a Connection header with the value `close`.
     pub close: bool,
 }
 
-/// The findings where no header was read.
+/// The findings before the first header.
 const NO_FINDINGS: Findings = Findings {
     encoding: Seen::Nowhere,
     length: Seen::Nowhere,
@@ -68,14 +68,14 @@ const NO_FINDINGS: Findings = Findings {
     close: false,
 };
 
-/// Whether a header's name is this one. Most names differ in their lengths, so that this is asked first.
+/// Whether `word` is the header name `name`. Most names differ in length, so the lengths are compared first.
 fn is_name(word: &[u8], name: &[u8]) -> bool
     ensures { result ≡ same_word word.now name.now }
 {
     word.len() == name.len() && same_word(word, name)
 }
 
-/// The findings after one more header.
+/// The findings `found`, updated by one further header.
 fn after(front: &[u8], found: Findings, header: &HeaderSpan) -> Findings
     ensures { result ≡ findings_after front.now found header.now }
 {
@@ -108,14 +108,14 @@ fn all_read(front: &[u8], headers: &[HeaderSpan]) -> Findings
         .fold(NO_FINDINGS, |found, header| after(front, found, header))
 }
 
-/// What these headers say of the names that the service reads: each header is read once.
+/// The findings in `headers`. Each header is read once.
 pub fn read_headers(front: &[u8], headers: &[HeaderSpan]) -> Findings
     ensures { AreFindings front.now (map (header_bytes front.now) headers.now) result }
 {
     all_read(front, headers)
 }
 
-/// The value of the one header of a name. `None` where there is none or more than one.
+/// The value of the header seen as `seen`, if there is exactly one such header, otherwise `None`.
 pub fn only_value(front: &[u8], seen: Seen) -> Option<&[u8]>
     ensures { option_map (λ v. v.now) result ≡ value_in front.now seen }
 {

@@ -1,4 +1,4 @@
-//! What a whole head leads to.
+//! Decides whether a whole head is accepted or refused.
 ghost use Rattle.std.specs.Prelude.{◌≡◌, length, map, slice_range, IfOk, nat_lt, codes};
 ghost use Rattle.std.specs.Str.{bytes_eq};
 ghost use Rattle.httparse.specs.Spans.{header_bytes};
@@ -31,7 +31,8 @@ fn is_root(front: &[u8], target: Span) -> bool
     covered(front, target) == b"/".as_slice()
 }
 
-/// The first case of the table that holds.
+/// Decides on a whole head: the checks below run in the order of the service's table, and the first that fails gives
+/// the status of the refusal.
 pub fn judge(
     alloc: Global,
     front: &[u8],

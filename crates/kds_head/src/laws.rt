@@ -1,25 +1,26 @@
-//! Laws of what stands at the front of the bytes of a connection.
+//! Laws of the result of searching the front of a connection's bytes for a head.
 ghost use Rattle.std.specs.Prelude.{◌≡◌, ◌≢◌, ◌++◌, [], List, ℕ};
 ghost use Rattle.kds_head.specs.declared.found.Found.{Found};
 ghost use Rattle.kds_head.specs.Find.{IsFound, IsWithinLimits};
 
-/// At most one finding holds of the same bytes.
+/// The same bytes give at most one result.
 pub fn one_finding()
     ensures { (bytes : List ℕ) (found other : Found) → IsFound bytes found → IsFound bytes other → found ≡ other }
 {}
 
-/// What is decided stays so, whatever bytes follow. So it doesn't matter in which pieces they come.
+/// Once the result is decided, further bytes don't change it. So it doesn't depend on the pieces in which the bytes
+/// arrive.
 pub fn decided_stays()
     ensures { (bytes more : List ℕ) (found : Found) → IsFound bytes found → found ≢ Found.Need → IsFound (bytes ++ more) found }
 {}
 
-/// Bytes that need more are fewer than a head may have, a refusal has a status of the table, and a whole head keeps
-/// within the limits.
+/// If more bytes are needed, there are fewer than `HEAD_BYTES` so far. The status of a refusal is one of those in
+/// `is_refusal`. A whole head keeps within the limits.
 pub fn found_within_limits()
     ensures { (bytes : List ℕ) (found : Found) → IsFound bytes found → IsWithinLimits bytes found }
 {}
 
-/// Without any bytes nothing is decided.
+/// Without any bytes, more bytes are needed.
 pub fn no_bytes_need_more()
     ensures { IsFound [] Found.Need }
 {}

@@ -1,5 +1,5 @@
-//! The heads of HTTP/1.x requests, found at the front of a connection's bytes and judged by the
-//! service's table, and the text of responses (RFC 9110, RFC 9112).
+//! Finds the heads of HTTP/1.x requests at the front of a connection's bytes, checks them against the service's table
+//! of refusals, and writes the text of responses (RFC 9110, RFC 9112).
 #![tactic(auto)]
 
 mod fields;

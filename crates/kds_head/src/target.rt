@@ -1,26 +1,26 @@
-//! Whether bytes end inside a request's target (RFC 9112, section 3.2).
+//! Decides whether bytes end inside a request's target (RFC 9112, section 3.2).
 ghost use Rattle.std.specs.Prelude.{◌≡◌, ◌↔◌, IsTrue, fold};
 ghost use Rattle.httparse.specs.Grammar.{EndsInTarget};
 ghost use Rattle.kds_head.specs.Target.{after_byte};
 
 use httparse::{is_header_name_token, is_uri_token};
 
-/// What a request's bytes have reached, read from their beginning.
+/// The part of a request in which its bytes end.
 #[derive(Clone, Copy)]
 pub enum Reached {
-    /// The empty lines in front, or nothing at all.
+    /// In the empty lines before the request, or before any byte.
     Blank,
-    /// The first byte of an empty line's CR LF.
+    /// After the CR of an empty line, before its LF.
     CarriageReturn,
-    /// The method, of which some bytes were read.
+    /// Inside the method, after at least one of its bytes.
     Method,
-    /// The target, of which some bytes may have been read.
+    /// Inside the target, after zero or more of its bytes.
     Target,
-    /// What is behind the target, or no request.
+    /// After the target, or in bytes that aren't a request.
     Other,
 }
 
-/// What is reached with one more byte.
+/// The part that is reached after the next byte `b`.
 fn after(reached: Reached, b: u8) -> Reached
     ensures { result ≡ after_byte reached b }
 {

@@ -1,4 +1,4 @@
-//! What the values of the headers say: how long the body is, the operation, and its form.
+//! Reads header values: the length of the body, the operation, and whether the body is JSON.
 ghost use Rattle.std.specs.Prelude.{◌≡◌, ◌==◌, ◌||◌, [], false, option_and_then};
 ghost use Rattle.std.specs.Option.{option_map_or};
 ghost use Rattle.kds_head.specs.Findings.{value_in};
@@ -8,7 +8,7 @@ use crate::findings::{Seen, only_value};
 use crate::numbers::LENGTH_DIGITS;
 use kds_base::read_digits;
 
-/// The number that 1 to `LENGTH_DIGITS` digits write.
+/// The number that `text` spells in 1 to `LENGTH_DIGITS` digits, otherwise `None`.
 fn byte_count(text: &[u8]) -> Option<u64>
     ensures { result ≡ value.byte_count text.now }
 {
@@ -19,7 +19,7 @@ fn byte_count(text: &[u8]) -> Option<u64>
     }
 }
 
-/// The bytes of the body. `None` where there isn't exactly one Content-Length, or it is no number.
+/// The number of bytes of the body. `None` if there isn't exactly one Content-Length, or if its value isn't a number.
 pub fn body_length(front: &[u8], lengths: Seen) -> Option<u64>
     ensures { result ≡ option_and_then value.byte_count (value_in front.now lengths) }
 {
@@ -29,7 +29,8 @@ pub fn body_length(front: &[u8], lengths: Seen) -> Option<u64>
     }
 }
 
-/// What follows the version of the service's interface in a target, nothing where it isn't there.
+/// The operation's name in a target: the text after `Kinesis_20131202.`. It is empty if the target has another
+/// beginning.
 fn named_operation(target: &[u8]) -> &[u8]
     ensures { result.now ≡ value.named_operation target.now }
 {
@@ -41,7 +42,8 @@ fn named_operation(target: &[u8]) -> &[u8]
     }
 }
 
-/// The operation that the one X-Amz-Target names, empty where it names none.
+/// The operation's name in the only X-Amz-Target header. It is empty if there isn't exactly one such header, or if its
+/// value names no operation.
 pub fn operation(front: &[u8], targets: Seen) -> &[u8]
     ensures { result.now ≡ option_map_or value.named_operation (value_in front.now targets) [] }
 {
@@ -58,7 +60,7 @@ fn is_json(media_type: &[u8]) -> bool
         || media_type.starts_with(b"application/x-amz-json-1.1;".as_slice())
 }
 
-/// Whether the one Content-Type says that the body is the service's JSON.
+/// Whether there is exactly one Content-Type header, and it is the service's JSON type.
 pub fn says_json(front: &[u8], media_types: Seen) -> bool
     ensures { result ≡ option_map_or value.is_json (value_in front.now media_types) false }
 {
@@ -68,7 +70,8 @@ pub fn says_json(front: &[u8], media_types: Seen) -> bool
     }
 }
 
-/// Whether the connection closes after the answer: where a header says so, and HTTP/1.0 keeps none open.
+/// Whether the connection closes after the answer. It does if `said` is true, which means that a Connection header is
+/// `close`, or if `minor` is 0, which means HTTP/1.0.
 pub fn closes(minor: u8, said: bool) -> bool
     ensures { result ≡ (minor == 0 || said) }
 {

@@ -1,4 +1,4 @@
-//! The text of responses (RFC 9112, section 4).
+//! Writes the text of responses (RFC 9112, section 4).
 ghost use Rattle.std.specs.Prelude.{◌≡◌, ◌≤◌, ◌+◌, ◌++◌, codes, decimal, drop, length, OnOk, OnErr, true};
 ghost use Rattle.std.specs.Vec.{vec_len, vec_capacity};
 ghost use Rattle.kds_head.specs.Response.{line, reason_phrase, content_type, connection, is_status, IsResponse, response_text};
@@ -7,10 +7,10 @@ use itoa::Buffer;
 use kds_base::{Memory, Octets};
 use std::alloc::Global;
 
-/// Room in bytes for all of a response but its body.
+/// An upper bound for the number of a response's bytes without its body.
 pub const FRONT_BYTES: usize = 256;
 
-/// The first line of a response of this status.
+/// The status line of a response with this status.
 fn status_line(status: u16) -> &'static [u8]
     requires { is_status status ≡ true }
     ensures line { result.now ≡ line (codes "HTTP/1.1 " ++ decimal status ++ codes " " ++ reason_phrase status) }
@@ -28,7 +28,7 @@ fn status_line(status: u16) -> &'static [u8]
     }
 }
 
-/// The line of the media type, where the body is JSON.
+/// The Content-Type line if `json` is true, otherwise no bytes.
 fn content_type_line(json: bool) -> &'static [u8]
     ensures line { result.now ≡ content_type json }
     ensures short { length result.now ≤ 50 }
@@ -40,7 +40,7 @@ fn content_type_line(json: bool) -> &'static [u8]
     }
 }
 
-/// The line that says that the connection closes.
+/// The line `Connection: close` if `close` is true, otherwise no bytes.
 fn connection_line(close: bool) -> &'static [u8]
     ensures line { result.now ≡ connection close }
     ensures short { length result.now ≤ 50 }
@@ -48,7 +48,7 @@ fn connection_line(close: bool) -> &'static [u8]
     if close { b"Connection: close\r\n" } else { b"" }
 }
 
-/// Adds bytes for which there is room.
+/// Appends `bytes`. Precondition: the vector's capacity suffices.
 fn add(to: &mut Vec<u8>, bytes: &[u8])
     requires { vec_len to.old + length bytes.now ≤ vec_capacity to.old }
     ensures items { to.new.items ≡ to.old.items ++ bytes.now }
@@ -61,7 +61,7 @@ fn add(to: &mut Vec<u8>, bytes: &[u8])
     }
 }
 
-/// Adds the text of a response to a vector. After `Memory` nothing was added.
+/// Appends a response to a vector. If memory runs out, nothing is added.
 #[tactic(auto, unfolding(crate::specs::Response::response_text))]
 fn add_response(
     status: u16,
@@ -87,9 +87,9 @@ fn add_response(
     Ok(())
 }
 
-/// Adds a response: with `json` an answer of the service, of status 200 or 400, whose body is JSON; else a refusal of
-/// the connection, with no body, after which it closes (RFC 9112, section 9.6). The body is copied once. After `Memory`
-/// nothing was added.
+/// Appends a response. If `json` is true, it is an answer of the service with the status 200 or 400 and a JSON body.
+/// Otherwise it refuses the connection, has no body, and the connection closes after it (RFC 9112, section 9.6). The
+/// body is copied once. If memory runs out, nothing is added.
 pub fn response(
     _alloc: Global,
     status: u16,
@@ -102,13 +102,13 @@ pub fn response(
     ensures ok { OnOk result (to.new ≡ to.old ++ response_text status body.now json close) }
     ensures err { OnErr result (to.new ≡ to.old) }
 {
-    let mut text = to.take()?;
+    let mut text = to.take_vec()?;
     let added = add_response(status, body, json, close, &mut text);
     *to = Octets::unshared(text);
     added
 }
 
-/// Writes a piece right in front of a place, and gives the place where it begins.
+/// Writes `piece` so that it ends before the index `at`, and returns the index at which it starts.
 fn write_before(text: &mut [u8], at: usize, piece: &[u8]) -> usize
     requires within { at ≤ length text.old }
     requires room { length piece.now ≤ at }
@@ -121,9 +121,10 @@ fn write_before(text: &mut [u8], at: usize, piece: &[u8]) -> usize
     start
 }
 
-/// Writes what a response has before its body right in front of the body, which stands in the text from a place on to
-/// the end, and gives the place where the response begins. So no body is copied. Conditions: status and body are those
-/// of a response (see `response`), and at least `FRONT_BYTES` bytes stand before the body.
+/// Writes the status line and headers of a response directly before its body, so that the body needn't be copied. The
+/// body is in `text` from index `body` to the end. Returns the index at which the response begins. Preconditions:
+/// `status` and the body are those of a response (see `response`), and there are at least `FRONT_BYTES` bytes before
+/// the body.
 #[tactic(auto, unfolding(crate::specs::Response::response_text))]
 pub fn put_front(status: u16, json: bool, close: bool, text: &mut [u8], body: usize) -> usize
     requires response { IsResponse status (drop body text.old) json close }

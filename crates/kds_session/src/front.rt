@@ -1,4 +1,4 @@
-//! What stands at the front of the unread bytes.
+//! Reads the message at the front of a session's unread bytes.
 ghost use Rattle.std.specs.Prelude.{◌≡◌, nat_le, IfOk};
 ghost use Rattle.kds_head.specs.Find.{IsFound};
 ghost use Rattle.kds_session.specs.Messages.{size};
@@ -8,20 +8,20 @@ use kds_base::Memory;
 use kds_head::{Found, Head, head};
 use std::alloc::Global;
 
-/// What stands at the front of the unread bytes.
+/// What the unread bytes begin with.
 #[derive(Drop)]
 pub enum Front {
-    /// No whole head is there yet.
+    /// The head isn't complete yet.
     Unfinished,
-    /// A head, whose body isn't whole yet.
+    /// A complete head, whose body isn't complete yet.
     Begun(Head),
-    /// The connection is refused with this status.
+    /// A head that is refused with this status.
     Refused(u16),
-    /// A whole message, of this head.
+    /// A complete message with this head.
     Whole(Head),
 }
 
-/// Whether so many bytes hold the message of a head (RFC 9112, section 6.3).
+/// Whether a message with this head is complete if `bytes` bytes of it are there (RFC 9112, section 6.3).
 fn is_whole(bytes: usize, head: &Head) -> bool
     ensures { result ≡ nat_le (size head.now) bytes }
 {
@@ -31,8 +31,8 @@ fn is_whole(bytes: usize, head: &Head) -> bool
     }
 }
 
-/// What is found at the front of the unread bytes, where the head was kept or is searched for.
-fn found_at(alloc: Global, unread: &[u8], kept: Option<Head>) -> Result<Found, Memory>
+/// The head at the front of the unread bytes: `kept` if it is given, otherwise the result of a search.
+fn find_head(alloc: Global, unread: &[u8], kept: Option<Head>) -> Result<Found, Memory>
     requires { IsKept unread.now kept }
     ensures { IfOk result (IsFound unread.now) }
 {
@@ -46,14 +46,14 @@ fn found_at(alloc: Global, unread: &[u8], kept: Option<Head>) -> Result<Found, M
     }
 }
 
-/// What stands at the front of the unread bytes, of which the head may have been kept.
-pub fn front_of(alloc: Global, unread: &[u8], kept: Option<Head>) -> Result<Front, Memory>
+/// What the unread bytes begin with. `kept` is the head at their front, if an earlier search found it.
+pub fn read_front(alloc: Global, unread: &[u8], kept: Option<Head>) -> Result<Front, Memory>
     requires { IsKept unread.now kept }
     ensures front { IfOk result (IsFront unread.now) }
     ensures status { IfOk result IsKnown }
 {
     kds_head::found_within_limits();
-    match found_at(alloc, unread, kept)? {
+    match find_head(alloc, unread, kept)? {
         Found::Need => Ok(Front::Unfinished),
         Found::Refused(status) => Ok(Front::Refused(status)),
         Found::Whole(head) => {

@@ -1,10 +1,10 @@
-//! Laws of what sessions stand for.
+//! Laws of sessions.
 ghost use Rattle.std.specs.Prelude.{◌≡◌, ◌+◌};
 ghost use Rattle.kds_head.specs.declared.numbers.TheConstants.{HEAD_BYTES, BODY_BYTES};
 ghost use Rattle.kds_session.specs.declared.limits.TheConstants.{REQUESTS, PIECE_BYTES, UNREAD_BYTES};
 ghost use Rattle.kds_session.specs.Laws.{OneReading, WholeText, NothingFollows, FirstPart};
 
-/// Bytes fall into messages in one way at most.
+/// Bytes can be split into messages in at most one way.
 pub fn one_reading()
     ensures { OneReading }
 {
@@ -14,28 +14,28 @@ pub fn one_reading()
     kds_head::no_bytes_need_more();
 }
 
-/// Where `next` gave no command, the commands that were given and what was written are those of all bytes that were
-/// fed, with the answers that were told, and these bytes end as the session shows. So it doesn't matter in which
-/// pieces the bytes came.
+/// Suppose that `next` has returned no command. Then the commands returned so far are exactly the commands in all the
+/// bytes fed to the session. The bytes written so far are exactly the responses, given the answers to these commands.
+/// The session's state shows how the fed bytes end. So nothing depends on the pieces in which the bytes arrived.
 pub fn whole_text()
     ensures { WholeText }
 {}
 
-/// Once the session isn't live, it doesn't matter which bytes follow.
+/// Once the session isn't live, further bytes don't change anything.
 pub fn nothing_follows()
     ensures { NothingFollows }
 {}
 
-/// At every moment, whatever bytes and answers follow, the commands that were given are the first of those of all
-/// bytes, and what was written is a front of the text.
+/// At every moment, and whatever bytes and answers follow, the commands returned so far are the first commands of all
+/// bytes, and the bytes written so far are a prefix of the whole output.
 pub fn first_part()
     ensures { FirstPart }
 {
     one_reading();
 }
 
-/// The limits in numbers, since the definitions name each by the constant of the code. What a session keeps is an
-/// unfinished message, and a piece that is fed.
+/// States the limits as numbers, since the definitions refer to the code's constants by name. A session keeps at most
+/// an unfinished message and one fed piece.
 pub fn session_limits()
     ensures requests { REQUESTS ≡ 1000000 }
     ensures piece { PIECE_BYTES ≡ 65536 }

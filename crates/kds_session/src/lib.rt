@@ -1,5 +1,5 @@
-//! One connection over HTTP/1.x, without its input and output: bytes are fed in pieces, the commands of their requests
-//! come out, answers go in, and the bytes of the responses come out (RFC 9112).
+//! One connection over HTTP/1.x, without its I/O: bytes are fed in pieces, the commands of their requests come out,
+//! answers go in, and the bytes of the responses come out (RFC 9112).
 #![tactic(auto)]
 
 mod front;

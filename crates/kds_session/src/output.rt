@@ -1,4 +1,4 @@
-//! The bytes of responses that are to be sent.
+//! The bytes of responses that have yet to be sent.
 ghost use Rattle.std.specs.Prelude.{◌≡◌, ◌≤◌, [], ◌++◌, drop, length, true, IfOk, OnOk, OnErr};
 ghost use Rattle.kds_defs.specs.Kinds.{is_service_answer};
 ghost use Rattle.kds_head.specs.Response.{IsResponse, response_text};
@@ -12,15 +12,20 @@ use kds_reply::{add_reply, reply};
 use std::alloc::Global;
 use std::marker::Model;
 
-/// The most bytes whose room is used again.
+/// A buffer of at most this many bytes is reused.
 const KEPT_BYTES: usize = 1_048_576;
 
-/// What stands before a body until the front of its response is written there.
+/// Placeholder bytes before a body. The headers are written over them later.
 static GAP: [u8; FRONT_BYTES] = [0; FRONT_BYTES];
 
-/// Writes the response to a command, and gives the place where it begins: the body goes behind a gap, and what stands
-/// before it right in front of it.
-fn write(alloc: Global, answer: &Answer, close: bool, text: &mut Vec<u8>) -> Result<usize, Memory>
+/// Writes the response to a command into `text`, and returns the index at which it begins. It appends the body after a
+/// gap, and then writes the headers into the gap, directly before the body.
+fn write_response(
+    alloc: Global,
+    answer: &Answer,
+    close: bool,
+    text: &mut Vec<u8>,
+) -> Result<usize, Memory>
     requires nothing { text.old.items ≡ [] }
     requires own { is_service_answer answer.now ≡ true }
     ensures begins { IfOk result (λ at. at ≤ length text.new.items) }
@@ -31,12 +36,13 @@ fn write(alloc: Global, answer: &Answer, close: bool, text: &mut Vec<u8>) -> Res
     Ok(put_front(status, true, close, text.as_mut_slice(), GAP.len()))
 }
 
-/// Bytes that are added at the end, and taken from the front once they were sent. Contracts see those that are left.
+/// A queue of bytes: they are appended at the end, and removed from the front once they were sent. Contracts see the
+/// remaining bytes.
 #[derive(Drop)]
 pub struct Output {
     alloc: Global,
     text: Octets,
-    /// How many bytes at the front of the text were sent.
+    /// The number of bytes at the front of `text` that were already sent.
     sent: usize,
 }
 
@@ -51,7 +57,7 @@ impl Model for Output {
 }
 
 impl Output {
-    /// Nothing is to be sent, which takes no memory.
+    /// An empty output. It allocates no memory.
     pub fn new(alloc: Global) -> Output
         ensures { result ≡ [] }
     {
@@ -62,7 +68,7 @@ impl Output {
         }
     }
 
-    /// The bytes that are left.
+    /// The remaining bytes.
     pub fn as_slice(&self) -> &[u8]
         ensures { result.now ≡ self.now }
     {
@@ -70,7 +76,8 @@ impl Output {
         left
     }
 
-    /// Takes away so many bytes at the front, and with the last one the memory, unless it is used again.
+    /// Removes `count` bytes from the front. After the last byte, the buffer is kept for reuse if it is small, and
+    /// otherwise freed.
     pub fn advance(&mut self, count: usize)
         requires { count ≤ length self.old }
         ensures { self.new ≡ drop count self.old }
@@ -84,7 +91,7 @@ impl Output {
         }
     }
 
-    /// Takes all bytes away. Room that isn't large is used again.
+    /// Removes all bytes. A buffer of at most `KEPT_BYTES` bytes is kept for reuse.
     fn empty(&mut self)
         ensures { self.new ≡ [] }
     {
@@ -96,7 +103,7 @@ impl Output {
         self.sent = 0;
     }
 
-    /// Adds bytes. After `Memory` it is as before.
+    /// Appends bytes. If memory runs out, the output is unchanged.
     pub fn extend(&mut self, bytes: &[u8]) -> Result<(), Memory>
         ensures ok { OnOk result (self.new ≡ self.old ++ bytes.now) }
         ensures err { OnErr result (self.new ≡ self.old) }
@@ -104,7 +111,8 @@ impl Output {
         self.text.extend(bytes)
     }
 
-    /// Adds the response to a command. Condition: the answer is one of the stream service. After `Memory` it is as before.
+    /// Appends the response to a command. Precondition: `answer` is one of the stream service, and not one to a command
+    /// for leases. If memory runs out, the output is unchanged.
     pub fn answer(&mut self, answer: &Answer, close: bool) -> Result<(), Memory>
         requires { is_service_answer answer.now ≡ true }
         ensures ok { OnOk result (self.new ≡ self.old ++ answered (reply_of answer.now) close) }
@@ -117,23 +125,24 @@ impl Output {
         self.respond(status, body.as_slice(), close)
     }
 
-    /// The same where nothing is to be sent: the body is written where it stays. After `Memory` its room is given back.
+    /// Does the same as `answer` for an empty output: the body is written in place, and not copied. If memory runs out,
+    /// the buffer is freed.
     fn begin(&mut self, answer: &Answer, close: bool) -> Result<(), Memory>
         requires nothing { self.old ≡ [] }
         requires own { is_service_answer answer.now ≡ true }
         ensures ok { OnOk result (self.new ≡ answered (reply_of answer.now) close) }
         ensures err { OnErr result (self.new ≡ []) }
     {
-        let mut text = self.text.take()?;
+        let mut text = self.text.take_vec()?;
         text.clear();
         self.sent = 0;
-        let begins = write(self.alloc, answer, close, &mut text)?;
+        let begins = write_response(self.alloc, answer, close, &mut text)?;
         self.text = Octets::unshared(text);
         self.sent = begins;
         Ok(())
     }
 
-    /// Adds an answer of the service. After `Memory` it is as before.
+    /// Appends a response of the service. If memory runs out, the output is unchanged.
     fn respond(&mut self, status: u16, body: &[u8], close: bool) -> Result<(), Memory>
         requires { IsResponse status body.now true close }
         ensures ok { OnOk result (self.new ≡ self.old ++ response_text status body.now true close) }
@@ -143,8 +152,8 @@ impl Output {
         response(self.alloc, status, body, true, close, &mut self.text)
     }
 
-    /// Lets go of the bytes that were sent, where the others are no more than these: then at most twice the bytes that
-    /// are left are kept. `extend` doesn't call it, so between two answers all that was sent may still stand here.
+    /// Drops the sent bytes unless they are fewer than the remaining ones. Afterwards the buffer holds at most twice
+    /// the remaining bytes. `extend` doesn't call it, so between two answers all sent bytes may still be in the buffer.
     fn compact(&mut self) -> Result<(), Memory>
         ensures { self.new ≡ self.old }
     {

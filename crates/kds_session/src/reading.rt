@@ -1,4 +1,4 @@
-//! How a session reads on to the next command.
+//! Reads a session's unread bytes up to the next command.
 ghost use Rattle.std.specs.Prelude.{◌≡◌, ◌<◌, ◌≤◌, ◌^◌, ◌++◌, ◌||◌, [], ℕ, List, drop, length, take, nat_le, true, false, None, IfOk, IfSome, IsUtf8, OnOk};
 ghost use Rattle.kds_defs.specs.declared.command.Command.{Command};
 ghost use Rattle.kds_head.specs.Response.{is_refusal, response_text};
@@ -8,7 +8,7 @@ ghost use Rattle.kds_session.specs.Messages.{IsWhole};
 ghost use Rattle.kds_session.specs.Text.{Answers, answered};
 ghost use Rattle.kds_session.specs.Standing.{StandsFor, IsQuiet};
 
-use crate::front::{Front, front_of};
+use crate::front::{Front, read_front};
 use crate::request::request;
 use crate::state::{Standing, Waiting, waiting_for};
 use kds_base::{Memory, Octets};
@@ -20,31 +20,31 @@ use kds_json_members::Fault;
 use kds_reply::fault;
 use std::alloc::Global;
 
-/// What was read and answered so far on the way to the next command. The session takes it over at the end, in one
-/// step, so that it is as before where memory runs out on the way.
+/// The progress made so far on the way to the next command. The session takes it over in one step at the end, so that
+/// the session is unchanged if memory runs out on the way.
 #[derive(Drop)]
 pub struct Reading {
-    /// How many of the unread bytes were read.
+    /// The number of the unread bytes that were read.
     pub read: usize,
-    /// How many requests may still come.
+    /// The number of requests that may still arrive.
     pub left: u32,
-    /// The responses to requests that have a fault, and to a head that is refused.
+    /// The responses to faulty requests, and the response to a refused head.
     pub answers: Octets,
     pub standing: Standing,
     pub waiting: Waiting,
 }
 
-/// What a step of a reading came to.
+/// The result of reading one message.
 #[derive(Drop)]
 pub enum Step {
-    /// Nothing more can be read now.
+    /// Nothing further can be read now.
     Stop,
-    /// A request that has a fault was answered, and the connection goes on.
+    /// A faulty request was answered, and the connection stays open.
     Answered,
     Command(Command),
 }
 
-/// The bytes that are still unread.
+/// The bytes after the first `read` bytes.
 fn after(bytes: &[u8], read: usize) -> &[u8]
     requires { read ≤ length bytes.now }
     ensures { result.now ≡ drop read bytes.now }
@@ -53,7 +53,7 @@ fn after(bytes: &[u8], read: usize) -> &[u8]
     rest
 }
 
-/// The body of the message at the front.
+/// The body of the message with this head, which is at the front of the unread bytes.
 fn body_of<'a>(unread: &'a [u8], head: &Head) -> &'a [u8]
     requires { IsWhole unread.now head.now }
     ensures { result.now ≡ take head.now.body (drop head.now.length unread.now) }
@@ -63,7 +63,7 @@ fn body_of<'a>(unread: &'a [u8], head: &Head) -> &'a [u8]
     body
 }
 
-/// Adds the response to a request that has a fault.
+/// Appends the response to a faulty request.
 fn put_fault(alloc: Global, problem: &Fault, close: bool, to: &mut Octets) -> Result<(), Memory>
     requires { IsUtf8 problem.now.member }
     ensures { OnOk result (to.new ≡ to.old ++ answered (fault_reply problem.now) close) }
@@ -77,7 +77,7 @@ impl Reading {
     ghost use Rattle.kds_session.specs.Next.{GivesNext, IsWaiting, IsFewer};
     ghost use Rattle.kds_session.specs.Steps.{read_state, Steps, IsFree, IsKept, IsPlainly};
 
-    /// Nothing was read, on a live connection on which so many requests may still come.
+    /// The start of a reading, on a live connection that may take `left` further requests.
     pub fn new(alloc: Global, left: u32) -> Reading
         ensures { result ≡ record { read = 0; left = left; answers = []; standing = Standing.Live; waiting = Waiting.Nothing } }
     {
@@ -90,14 +90,14 @@ impl Reading {
         }
     }
 
-    /// Whether the connection closes after the message of this head.
+    /// Whether the connection closes after the message with this head.
     fn closes(&self, head: &Head) -> bool
         ensures { result ≡ (head.now.close || nat_le self.now.left 1) }
     {
         head.close || self.left <= 1
     }
 
-    /// Goes past a message of so many bytes.
+    /// Counts a message of `size` bytes as read. One request fewer may then arrive.
     fn pass(&mut self, size: usize)
         requires { self.old.read + size < 2 ^ 64 }
         ensures { self.new ≡ record self.old { read = self.old.read + size; left = self.old.left - 1 } }
@@ -106,7 +106,7 @@ impl Reading {
         self.left = self.left.saturating_sub(1);
     }
 
-    /// The connection is refused.
+    /// Answers with a refusal of the connection, which then closes.
     fn refuse(&mut self, alloc: Global, status: u16) -> Result<(), Memory>
         requires { is_refusal status ≡ true }
         ensures { OnOk result (self.new ≡ record self.old {
@@ -126,7 +126,7 @@ impl Reading {
         Ok(())
     }
 
-    /// Takes the message of this head, at the front of what is unread.
+    /// Reads the message with this head, which is at the front of the unread bytes.
     fn message(&mut self, alloc: Global, bytes: &[u8], head: &Head) -> Result<Step, Memory>
         requires room { self.old.read ≤ length bytes.now }
         requires whole { IsWhole (drop self.old.read bytes.now) head.now }
@@ -159,9 +159,14 @@ impl Reading {
         }
     }
 
-    /// Takes what stands at the front of what is unread, of which the head may have been kept. A head whose body isn't
-    /// whole yet is kept.
-    fn step(&mut self, alloc: Global, bytes: &[u8], kept: &mut Option<Head>) -> Result<Step, Memory>
+    /// Reads one message at the front of the unread bytes. `kept` is the head of this message if it was found before.
+    /// If the body isn't complete yet, the head is stored there.
+    fn read_message(
+        &mut self,
+        alloc: Global,
+        bytes: &[u8],
+        kept: &mut Option<Head>,
+    ) -> Result<Step, Memory>
         requires room { self.old.read ≤ length bytes.now }
         requires free { IsFree (read_state bytes.now self.old) }
         requires kept { IsKept (drop self.old.read bytes.now) kept.old }
@@ -171,7 +176,7 @@ impl Reading {
         ensures kept { OnOk result (IsKept (drop self.new.read bytes.now) kept.new) }
     {
         decided_stays();
-        match front_of(alloc, after(bytes, self.read), kept.take())? {
+        match read_front(alloc, after(bytes, self.read), kept.take())? {
             Front::Unfinished => Ok(Step::Stop),
             Front::Begun(head) => {
                 *kept = Some(head);
@@ -185,8 +190,8 @@ impl Reading {
         }
     }
 
-    /// Reads on to the next command, over requests that have faults, until nothing more can be read. A head whose body
-    /// isn't whole yet is kept.
+    /// Reads messages until a command is found or nothing further can be read; faulty requests are answered on the way.
+    /// If a body isn't complete yet, its head is stored in `kept`.
     pub fn to_command(
         &mut self,
         alloc: Global,
@@ -205,7 +210,7 @@ impl Reading {
         ensures kept { OnOk result (IsKept (drop self.new.read bytes.now) kept.new) }
     {
         loop {
-            match self.step(alloc, bytes, kept)? {
+            match self.read_message(alloc, bytes, kept)? {
                 Step::Stop => return Ok(None),
                 Step::Answered => {}
                 Step::Command(what) => return Ok(Some(what)),

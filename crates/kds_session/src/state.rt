@@ -1,15 +1,15 @@
-//! How a session stands.
+//! The state of a connection.
 ghost use Rattle.std.specs.Prelude.{◌≡◌};
 ghost use Rattle.kds_session.specs.States as spec;
 
-/// How a session stands.
+/// The state of a connection.
 #[derive(Clone, Copy, Debug, PartialEq, Eq)]
 pub enum Standing {
-    /// Requests may come.
+    /// Requests may arrive.
     Live,
-    /// The last response says that the connection closes (RFC 9112, section 9.6).
+    /// The last response closes the connection (RFC 9112, section 9.6).
     Closed,
-    /// The connection was refused with this status, one of those that `kds_head::Found` lists.
+    /// The connection was refused with this status, one of the statuses that `kds_head::Found` lists.
     Refused(u16),
 }
 
@@ -18,11 +18,11 @@ pub enum Standing {
 pub enum Waiting {
     Nothing,
     Answer,
-    /// The connection closes after this answer.
+    /// A command waits, and the connection closes after its answer.
     LastAnswer,
 }
 
-/// A command waits; the connection closes after its answer, or it doesn't.
+/// The state in which a command waits. `close` is true if the connection closes after its answer.
 pub fn waiting_for(close: bool) -> Waiting
     ensures { result ≡ spec.waiting_for close }
 {
@@ -43,7 +43,7 @@ pub fn is_last(waiting: Waiting) -> bool
     }
 }
 
-/// How the session stands after a response, which says whether the connection closes.
+/// The state of the connection after a response. `close` is true if the response closes the connection.
 pub fn standing_after(close: bool, standing: Standing) -> Standing
     ensures { result ≡ spec.standing_after close standing }
 {

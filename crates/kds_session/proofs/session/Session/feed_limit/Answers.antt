@@ -1,5 +1,5 @@
 use Rattle.std.proofs.Common.{rules}
-use Rattle.kds_session.proofs.session.Session.room.Goals as goal
+use Rattle.kds_session.proofs.session.Session.feed_limit.Goals as goal
 
 pub returns-clause-value : goal.returns-clause-value
 returns-clause-value c = search rules

@@ -2,7 +2,7 @@ use Rattle.std.proofs.Common.{sym, subst, arith, List, ℕ, length, ◌≡◌}
 use Rattle.std.proofs.lemmas.List.{nil_from_length}
 use Rattle.kds_head.specs.declared.found.Found.TheVariants.{Need}
 use Rattle.kds_head.specs.Find.{IsFound}
-use Rattle.kds_session.proofs.front.found_at.Goals as goal
+use Rattle.kds_session.proofs.front.find_head.Goals as goal
 
 pub returns-in-empty : goal.returns-in-empty
 returns-in-empty c =
