@@ -1,4 +1,4 @@
-//! Connections one after another, each in a thread of its own.
+//! Accepts connections, and serves each in a thread of its own.
 ghost use Rattle.std.specs.Prelude.{ℕ, ◌≡◌, ◌≤◌, ◌⊎◌, length, All};
 ghost use Rattle.kds_ends.specs.Causes.{Rose, RoseOnceAtMost};
 ghost use Rattle.kds_server.specs.Texts.{IsCrewStatus};
@@ -14,23 +14,23 @@ use std::sync::{Condvar, Mutex, Wait};
 use std::thread;
 use std::thread::{Scope, Threads};
 
-/// What the threads of a crew share.
+/// The data that the connection threads share.
 #[derive(Drop)]
 struct Shared<'c, R, M: Machine, C> {
     rt: &'c R,
     alloc: Global,
     clock: &'c Mutex<C>,
-    /// The passes that serve no connection, but for the next connection's.
+    /// The free passes, without the one that was taken out for the next connection.
     idle: Mutex<Vec<FreePass<'c, M>>>,
-    /// Told when a pass is given back.
+    /// Notified when a pass becomes free.
     freed: Condvar,
-    /// Whether memory ran out on a connection.
+    /// Whether memory has run out on any connection.
     out_of_memory: AtomicBool,
 }
 
 impl<'c, R: Wait, M: Machine, C: Clock> Shared<'c, R, M, C> {
-    /// Serves a connection, and closes it.
-    fn attend<S: Source + Drop, K: Sink + Drop>(
+    /// Serves a connection on the calling thread, and then closes the connection.
+    fn serve_connection<S: Source + Drop, K: Sink + Drop>(
         &self,
         free: FreePass<'c, M>,
         mut input: S,
@@ -46,21 +46,21 @@ impl<'c, R: Wait, M: Machine, C: Clock> Shared<'c, R, M, C> {
         FreePass { hall, pass }
     }
 
-    /// Serves a connection, closes it, and gives the pass back.
-    fn attend_and_return<S: Source + Drop, K: Sink + Drop>(
+    /// Serves a connection on the calling thread, closes the connection, and returns its pass to the free ones.
+    fn serve_and_return_pass<S: Source + Drop, K: Sink + Drop>(
         &self,
         free: FreePass<'c, M>,
         input: S,
         out: K,
     ) {
-        let free = self.attend(free, input, out);
+        let free = self.serve_connection(free, input, out);
         if self.idle.lock(self.rt).push(free).is_err() {
             self.out_of_memory.store(true, Ordering::SeqCst);
         }
         self.freed.notify_one();
     }
 
-    /// A pass that serves no connection, once there is one, or nothing where memory has run out on a connection.
+    /// Waits for a free pass, and takes it. `None` if memory has run out on a connection.
     fn next_pass(&self) -> Option<FreePass<'c, M>> {
         let mut idle = self
             .freed
@@ -74,8 +74,8 @@ impl<'c, R: Wait, M: Machine, C: Clock> Shared<'c, R, M, C> {
     }
 }
 
-/// Serves a connection in a thread of its own. Where no thread is made, the calling thread serves it.
-fn host<'s, 'e: 's, 'c: 'e, R, M, C, S, K>(
+/// Spawns a thread that serves a connection. If no thread can be started, the calling thread serves the connection.
+fn spawn_connection<'s, 'e: 's, 'c: 'e, R, M, C, S, K>(
     scope: &'s Scope<'s, &'e ()>,
     crew: &'e Shared<'c, R, M, C>,
     free: FreePass<'c, M>,
@@ -89,12 +89,13 @@ where
     S: Source + Send + Drop + 'e,
     K: Sink + Send + Drop + 'e,
 {
-    if let Err(refused) = scope.spawn(move || crew.attend_and_return(free, input, out)) {
+    if let Err(refused) = scope.spawn(move || crew.serve_and_return_pass(free, input, out)) {
         (refused.value)();
     }
 }
 
-/// Accepts connections, each once there is a pass for it, until the door fails or memory has run out on one of them.
+/// Accepts connections until the door fails or memory runs out on a connection. Before it accepts one, it waits for a
+/// free pass.
 fn accept_all<'s, 'e: 's, 'c: 'e, R, M, C, D>(
     scope: &'s Scope<'s, &'e ()>,
     crew: &'e Shared<'c, R, M, C>,
@@ -119,20 +120,21 @@ where
         let Ok((input, out)) = door.accept() else {
             return Status::Door;
         };
-        // Memory may have run out while this waited: then the connection is closed, and not served.
+        // Memory may have run out while `accept` waited. Then the new connection is closed without being served.
         if crew.out_of_memory.load(Ordering::SeqCst) {
             return Status::Memory;
         }
-        host(scope, crew, free, input, out);
+        spawn_connection(scope, crew, free, input, out);
     }
     unreachable!()
 }
 
-/// Serves the connections of a door, each in a thread of its own, by a pass that no other one is using. The calling
-/// thread waits until there is such a pass, and accepts; where no thread is made, it serves the connection itself.
-/// Nothing is accepted after the door's first fault. Door: the door failed, and the connections under way have ended.
-/// Memory: memory ran out on a connection, after which none was served that wasn't yet, or before the first. Condition:
-/// there is a pass, and each is one of the hall.
+/// Serves the connections of a door, each in a thread of its own, with a pass that no other connection uses (decision
+/// 114). The calling thread waits for free passes and accepts connections; if no thread can be started, it serves the
+/// connection itself. After the door's first failure no connection is accepted. The status is Door if the door failed;
+/// the connections that were open then have ended. The status is Memory if memory ran out before the first connection,
+/// or on a connection; no further connection is served afterwards. Precondition: there is at least one pass, and all
+/// passes belong to the hall.
 pub fn crew<R, M, C, D>(
     rt: &R,
     alloc: Global,
@@ -166,7 +168,7 @@ where
         freed: Condvar::new(),
         out_of_memory: AtomicBool::new(false),
     };
-    // The door comes back from the scope, so that its faults are known after it.
+    // The scope gives the door back, so that its contract about failures can be used after the scope.
     let (status, _door) = thread::scope(thread::scope_env(), rt, move |scope| {
         let status = accept_all(scope, shared, &mut *door);
         (status, door)

@@ -1,4 +1,4 @@
-//! The bytes between a connection's ends and its session.
+//! Moves bytes between a connection and its session.
 ghost use Rattle.std.specs.Prelude.{◌≡◌, ◌≢◌, ◌≤◌, ◌<◌, ◌⊎◌, [], ◌++◌, List, ℕ, length, true, false, None, Some, IfOk, IfErr, IfSome, OnOk, IsErrOf};
 ghost use Rattle.std.specs.declared.option.Option.{Option};
 ghost use Rattle.std.specs.Io.KnownBytes.{Appends, IsAtEnd, Keeps};
@@ -17,7 +17,7 @@ use kds_ends::{Sink, Source, Status, write_all};
 use kds_session::limits::PIECE_BYTES;
 use kds_session::{Session, Standing};
 
-/// Writes what the session has to send.
+/// Writes all of the session's output.
 fn flush<K: Sink>(session: &mut Session, out: &mut K) -> Result<(), Status>
     ensures written { OnOk result (Appends (K.held out.old) (K.held out.new) session.old.output) }
     ensures stands { OnOk result (Passes session.old session.new (sent_more session.old.output)) }
@@ -36,7 +36,7 @@ fn flush<K: Sink>(session: &mut Session, out: &mut K) -> Result<(), Status>
     }
 }
 
-/// Writes what the session has to send, where that is a piece or more: then less than a piece is left to send.
+/// Writes the session's output if it has at least `PIECE_BYTES` bytes. So fewer than `PIECE_BYTES` remain to be sent.
 pub fn write_early<K: Sink>(session: &mut Session, out: &mut K) -> Result<(), Status>
     ensures goes_on { OnOk result ((left : Option (List ℕ)) → ReadsOn left session.old (K.held out.old) left session.new (K.held out.new)) }
     ensures ended { IfErr result (λ s. (left : Option (List ℕ)) → EndsThere left session.old (K.held out.old) left (K.held out.new) s) }
@@ -57,12 +57,13 @@ pub fn write_early<K: Sink>(session: &mut Session, out: &mut K) -> Result<(), St
     }
 }
 
-/// Reads a piece into the room and feeds it. The answer is whether there was one. Conditions: the session has room for a
-/// whole piece, and nothing is left to send, since a client may send no more before it has its response.
-fn read<S: Source>(
+/// Reads a piece into the buffer and feeds it to the session. Returns `false` at the end of the input. Preconditions: a
+/// whole piece may be fed to the session, and the session's output is empty, since a client may wait for its response
+/// before it sends more.
+fn read_piece<S: Source>(
     session: &mut Session,
     input: &mut S,
-    room: &mut [u8; PIECE_BYTES],
+    buffer: &mut [u8; PIECE_BYTES],
 ) -> Result<bool, Status>
     requires room { PIECE_BYTES ≤ room_of session.old }
     requires written { session.old.output ≡ [] }
@@ -76,10 +77,10 @@ fn read<S: Source>(
     ensures later { S.faults input.old ≤ S.faults input.new }
     ensures read { IsErrOf result Status.Read → Rose (S.faults input.old) (S.faults input.new) }
 {
-    match input.read(&mut room[..]) {
+    match input.read(&mut buffer[..]) {
         Ok(0) => Ok(false),
         Ok(count) => {
-            let (piece, _) = room.split_at(count);
+            let (piece, _) = buffer.split_at(count);
             match session.feed(piece) {
                 Ok(()) => Ok(true),
                 Err(_) => Err(Status::Memory),
@@ -89,7 +90,7 @@ fn read<S: Source>(
     }
 }
 
-/// How a connection ends of which no more bytes are read. Condition: no command waits.
+/// The status with which a connection ends if no further bytes are read. Precondition: no command waits for its answer.
 fn ending(session: &Session) -> Status
     requires { session.now.waiting ≡ Nothing }
     ensures { result ≡ status_at (end_of session.now) }
@@ -107,13 +108,14 @@ fn ending(session: &Session) -> Status
     }
 }
 
-/// Writes what there is to write and, where the connection goes on, reads. The answer is how it has ended, where it
-/// has. Condition: no whole message is left to read, no command waits, and a live session has room for a whole piece.
+/// Writes the session's output and, if the connection stays open, reads a piece. If the connection has ended, its
+/// status is returned. Preconditions: no whole message is unread, no command waits for its answer, and if the session
+/// is live, a whole piece may be fed to it.
 pub fn exchange<S: Source, K: Sink>(
     session: &mut Session,
     input: &mut S,
     out: &mut K,
-    room: &mut [u8; PIECE_BYTES],
+    buffer: &mut [u8; PIECE_BYTES],
 ) -> Option<Status>
     requires quiet { IsQuiet session.old }
     requires room { session.old.standing ≡ Live → PIECE_BYTES ≤ room_of session.old }
@@ -137,7 +139,7 @@ pub fn exchange<S: Source, K: Sink>(
         Err(status) => return Some(status),
     }
     match session.standing() {
-        Standing::Live => match read(session, input, room) {
+        Standing::Live => match read_piece(session, input, buffer) {
             Ok(true) => None,
             Ok(false) => Some(ending(session)),
             Err(status) => Some(status),

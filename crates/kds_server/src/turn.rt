@@ -1,4 +1,4 @@
-//! The turn of a command.
+//! Makes the turn of a command, and appends its response to the output.
 ghost use Rattle.std.specs.Prelude.{◌≡◌, ◌≢◌, ◌∷◌, [], ◌++◌, List, ℕ, OnOk, OnErr, true};
 ghost use Rattle.std.specs.declared.option.Option.{Option};
 ghost use Rattle.kds_defs.specs.declared.command.Command.{Command};
@@ -16,8 +16,8 @@ use kds_defs::Command;
 use kds_ends::Clock;
 use kds_session::Session;
 
-/// Makes the turn of a command that waits, at the moment that the clock gives for it, and adds the response to the
-/// output. After `Memory` the turn was made or it wasn't.
+/// Makes the turn of a waiting command at the moment that the clock gives for it, and appends the response to the
+/// output. If memory runs out, the turn may or may not have been made.
 pub fn make_turn<T: Turner, C: Clock>(
     turner: &T,
     state: &mut T::State,

@@ -1,4 +1,4 @@
-//! One machine, at which the holders of passes take turns.
+//! One machine that the holders of passes share. One turn is made at a time.
 ghost use Rattle.std.specs.Prelude.{◌≡◌, ◌≢◌, ℕ, ◌+◌, ◌-◌, ◌<◌, ◌≤◌, ◌^◌, List, [], ◌∷◌, ◌++◌, length, map, IfOk, IfErr, OnOk, OnErr, Err, IsOk, ◌↔◌, vec_capacity, Some, true, false};
 ghost use Rattle.std.specs.List.{range_with_len};
 ghost use Rattle.kds_defs.specs.Histories.{journal, clock};
@@ -12,7 +12,10 @@ ghost use Rattle.kds_turn.specs.Passes.{accounts_of, new_pass, IsAnswered, HasAl
 
 use crate::pass::{Note, Pass, Past, TurnErr};
 use crate::rule::InOrder;
-use crate::steps::{Seat, append, deal, free, give_back, grab, look, merge, take, tell};
+use crate::steps::{
+    Seat, append, join_seats, load_turns, lock, note_seat, put_machine, split_seat, take_machine,
+    unlock,
+};
 use crate::view::View;
 use atomic_table::{Refused, Table};
 use kds_base::{Memory, Moment};
@@ -23,11 +26,12 @@ use std::snapshot::Snapshot;
 use std::sync::Wait;
 use std::sync::atomic::AtomicU64;
 
-/// One machine, at which the holders of passes take turns. Contracts see which hall it is and how many passes it has.
+/// One machine that the holders of passes share. One turn is made at a time. Contracts see the identity of the hall
+/// and its number of passes.
 #[derive(Drop)]
 pub struct Hall<M: Machine> {
     table: Table<Option<M>, View, u32, InOrder<M>, Global>,
-    /// How many passes sleep until the turn is given up.
+    /// The number of holders of passes that sleep until the lock is released.
     sleepers: AtomicU64,
 }
 
@@ -43,7 +47,8 @@ impl<M: Machine> Model for Hall<M> {
 }
 
 impl<M: Machine> Hall<M> {
-    /// A hall, and its passes in the order of their numbers, from 1 on. Where memory runs out the machine comes back.
+    /// A hall for the machine, and its passes in the order of their numbers, which begin with 1. If memory runs out,
+    /// the machine is returned.
     pub fn new(
         alloc: Global,
         machine: M,
@@ -70,19 +75,19 @@ impl<M: Machine> Hall<M> {
             table,
             sleepers: AtomicU64::new(0),
         };
-        let made = hall.deal_all(made, seat, passes);
+        let made = hall.make_passes(made, seat, passes);
         Ok((hall, made))
     }
 
-    /// A pass for each number, in their order.
-    fn deal_all(&self, mut made: Vec<Pass<M>>, mut first: Seat<M>, passes: u32) -> Vec<Pass<M>>
+    /// The passes with the numbers from 1 to `passes`, in order.
+    fn make_passes(&self, mut made: Vec<Pass<M>>, mut first: Seat<M>, passes: u32) -> Vec<Pass<M>>
         requires some { 1 ≤ passes }
         requires room { (made.items ≡ []) × (passes ≤ vec_capacity made) }
         requires seat { (first.table_id ≡ self.now.id) × (first.me ≡ (first_view passes, [])) }
         ensures { result.items ≡ map (new_pass self.now.id) (range_with_len 1 passes) }
     {
         for by in 1..passes {
-            let seat = deal(&self.table.shared, &mut first);
+            let seat = split_seat(&self.table.shared, &mut first);
             made.push_reserved(Pass { by: by + 1, seat });
         }
         made.push_reserved(Pass { by: 1, seat: first });
@@ -90,7 +95,7 @@ impl<M: Machine> Hall<M> {
         made
     }
 
-    /// One turn at the machine, by the pass. It waits for the turn.
+    /// Waits for the lock, and then makes one turn of the machine under the pass's number.
     pub fn turn<R: Wait>(
         &self,
         rt: &R,
@@ -113,30 +118,30 @@ impl<M: Machine> Hall<M> {
     {
         kcl_laws::step();
         let (by, shared) = (pass.by, &self.table.shared);
-        grab(rt, shared, &self.sleepers, &mut pass.seat, by);
-        if look(shared, &mut pass.seat) == u64::MAX {
-            free(shared, &self.sleepers, &mut pass.seat);
+        lock(rt, shared, &self.sleepers, &mut pass.seat, by);
+        if load_turns(shared, &mut pass.seat) == u64::MAX {
+            unlock(shared, &self.sleepers, &mut pass.seat);
             return Err(TurnErr::Spent);
         }
-        let mut machine = take(shared, &mut pass.seat);
+        let mut machine = take_machine(shared, &mut pass.seat);
         let turn = Turn { by, at: now, what };
         let asked = Snapshot::of(&turn);
         match machine.apply(turn) {
             Ok(answer) => {
-                give_back(shared, &mut pass.seat, machine);
+                put_machine(shared, &mut pass.seat, machine);
                 append::<M, Brand>(shared, &mut pass.seat, &asked);
-                free(shared, &self.sleepers, &mut pass.seat);
+                unlock(shared, &self.sleepers, &mut pass.seat);
                 Ok(answer)
             }
             Err(Memory) => {
-                give_back(shared, &mut pass.seat, machine);
-                free(shared, &self.sleepers, &mut pass.seat);
+                put_machine(shared, &mut pass.seat, machine);
+                unlock(shared, &self.sleepers, &mut pass.seat);
                 Err(TurnErr::Memory)
             }
         }
     }
 
-    /// Takes the other pass in. The pass has then seen what both had seen.
+    /// Joins the pass `other` into `pass`. Afterwards `pass` has seen all turns that either of them had seen.
     pub fn join(&self, pass: &mut Pass<M>, other: Pass<M>)
         requires hall { (pass.old.hall ≡ self.now.id) × (other.hall ≡ self.now.id) }
         ensures kept { (pass.new.hall ≡ pass.old.hall) × (pass.new.by ≡ pass.old.by) × (pass.new.own ≡ pass.old.own) }
@@ -144,33 +149,34 @@ impl<M: Machine> Hall<M> {
         ensures seen { Continues pass.new.seen pass.old.seen × Continues pass.new.seen other.seen }
     {
         let Pass { by: _, seat } = other;
-        merge(&self.table.shared, &mut pass.seat, seat);
-        look(&self.table.shared, &mut pass.seat);
+        join_seats(&self.table.shared, &mut pass.seat, seat);
+        load_turns(&self.table.shared, &mut pass.seat);
     }
 
-    /// A note of what the pass has seen.
+    /// A note of the turns that the pass has seen.
     pub fn tell(&self, pass: &mut Pass<M>) -> Result<Note<M>, Memory>
         requires hall { pass.old.hall ≡ self.now.id }
         ensures same { pass.new ≡ pass.old }
         ensures note { IfOk result (λ n. (n.hall ≡ pass.new.hall) × (n.seen ≡ pass.new.seen)) }
         ensures at_once { IsOk result }
     {
-        let seat = tell(&self.table.shared, &mut pass.seat);
+        let seat = note_seat(&self.table.shared, &mut pass.seat);
         Ok(Note { seat })
     }
 
-    /// The pass has then seen what the note tells of.
+    /// Adds the turns of a note to the turns that the pass has seen.
     pub fn learn(&self, pass: &mut Pass<M>, note: Note<M>)
         requires hall { (pass.old.hall ≡ self.now.id) × (note.hall ≡ self.now.id) }
         ensures kept { (pass.new.hall ≡ pass.old.hall) × (pass.new.by ≡ pass.old.by) × (pass.new.own ≡ pass.old.own) × (pass.new.joined ≡ pass.old.joined) }
         ensures seen { Continues pass.new.seen pass.old.seen × Continues pass.new.seen note.seen }
     {
         let Note { seat } = note;
-        merge(&self.table.shared, &mut pass.seat, seat);
-        look(&self.table.shared, &mut pass.seat);
+        join_seats(&self.table.shared, &mut pass.seat, seat);
+        load_turns(&self.table.shared, &mut pass.seat);
     }
 
-    /// The machine, and the history that it stands for, by a pass that has taken in all others.
+    /// Closes the hall. All other passes must have been joined into `pass`. Returns the machine, and the history that
+    /// the machine stands for.
     pub fn close(self, pass: Pass<M>) -> (M, Past<M>)
         requires hall { pass.hall ≡ self.id }
         requires all { HasAll self.passes pass }
@@ -181,8 +187,8 @@ impl<M: Machine> Hall<M> {
         ensures own { IsSplitInto (accounts_of pass) result.1 }
     {
         let Pass { by: _, mut seat } = pass;
-        let turns = look(&self.table.shared, &mut seat);
-        let note = tell(&self.table.shared, &mut seat);
+        let turns = load_turns(&self.table.shared, &mut seat);
+        let note = note_seat(&self.table.shared, &mut seat);
         let Hall { table, sleepers: _ } = self;
         let mut closed = table.close_with(seat);
         let machine = closed.take(0).unwrap();
@@ -191,7 +197,7 @@ impl<M: Machine> Hall<M> {
     }
 }
 
-/// The machine of the one slot.
+/// Takes the machine out of the only slot.
 fn only<M>(mut slots: Vec<Option<M>>) -> M
     requires { (machine : M) × (slots.items ≡ Some machine ∷ []) }
     ensures { slots.items ≡ Some result ∷ [] }

@@ -1,12 +1,12 @@
-//! The right to take turns, and what is known of the turns that were taken.
+//! Passes, and the turns that their holders know of.
 ghost use Rattle.std.specs.Prelude.{◌≡◌, length};
 
 use crate::steps::Seat;
 use std::marker::Model;
 use thiserror::Error;
 
-/// The right to take turns under one number. Contracts see its number, the turns that it has seen, its own turns, and
-/// those of the passes that were joined into it.
+/// The right to make turns under one number. Contracts see the pass's number, the turns that it has seen, its own
+/// turns, and the turns of the passes that were joined into it.
 #[derive(Drop)]
 pub struct Pass<M> {
     pub(crate) by: u32,
@@ -43,7 +43,7 @@ impl<M> Pass<M> {
     }
 }
 
-/// What a pass had seen. A pass that learns it has seen no less.
+/// The turns that a pass had seen when the note was made. A pass that learns the note has seen at least these turns.
 #[derive(Drop)]
 pub struct Note<M> {
     pub(crate) seat: Seat<M>,
@@ -61,7 +61,7 @@ impl<M> Model for Note<M> {
     ghost invariant = { λ n. IsIdle n.seat.me × (n.seat.me.0.accounts ≡ []) };
 }
 
-/// The history of a hall that was closed. Contracts see it as its turns.
+/// The history of a closed hall. Contracts see it as a list of turns.
 #[derive(Drop)]
 pub struct Past<M> {
     pub(crate) turns: u64,
@@ -80,7 +80,7 @@ impl<M> Model for Past<M> {
 }
 
 impl<M> Past<M> {
-    /// The number of turns.
+    /// The number of turns in the history.
     pub fn turns(&self) -> u64
         ensures { result ≡ length self.now }
     {
@@ -88,13 +88,13 @@ impl<M> Past<M> {
     }
 }
 
-/// Why a turn was not taken.
+/// The reason why a turn wasn't made.
 #[derive(Clone, Copy, Debug, PartialEq, Eq, Drop, Error)]
 pub enum TurnErr {
     /// Memory ran out.
     #[error("out of memory")]
     Memory,
-    /// The history has as many turns as can be counted.
+    /// The history already has the greatest number of turns that can be counted.
     #[error("the history is full")]
     Spent,
 }

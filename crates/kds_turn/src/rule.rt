@@ -1,4 +1,4 @@
-//! The rule of the hall's table, and what each kind of step tells.
+//! The rules of the hall's table: how each kind of step changes what seats know.
 ghost use Rattle.kds_turn.specs.Known.{first_view, note_of, keeps_rest, gets_second, both, nobody};
 ghost use Rattle.kds_turn.specs.Rule.{Orderly};
 ghost use Rattle.kds_turn.specs.Plays.{Grabs, Looked, Appended, Freed};
@@ -8,7 +8,7 @@ use atomic_table::{Join, Play, Split, TableRule};
 use kds_defs::Machine;
 use std::marker::{Brand, PhantomData};
 
-/// The key is the number of passes.
+/// The rule of a hall's table. The key of the table is the number of passes.
 pub struct InOrder<M> {
     marker: PhantomData<M>,
 }
@@ -19,7 +19,7 @@ impl<M: Machine> TableRule<Option<M>, View, u32> for InOrder<M> {
     ghost first = { first_view };
 }
 
-/// Takes the turn, with the slot.
+/// The step that acquires the lock, and with it the slot of the machine.
 pub struct Grab<M> {
     marker: PhantomData<M>,
 }
@@ -28,14 +28,14 @@ impl<M: Machine> Play<Option<M>, View> for Grab<M> {
     ghost then = { Grabs M.stands_for };
 }
 
-/// Reads the number of turns, which are then seen.
+/// The step that loads the number of turns. The seat has then seen all these turns.
 pub struct Look;
 
 impl<M> Play<Option<M>, View> for Look {
     ghost then = { λ st m found n. Looked m found n };
 }
 
-/// The turn that a step adds to the history. A call picks it.
+/// The turn that an `Append` step adds to the history. The caller chooses this turn.
 pub trait Next {
     ghost use Rattle.kds_defs.specs.declared.command.Turn.{Turn};
 
@@ -48,7 +48,7 @@ impl Next for Brand {
     ghost turn = { record { by = 0; at = 0; what = Survey } };
 }
 
-/// Adds a turn to the history.
+/// The step that adds a turn to the history.
 pub struct Append<N> {
     marker: PhantomData<N>,
 }
@@ -57,14 +57,14 @@ impl<M, N: Next> Play<Option<M>, View> for Append<N> {
     ghost then = { λ st m found n. Appended N.turn m n };
 }
 
-/// Gives the turn up, with the slot.
+/// The step that releases the lock, and with it the slot of the machine.
 pub struct Free;
 
 impl<M> Play<Option<M>, View> for Free {
     ghost then = { λ st m found n. Freed m n };
 }
 
-/// A new pass gets the second number.
+/// The step that makes a new pass, which gets the account of the second number.
 pub struct Deal;
 
 impl Split<View> for Deal {
@@ -73,7 +73,7 @@ impl Split<View> for Deal {
     ghost right = { gets_second };
 }
 
-/// A note gets what was seen.
+/// The step that makes a note, which gets the turns that the seat has seen.
 pub struct Tell;
 
 impl Split<View> for Tell {
@@ -82,7 +82,7 @@ impl Split<View> for Tell {
     ghost right = { note_of };
 }
 
-/// A pass takes in what another seat has.
+/// The step by which a pass takes over another seat: the turns that this seat has seen, and its accounts.
 pub struct Merge;
 
 impl Join<View> for Merge {

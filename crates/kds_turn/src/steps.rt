@@ -1,4 +1,4 @@
-//! The kinds of step of the hall, over seats.
+//! The steps on the hall's table. Each step is made from a seat.
 ghost use Rattle.std.specs.Prelude.{◌≡◌, ◌≢◌, ℕ, ◌+◌, ◌<◌, ◌^◌, [], ◌∷◌, length, true, false, Some, None};
 ghost use Rattle.kds_defs.specs.Lawful.{IsLawful};
 ghost use Rattle.kds_turn.specs.Known.{first_number, keeps_rest, gets_second, note_of, both};
@@ -13,22 +13,23 @@ use std::snapshot::Snapshot;
 use std::sync::Wait;
 use std::sync::atomic::{AtomicU64, Ordering};
 
-/// A place at the hall's table, from which steps are made.
+/// A seat at the hall's table, from which steps are made.
 pub type Seat<M> = atomic_table::Seat<Option<M>, View>;
 
-/// The table of a hall: the slot of its machine, and what its seats know.
+/// The table of a hall: the slot of the hall's machine, and what the seats know.
 pub type Board<M> = Shared<Option<M>, View, u32, InOrder<M>>;
 
-/// The number of turns, and the pass that has the turn. Word 1 is the number of passes.
+/// The index of the word that holds the number of turns. Word 1 holds the number of passes.
 const TURNS: usize = 0;
 
+/// The index of the word that holds the number of the pass with the lock, or 0 while the lock is free.
 const HOLDER: usize = 2;
 
-/// How often a pass that waits looks whether the turn was given up, before it sleeps.
+/// The number of times that a waiting pass checks whether the lock was released, before it sleeps.
 const LOOKS: u32 = 100;
 
-/// Waits for the turn, and takes it.
-pub fn grab<M: Machine, R: Wait>(
+/// Waits until the lock is free, and acquires it.
+pub fn lock<M: Machine, R: Wait>(
     rt: &R,
     board: &Board<M>,
     sleepers: &AtomicU64,
@@ -50,9 +51,9 @@ pub fn grab<M: Machine, R: Wait>(
     unreachable!()
 }
 
-/// Waits while the pass of this number has the turn: it looks for a while, and then sleeps. It may return earlier.
-/// A sleeper is counted before the word is read for the last time, and who gives the turn up reads the count after
-/// the word was written, so that no sleeper is left behind.
+/// Waits while the pass with the number `holder` has the lock: it first spins, and then sleeps. It may return while
+/// that pass still has the lock. No sleeper is missed: a sleeper is counted before it reads the word for the last
+/// time, and `unlock` reads the count after it has written the word.
 fn wait<M: Machine, R: Wait>(rt: &R, board: &Board<M>, sleepers: &AtomicU64, holder: u64)
     requires { board.now.table_id.words ≡ 3 }
 {
@@ -67,8 +68,8 @@ fn wait<M: Machine, R: Wait>(rt: &R, board: &Board<M>, sleepers: &AtomicU64, hol
     sleepers.fetch_sub(1, Ordering::SeqCst);
 }
 
-/// The number of turns. They are then seen.
-pub fn look<M: Machine>(board: &Board<M>, seat: &mut Seat<M>) -> u64
+/// Loads the number of turns. The seat has then seen all these turns.
+pub fn load_turns<M: Machine>(board: &Board<M>, seat: &mut Seat<M>) -> u64
     requires { (seat.old.table_id ≡ board.now.table_id) × (board.now.table_id.words ≡ 3) × (board.now.table_id.slots ≡ 1) }
     ensures seat { (seat.new.table_id ≡ seat.old.table_id) × (seat.new.id ≡ seat.old.id) }
     ensures looked { Looked seat.old.me result seat.new.me }
@@ -76,8 +77,8 @@ pub fn look<M: Machine>(board: &Board<M>, seat: &mut Seat<M>) -> u64
     board.load::<Look>(seat, TURNS)
 }
 
-/// The machine, out of the slot.
-pub fn take<M: Machine>(board: &Board<M>, seat: &mut Seat<M>) -> M
+/// Takes the machine out of the slot.
+pub fn take_machine<M: Machine>(board: &Board<M>, seat: &mut Seat<M>) -> M
     requires { (seat.old.table_id ≡ board.now.table_id) × HasTurn M.stands_for seat.old.me }
     ensures seat { (seat.new.table_id ≡ seat.old.table_id) × (seat.new.id ≡ seat.old.id) }
     ensures view { (seat.new.me.0 ≡ seat.old.me.0) × HasEmpty seat.new.me }
@@ -86,8 +87,8 @@ pub fn take<M: Machine>(board: &Board<M>, seat: &mut Seat<M>) -> M
     board.exchange(seat, 0, None).unwrap()
 }
 
-/// The machine, back into the slot.
-pub fn give_back<M: Machine>(board: &Board<M>, seat: &mut Seat<M>, machine: M)
+/// Puts the machine back into the slot.
+pub fn put_machine<M: Machine>(board: &Board<M>, seat: &mut Seat<M>, machine: M)
     requires { (seat.old.table_id ≡ board.now.table_id) × HasEmpty seat.old.me }
     ensures seat { (seat.new.table_id ≡ seat.old.table_id) × (seat.new.id ≡ seat.old.id) }
     ensures view { (seat.new.me.0 ≡ seat.old.me.0) × (seat.new.me.1 ≡ (0, Some machine) ∷ []) }
@@ -108,8 +109,8 @@ pub fn append<M: Machine, N: Next>(board: &Board<M>, seat: &mut Seat<M>, _turn: 
     board.fetch_add::<Append<N>>(seat, TURNS, 1);
 }
 
-/// Gives the turn up, and wakes one of those who sleep, if there are any.
-pub fn free<M: Machine>(board: &Board<M>, sleepers: &AtomicU64, seat: &mut Seat<M>)
+/// Releases the lock, and wakes one sleeper, if any.
+pub fn unlock<M: Machine>(board: &Board<M>, sleepers: &AtomicU64, seat: &mut Seat<M>)
     requires board { (seat.old.table_id ≡ board.now.table_id) × (board.now.table_id.words ≡ 3) × (board.now.table_id.slots ≡ 1) }
     requires seat { HasTurn M.stands_for seat.old.me }
     ensures seat { (seat.new.table_id ≡ seat.old.table_id) × (seat.new.id ≡ seat.old.id) }
@@ -121,8 +122,8 @@ pub fn free<M: Machine>(board: &Board<M>, sleepers: &AtomicU64, seat: &mut Seat<
     }
 }
 
-/// A new seat with the second account.
-pub fn deal<M: Machine>(board: &Board<M>, seat: &mut Seat<M>) -> Seat<M>
+/// A new seat, which takes over the second account of `seat`.
+pub fn split_seat<M: Machine>(board: &Board<M>, seat: &mut Seat<M>) -> Seat<M>
     requires board { (seat.old.table_id ≡ board.now.table_id) × (board.now.table_id.words ≡ 3) }
     requires seat { IsIdle seat.old.me }
     ensures seat { (seat.new.table_id ≡ seat.old.table_id) × (result.table_id ≡ seat.old.table_id) }
@@ -131,8 +132,8 @@ pub fn deal<M: Machine>(board: &Board<M>, seat: &mut Seat<M>) -> Seat<M>
     board.split_seat::<Deal>(seat)
 }
 
-/// A new seat that has seen as much and speaks for nobody.
-pub fn tell<M: Machine>(board: &Board<M>, seat: &mut Seat<M>) -> Seat<M>
+/// A new seat that has seen the same turns as `seat` and has no accounts.
+pub fn note_seat<M: Machine>(board: &Board<M>, seat: &mut Seat<M>) -> Seat<M>
     requires board { (seat.old.table_id ≡ board.now.table_id) × (board.now.table_id.words ≡ 3) }
     requires seat { IsIdle seat.old.me }
     ensures seat { (seat.new.table_id ≡ seat.old.table_id) × (seat.new.id ≡ seat.old.id) × (result.table_id ≡ seat.old.table_id) }
@@ -141,8 +142,8 @@ pub fn tell<M: Machine>(board: &Board<M>, seat: &mut Seat<M>) -> Seat<M>
     board.split_seat::<Tell>(seat)
 }
 
-/// Takes the other seat in.
-pub fn merge<M: Machine>(board: &Board<M>, seat: &mut Seat<M>, other: Seat<M>)
+/// Joins the seat `other` into `seat`, which takes over the turns that `other` has seen, and its accounts.
+pub fn join_seats<M: Machine>(board: &Board<M>, seat: &mut Seat<M>, other: Seat<M>)
     requires board { (seat.old.table_id ≡ board.now.table_id) × (other.table_id ≡ board.now.table_id) × (board.now.table_id.words ≡ 3) }
     requires seats { IsIdle seat.old.me × IsIdle other.me }
     ensures seat { (seat.new.table_id ≡ seat.old.table_id) × (seat.new.id ≡ seat.old.id) }

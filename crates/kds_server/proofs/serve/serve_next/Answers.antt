@@ -4,7 +4,7 @@ use Rattle.kds_session.specs.Standing.{traffic}
 use Rattle.kds_session.specs.Next.{IsNext}
 use Rattle.kds_server.specs.Steps.{Reads}
 use Rattle.kds_server.proofs.Ends.{tells_so_far, if_some, asks_none}
-use Rattle.kds_server.proofs.serve.step.Goals as goal
+use Rattle.kds_server.proofs.serve.serve_next.Goals as goal
 
 pub returns-in-Ok-write_early-clause-goes_on : goal.returns-in-Ok-write_early-clause-goes_on
 returns-in-Ok-write_early-clause-goes_on g c = λ none first all before start r.

@@ -1,7 +1,7 @@
 use Rattle.std.proofs.Common.{◌++◌}
 use Rattle.std.proofs.KnownBytes.{Consumes-trans}
 use Rattle.kds_session.specs.Standing.{traffic}
-use Rattle.kds_server.proofs.exchange.read.Goals as goal
+use Rattle.kds_server.proofs.exchange.read_piece.Goals as goal
 
 pub returns-in-Ok-feed-clause-ok : goal.returns-in-Ok-feed-clause-ok
 returns-in-Ok-feed-clause-ok g c = λ held all start given told r.
