@@ -1,4 +1,4 @@
-//! The generator of a drill's commands.
+//! Generates the commands of a drill.
 ghost use Rattle.std.specs.Prelude.{◌≡◌, IfOk, IfSome, OnErr, Some, None};
 ghost use Rattle.kds_defs.specs.declared.command.Command.TheVariants as command;
 ghost use Rattle.kds_defs.specs.Lawful.{IsLawfulCommand};
@@ -12,7 +12,7 @@ use kds_defs::Command;
 use std::alloc::Global;
 use std::marker::Model;
 
-/// A drill's commands, which are made one after another. Contracts see those to come.
+/// Generates a drill's commands, one after another. Contracts see the commands that are still to come.
 #[derive(Drop)]
 pub struct Generator {
     state: State,
@@ -30,7 +30,7 @@ impl Model for Generator {
     ghost invariant = { λ g. IsSound g.state };
 }
 
-/// The commands of a drill of a number, with so many records.
+/// A generator of the commands of the drill `number`, which puts `records` records.
 pub fn generate(alloc: Global, number: u64, records: u64) -> Generator
     ensures { result ≡ generated number records }
 {
@@ -40,7 +40,8 @@ pub fn generate(alloc: Global, number: u64, records: u64) -> Generator
 }
 
 impl Generator {
-    /// The next command. `None` exactly at the end. After `Memory` the same commands are to come.
+    /// Returns the next command. `None` exactly if no command is left. If memory runs out, the same commands are still
+    /// to come.
     pub fn next(&mut self) -> Result<Option<Command>, Memory>
         ensures ok { IfOk result (λ next. GivesNext next self.old self.new) }
         ensures lawful { IfOk result (λ next. IfSome next IsLawfulCommand) }

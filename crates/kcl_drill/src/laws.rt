@@ -1,4 +1,4 @@
-//! The laws on which the text of a drill rests.
+//! The laws by which a drill always has the same text.
 ghost use Rattle.std.specs.Prelude.{ℕ, ◌==◌, false, List, ◌≡◌, ◌<◌, ◌≤◌, reverse, Some};
 ghost use Rattle.kds_defs.specs.declared.command.Turn.{Turn};
 ghost use Rattle.kds_defs.specs.Histories.{clock, journal};
@@ -11,8 +11,8 @@ ghost use Rattle.kcl_drill.specs.Summed.{AreDrained, drill_text, summary_text};
 
 use kcl_laws::step;
 
-/// Until anything can be trimmed, the lines of the streams, clocks aside, are those that the turns of the stream
-/// service leave alone: commands for leases change nothing of them, and neither do the clocks.
+/// Consider the journal's lines about streams, without their clocks. As long as no record can be trimmed, they are the
+/// lines that the turns of the stream service alone would leave: neither commands for leases nor clocks change them.
 pub fn apart()
     ensures { (h : List Turn) → IsHistory h → AreBasic h → clock h < LEAST_RETENTION
         → stream_lines (journal h) ≡ stream_lines (journal (service_turns h)) }
@@ -20,17 +20,16 @@ pub fn apart()
     step()
 }
 
-/// Until anything can be trimmed, nothing is: below 24 hours no stream has a cut, and so no record is trimmed and no shard
-/// is expired.
+/// At a clock below 24 hours, no stream has a cut. So no record is trimmed, and no shard has expired.
 pub fn untrimmed()
     ensures { (h : List Turn) (c s : ℕ) → IsHistory h → clock h ≤ c → c < LEAST_RETENTION → trim_floor (journal h) c s ≡ 0 }
 {
     step()
 }
 
-/// The summary of a drill is its text, by whatever actors and among whatever turns on leases its commands ran:
-/// where those that ask the stream service are the generator's in their order, its stream is live, and once each shard
-/// was read to its end, the text is this one.
+/// The summary of a drill is always the same text, whatever actors made its commands, and whatever turns on leases were
+/// made in between. Three conditions must hold: the commands to the stream service are the generator's commands in
+/// their order, the drill's stream is live, and each shard was read to its end.
 pub fn one_text()
     ensures live { (h : List Turn) (number records : ℕ) → IsDrill h number records
         → stream_named (journal h) drill_name ≡ Some 1 }
@@ -40,7 +39,7 @@ pub fn one_text()
     step()
 }
 
-/// However the passes of a drill came after one another, the turns that ask the stream service are the generator's
+/// In whatever order the passes of a drill made their turns, the turns of the stream service are the generator's
 /// commands in their order.
 pub fn one_order()
     ensures { (number records root feeder : ℕ) (h : List Turn) → (root == feeder) ≡ false → IsFed number records root feeder h

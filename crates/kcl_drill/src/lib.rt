@@ -1,4 +1,4 @@
-//! A drill: a large valid input from a number, and the laws on which its text rests.
+//! A drill: a large valid input that is generated from a number, and the laws by which its text is always the same.
 #![tactic(auto)]
 
 mod generator;

@@ -1,32 +1,32 @@
-//! The numbers of a drill.
+//! The constants of a drill.
 ghost use Rattle.std.specs.Prelude.{◌≡◌};
 ghost use Rattle.kcl_drill.specs.declared.limits.TheConstants.{FIRST_SHARDS, MEMBER_TURNS, MOST_OPEN, MOST_RECORDS, MOST_WORKERS, RECORDS_A_TURN, RESHARD_EVERY, TICK};
 
-/// With how many shards its stream is made.
+/// The number of shards with which the drill's stream is created.
 pub const FIRST_SHARDS: u32 = 4;
 
-/// No shard is split where so many are open.
+/// A shard is split only while fewer than this many shards are open.
 pub const MOST_OPEN: usize = 16;
 
-/// A shard is split, or two are merged, each time that so many records were put.
+/// After every `RESHARD_EVERY` records, a shard is split or two shards are merged.
 pub const RESHARD_EVERY: u64 = 500;
 
-/// How many records it has, at most.
+/// The maximum number of a drill's records.
 pub const MOST_RECORDS: u64 = 1_000_000;
 
-/// How many workers it has, at most.
+/// The maximum number of a drill's workers.
 pub const MOST_WORKERS: u64 = 64;
 
-/// How many turns each worker makes, beside those for its records.
+/// The number of turns of each worker, without the turns for its records.
 pub const MEMBER_TURNS: u64 = 200;
 
-/// Each worker makes one turn more for so many records.
+/// For every `RECORDS_A_TURN` records, each worker makes one further turn.
 pub const RECORDS_A_TURN: u64 = 100;
 
 /// The milliseconds between two turns of a worker.
 pub const TICK: u64 = 50;
 
-/// The numbers of a drill: the definitions name them by their constants.
+/// States the constants as numbers, since the definitions refer to the code's constants by name.
 pub fn drill_limits()
     ensures first { FIRST_SHARDS ≡ 4 }
     ensures open { MOST_OPEN ≡ 16 }

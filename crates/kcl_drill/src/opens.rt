@@ -1,4 +1,4 @@
-//! The open shards of a drill's stream, as its own commands make them.
+//! The open shards of a drill's stream, computed from the drill's own commands.
 ghost use Rattle.std.specs.Prelude.{◌≡◌, ◌+◌, ◌-◌, true, ◌==◌, ◌<◌, IfOk, OnOk, OnErr, [], ◌^◌, Some};
 ghost use Rattle.kds_base.specs.Span.{follows, is_inside};
 ghost use Rattle.kcl_drill.specs.Generated.{first_open, is_lowest, lowest, next_to, without, after_split, after_merge};
@@ -15,7 +15,7 @@ pub struct OpenShard {
     pub range: Range,
 }
 
-/// The open shards in the order of their numbers, and the number of the next one.
+/// The open shards in the order of their numbers, and the number that the next shard gets.
 #[derive(Drop)]
 pub struct OpenShards {
     all: Vec<OpenShard>,
@@ -30,21 +30,21 @@ impl Model for OpenShards {
     ghost view = { λ o. record { all = o.all.items; next = o.next } };
 }
 
-/// No range starts before that of this shard.
+/// Whether no range in `all` starts before the range of `x`.
 fn is_lowest_of(all: &[OpenShard], x: &OpenShard) -> bool
     ensures { result ≡ is_lowest all.now x.now }
 {
     all.iter().all(|y| x.range.start <= y.range.start)
 }
 
-/// The second range starts right after the first one ends.
+/// Whether the range `s` starts right after the range `r` ends.
 fn is_next(r: &Range, s: &Range) -> bool
     ensures { result ≡ follows r.now s.now }
 {
     r.end < s.start && s.start - r.end == 1
 }
 
-/// Those of another number.
+/// The shards in `all` whose number isn't `no`.
 fn all_but(alloc: Global, all: &[OpenShard], no: u64) -> Result<Vec<OpenShard>, Memory>
     ensures { IfOk result (λ others. others.items ≡ without no all.now) }
 {
@@ -58,7 +58,7 @@ fn all_but(alloc: Global, all: &[OpenShard], no: u64) -> Result<Vec<OpenShard>, 
 }
 
 impl OpenShards {
-    /// None.
+    /// An empty list of open shards.
     pub fn none(alloc: Global) -> OpenShards
         ensures none { result.all ≡ [] }
         ensures next { result.next ≡ 0 }
@@ -69,7 +69,7 @@ impl OpenShards {
         }
     }
 
-    /// Those of the new stream.
+    /// The open shards of a stream that has just been created.
     pub fn first(alloc: Global) -> Result<OpenShards, Memory>
         ensures { IfOk result (λ o. o ≡ first_open) }
     {
@@ -86,14 +86,14 @@ impl OpenShards {
         Ok(OpenShards { all, next })
     }
 
-    /// The open shards, in the order in which they were made.
+    /// The open shards in the order in which they were made.
     pub fn as_slice(&self) -> &[OpenShard]
         ensures { result.now ≡ self.now.all }
     {
         self.all.as_slice()
     }
 
-    /// The one whose range starts first.
+    /// The open shard whose range starts first.
     pub fn lowest(&self) -> Option<OpenShard>
         ensures { result ≡ lowest self.now.all }
     {
@@ -101,7 +101,7 @@ impl OpenShards {
         all.iter().copied().find(|x| is_lowest_of(all, x))
     }
 
-    /// The one whose range is next to a range.
+    /// The open shard whose range starts right after `range` ends.
     pub fn next_to(&self, range: &Range) -> Option<OpenShard>
         ensures { result ≡ next_to range.now self.now.all }
     {
@@ -110,7 +110,8 @@ impl OpenShards {
 }
 
 impl OpenShards {
-    /// A split of one at a key: it is closed, and its two parts are open. After `Memory` nothing is changed.
+    /// Splits the open shard `x` at the hash key `at`: `x` closes, and two new shards with the parts of its range open.
+    /// If memory runs out, nothing has changed.
     pub fn split(&mut self, alloc: Global, x: OpenShard, at: u128) -> Result<(), Memory>
         requires inside { is_inside x.range at ≡ true }
         requires room { self.old.next + 1 < 2 ^ 64 - 1 }
@@ -135,7 +136,8 @@ impl OpenShards {
         Ok(())
     }
 
-    /// A merge of one with another: both are closed, and their range is open. After `Memory` nothing is changed.
+    /// Merges the open shards `x` and `y`: both close, and a new shard with their joint range opens. If memory runs
+    /// out, nothing has changed.
     pub fn merge(&mut self, alloc: Global, x: OpenShard, y: OpenShard) -> Result<(), Memory>
         requires adjacent { follows x.range y.range ≡ true }
         requires room { self.old.next < 2 ^ 64 - 1 }

@@ -1,4 +1,4 @@
-//! Which shard a drill splits, or which two it merges.
+//! Chooses the shard that a drill splits, or the two shards that it merges.
 ghost use Rattle.std.specs.Prelude.{◌≡◌, ◌<◌, IfOk, IfSome};
 ghost use Rattle.kds_defs.specs.declared.command.Command.{Command};
 ghost use Rattle.kds_defs.specs.Lawful.{IsLawfulCommand};
@@ -12,14 +12,14 @@ use kds_base::{Memory, Range, ShardNo};
 use kds_defs::Command;
 use std::alloc::Global;
 
-/// A split of a shard in its middle, or a merge of one with the one next to it.
+/// The planned change: a split of a shard in the middle of its range, or a merge of a shard with its neighbour.
 #[derive(Clone, Copy)]
 pub enum Plan {
     Split(OpenShard),
     Merge(OpenShard, OpenShard),
 }
 
-/// The key at which a range is split in the middle.
+/// The hash key at which the range is split in the middle.
 pub fn middle_of(r: &Range) -> u128
     requires { r.now.start < r.now.end }
     ensures { result ≡ middle r.now }
@@ -27,14 +27,14 @@ pub fn middle_of(r: &Range) -> u128
     r.start + (r.end - r.start) / 2 + 1
 }
 
-/// Bit 40 of the number is 0.
+/// Whether bit 40 of `x` is 0.
 fn is_bit_40_clear(x: u64) -> bool
     ensures { result ≡ is_bit_0 40 x }
 {
     (x >> 40) % 2 == 0
 }
 
-/// The merge of the first two shards, where there are two.
+/// Merges the shard whose range starts first with its neighbour. `None` if there is no second shard.
 fn find_merge(opens: &OpenShards) -> Option<Plan>
     ensures is { result ≡ merge_lowest opens.now.all }
     ensures possible { IfSome result IsPossible }
@@ -47,7 +47,7 @@ fn find_merge(opens: &OpenShards) -> Option<Plan>
     Some(Plan::Merge(x, y))
 }
 
-/// What is done after so many records, where x was drawn last.
+/// The change to make after `count` records, if any. `x` is the number that was drawn last.
 pub fn find_plan(count: u64, x: u64, opens: &OpenShards) -> Option<Plan>
     ensures is { result ≡ plan count x opens.now }
     ensures possible { IfSome result IsPossible }
@@ -67,7 +67,7 @@ pub fn find_plan(count: u64, x: u64, opens: &OpenShards) -> Option<Plan>
 }
 
 impl Plan {
-    /// Its command.
+    /// The command that makes the change.
     pub fn command(&self, alloc: Global) -> Result<Command, Memory>
         requires { IsPossible self.now }
         ensures is { IfOk result (λ c. c ≡ command_of self.now) }

@@ -1,4 +1,4 @@
-//! Where a generator stands.
+//! The state of a generator.
 ghost use Rattle.std.specs.Prelude.{◌≡◌, ◌∷◌, IfOk, IfSome, OnErr};
 ghost use Rattle.kds_defs.specs.Lawful.{IsLawfulCommand};
 ghost use Rattle.kcl_drill.specs.declared.state.DrillStage.TheVariants as stage;
@@ -13,7 +13,7 @@ use kds_base::Memory;
 use kds_defs::Command;
 use std::alloc::Global;
 
-/// What comes next: CreateStream, a record, or a split or merge before the next record.
+/// The next step: CreateStream, a record, or a split or merge that may be due before the next record.
 #[derive(Clone, Copy)]
 pub enum DrillStage {
     Create,
@@ -21,7 +21,8 @@ pub enum DrillStage {
     Reshard,
 }
 
-/// What comes next, how many records there were and are left, the number that was drawn last, and the open shards.
+/// The generator's state: the next step, the number of records made and left, the number drawn last, and the open
+/// shards.
 #[derive(Drop)]
 pub struct State {
     pub alloc: Global,
@@ -33,7 +34,7 @@ pub struct State {
 }
 
 impl State {
-    /// The state of a drill's generator that has given no command: of this number, with so many records to come.
+    /// The state before the first command of the drill `number`, with `records` records to come.
     pub fn new(alloc: Global, number: u64, records: u64) -> State
         ensures is { coming result ≡ generated number records }
         ensures sound { IsSound result }
@@ -48,7 +49,7 @@ impl State {
         }
     }
 
-    /// CreateStream.
+    /// Makes the command CreateStream.
     pub fn create(&mut self) -> Result<Command, Memory>
         requires sound { IsSound self.old }
         requires stage { self.old.stage ≡ stage.Create }
@@ -66,7 +67,7 @@ impl State {
         })
     }
 
-    /// The next record, if one is left.
+    /// Makes the command that puts the next record. `None` if no record is left.
     pub fn put(&mut self) -> Result<Option<Command>, Memory>
         requires sound { IsSound self.old }
         requires stage { self.old.stage ≡ stage.Put }
@@ -88,7 +89,7 @@ impl State {
         Ok(Some(Command::Put { name, item }))
     }
 
-    /// The split or merge that is due, if one is.
+    /// Makes the command of the split or merge that is due. `None` if no such change is due.
     pub fn reshard(&mut self) -> Result<Option<Command>, Memory>
         requires sound { IsSound self.old }
         requires stage { self.old.stage ≡ stage.Reshard }

@@ -1,4 +1,4 @@
-//! A turn on leases.
+//! Makes a turn on leases.
 ghost use Rattle.std.specs.Prelude.{◌≡◌, ◌<◌, ◌^◌, List, false};
 ghost use Rattle.kds_defs.specs.declared.command.Turn.{Turn as Asked};
 ghost use Rattle.kds_defs.specs.Kinds.{is_service};
@@ -8,7 +8,8 @@ ghost use Rattle.kcl_drill_drain.specs.Leased.{Answers, HasLeased, turn_of};
 use kds_base::{Memory, Moment};
 use kds_defs::{Answer, Command, Machine, Turn};
 
-/// Asks the machine a command on leases. Whatever comes of it, the machine has answered such turns alone.
+/// Makes a turn of a command for leases on the machine. Even if memory runs out, the machine has answered no other
+/// turns.
 pub fn ask<M: Machine>(
     machine: &mut M,
     by: u32,

@@ -1,4 +1,4 @@
-//! The lone drain.
+//! Drains all leases by one actor, without a worker (decision 81).
 ghost use Rattle.std.specs.Prelude.{◌≡◌, List, OnOk};
 ghost use Rattle.kds_defs.specs.declared.command.Turn.{Turn as Asked};
 ghost use Rattle.kcl_drill_drain.specs.Draining.{CanDrain};
@@ -12,7 +12,7 @@ use crate::rows::drain_keys;
 use kds_base::{Memory, Moment};
 use kds_defs::{Answer, Command, Machine, Reply};
 
-/// Makes the rows that a survey shows none of.
+/// Makes a row for each shard in a survey that has no row yet.
 fn make_missing<M: Machine>(
     machine: &mut M,
     by: u32,
@@ -30,7 +30,7 @@ fn make_missing<M: Machine>(
     }
 }
 
-/// Drains the rows that a survey shows.
+/// Reads the shard of each row in a survey to its end.
 fn drain_listed<M: Machine>(
     machine: &mut M,
     by: u32,
@@ -48,11 +48,12 @@ fn drain_listed<M: Machine>(
     }
 }
 
-/// Brings every row of the lease table to the end of its shard: makes the missing rows, and then takes the rows that aren't at
-/// their shard's end one after another, in the order of their keys, opens their shards and reads them to the end, by turns
-/// of this actor at this moment. Then the row of each listed shard reads the number of the shard's last record, the trim
-/// horizon where it is open and has none, or the shard's end where it is closed. Whatever comes of it, the machine has
-/// answered such turns alone. The error is want of memory (Kinesis Client Library, leases).
+/// Reads every listed shard to its end and checkpoints there, with turns of the actor `by` at the moment `at`. First
+/// it makes the missing rows. Then it takes the rows that aren't at their shard's end, one after another in the order
+/// of their keys, and reads their shards to the end. Afterwards the checkpoint in the row of a closed shard is the
+/// shard's end. The checkpoint of an open shard is the number of its last record, or the trim horizon if it has no
+/// record. Even if memory runs out, the machine has answered no other turns. An error means that memory ran out
+/// (Kinesis Client Library, leases).
 pub fn lone_drain<M: Machine>(machine: &mut M, by: u32, at: Moment) -> Result<(), Memory>
     ensures drained { (h : List Asked) → M.stands_for machine.old h → CanDrain h at → OnOk result (HasDrained (M.stands_for machine.new) by at h) }
     ensures begun { (h : List Asked) → M.stands_for machine.old h → HasLeased (M.stands_for machine.new) by at h }

@@ -1,10 +1,10 @@
-//! What is known of a tenure while its shard is drained.
+//! The state of a tenure while its shard is drained.
 use kds_base::TenureNo;
 
-/// How many records are read at once.
+/// The number of records that are read at once.
 pub const READ: u32 = 1_000;
 
-/// A tenure: its number, the place after what it read, the counter of its row.
+/// A tenure: its number, its read position, and the counter of its row.
 #[derive(Clone, Copy)]
 pub struct DrainTenure {
     pub tenure: TenureNo,

@@ -1,11 +1,11 @@
-//! What a drain rests on.
+//! The laws that the proof of a drain uses.
 ghost use Rattle.std.specs.Prelude.{ℕ, max, List};
 ghost use Rattle.kds_defs.specs.declared.command.Turn.{Turn};
 ghost use Rattle.kds_defs.specs.Histories.{clock};
 ghost use Rattle.kcl_drill_drain.specs.Draining.{CanDrain};
 ghost use Rattle.kcl_drill_drain.specs.Laws.{HasLaws};
 
-/// The facts of a history that can be drained, and what turns on leases leave after it.
+/// The laws for a drain: facts of every history that can be drained, and of the turns on leases that follow it.
 pub fn drain_laws()
     ensures { (h : List Turn) (at : ℕ) → CanDrain h at → HasLaws h (max (clock h) at) }
 {

@@ -1,4 +1,4 @@
-//! Brings every row of the lease table to the end of its shard, over any machine.
+//! Reads every listed shard to its end and checkpoints there, on any machine.
 #![tactic(auto)]
 
 mod asking;

@@ -1,4 +1,4 @@
-//! Rows, made where there are none.
+//! Makes missing rows of the lease table.
 ghost use Rattle.std.specs.Prelude.{◌≡◌, List};
 ghost use Rattle.kds_defs.specs.declared.command.Turn.{Turn as Asked};
 ghost use Rattle.kcl_drill_drain.specs.Leased.{HasLeased};
@@ -10,7 +10,7 @@ use kcl_drill_summary::row_among;
 use kds_base::{Memory, Moment, ShardRef};
 use kds_defs::{Command, Machine, Origin, Row};
 
-/// Makes the row of a key, where none was seen. It begins at the trim horizon.
+/// Makes a row for `key` if `seen` is `None`. The new row begins at the trim horizon.
 fn make_row<M: Machine>(
     machine: &mut M,
     by: u32,
@@ -29,7 +29,7 @@ fn make_row<M: Machine>(
     Ok(())
 }
 
-/// Makes the rows of these keys that are not among those that were seen.
+/// Makes the rows of those keys that have no row in `among`.
 pub fn make_keys<M: Machine>(
     machine: &mut M,
     by: u32,

@@ -1,4 +1,4 @@
-//! One shard, read to its end.
+//! Reads one shard to its end.
 ghost use Rattle.std.specs.Prelude.{ℕ, ◌≡◌, ◌<◌, Bool, List, Some, Ok, IfOk, IfSome};
 ghost use Rattle.kds_defs.specs.declared.command.Turn.{Turn as Asked};
 ghost use Rattle.kds_defs.specs.declared.reply.Reply.TheVariants as reply;
@@ -15,7 +15,8 @@ use kcl_proc::Tally;
 use kds_base::{Memory, Moment, Seq};
 use kds_defs::{Answer, Machine, Reply, Stored, Target};
 
-/// What a read brought: the number of its last record, the place after it, and whether the shard ends there.
+/// The result of a read: the number of its last record, the position after that record, and whether the shard ends
+/// there.
 #[derive(Clone, Copy)]
 pub struct Fetch {
     pub last: Option<Seq>,
@@ -23,7 +24,8 @@ pub struct Fetch {
     pub ended: bool,
 }
 
-/// Hands a batch that isn't empty to the processor, which asks for a mark at its last record.
+/// Passes a batch to the processor, unless it is empty. Returns the number of its last record, if it has one and the
+/// processor asks for a checkpoint there.
 fn process(tally: &mut Tally, batch: &[Stored]) -> Result<Option<Seq>, Memory>
     ensures { IfOk result (λ last. last ≡ last_number_in batch.now) }
 {
@@ -36,7 +38,7 @@ fn process(tally: &mut Tally, batch: &[Stored]) -> Result<Option<Seq>, Memory>
     }
 }
 
-/// Hands the batch of an answer to the processor.
+/// Passes the batch of an answer to the processor. `None` if the answer isn't that of a read.
 fn process_answer(tally: &mut Tally, answer: &Answer) -> Result<Option<Fetch>, Memory>
     ensures { (batch : List Stored) (place : ℕ) (ended : Bool) → answer.now ≡ Ok (reply.Read batch place ended)
         → IfOk result (λ f. f ≡ Some (record { last = last_number_in batch; reach = place; ended = ended })) }
@@ -54,7 +56,7 @@ fn process_answer(tally: &mut Tally, answer: &Answer) -> Result<Option<Fetch>, M
     }
 }
 
-/// Marks the row at the last record of the batch, and tells its counter.
+/// Sets the row's checkpoint to the batch's last record, if the batch has one. Returns the row's counter.
 fn mark_last<M: Machine>(
     machine: &mut M,
     by: u32,
@@ -72,9 +74,9 @@ fn mark_last<M: Machine>(
     }
 }
 
-/// Marks the end of the shard, where the read ended it. Reading goes on only above the place before, so that it ends over
-/// any machine.
-fn settle<M: Machine>(
+/// If the read reached the shard's end, sets the checkpoint to the end. Otherwise reading continues only if the read
+/// position has increased, so that reading terminates on any machine.
+fn finish_or_continue<M: Machine>(
     machine: &mut M,
     by: u32,
     at: Moment,
@@ -97,7 +99,7 @@ fn settle<M: Machine>(
     }
 }
 
-/// Gives what was read, and marks it.
+/// Delivers the records of a read, and sets the checkpoint after them.
 fn deliver<M: Machine>(
     machine: &mut M,
     by: u32,
@@ -117,11 +119,11 @@ fn deliver<M: Machine>(
         place: fetch.reach,
         counter,
     };
-    settle(machine, by, at, held.place, next, fetch.ended)
+    finish_or_continue(machine, by, at, held.place, next, fetch.ended)
 }
 
-/// One read: its batch is processed, given and marked.
-fn step<M: Machine>(
+/// Reads once: the batch is processed and delivered, and the checkpoint is set.
+fn read_batch<M: Machine>(
     machine: &mut M,
     by: u32,
     at: Moment,
@@ -139,7 +141,7 @@ fn step<M: Machine>(
     }
 }
 
-/// Reads the shard of a tenure to its end.
+/// Reads the shard of a tenure to the end.
 pub fn read_on<M: Machine>(
     machine: &mut M,
     by: u32,
@@ -152,7 +154,7 @@ pub fn read_on<M: Machine>(
     let mut tally = Tally::new();
     let mut held = from;
     loop {
-        match step(machine, by, at, &held, &mut tally)? {
+        match read_batch(machine, by, at, &held, &mut tally)? {
             Some(next) => held = next,
             None => return Ok(()),
         }

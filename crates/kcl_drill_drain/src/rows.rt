@@ -1,4 +1,4 @@
-//! Rows, brought to the end of their shards one after another.
+//! Reads the shards of rows to the end, one after another.
 ghost use Rattle.std.specs.Prelude.{List};
 ghost use Rattle.kds_defs.specs.declared.command.Turn.{Turn as Asked};
 ghost use Rattle.kcl_drill_drain.specs.Leased.{HasLeased};
@@ -11,7 +11,7 @@ use kcl_drill_summary::row_among;
 use kds_base::{Memory, Moment, ShardRef};
 use kds_defs::{Machine, Row};
 
-/// Takes a row at its counter, and reads its shard to the end.
+/// Takes a row with its counter, and reads its shard to the end.
 fn drain_taken<M: Machine>(
     machine: &mut M,
     by: u32,
@@ -31,7 +31,7 @@ fn drain_taken<M: Machine>(
     }
 }
 
-/// Drains the row of a key, unless it is at the end of its shard.
+/// Takes the row of a key and reads its shard to the end, unless the row's checkpoint is the shard's end already.
 fn drain_row<M: Machine>(
     machine: &mut M,
     by: u32,
@@ -55,7 +55,8 @@ fn drain_row<M: Machine>(
     }
 }
 
-/// Drains the rows of these keys, in their order. Parents come before their children.
+/// Takes the rows of these keys one after another, and reads their shards to the end. Parents come before their
+/// children.
 pub fn drain_keys<M: Machine>(
     machine: &mut M,
     by: u32,

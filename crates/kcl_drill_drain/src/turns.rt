@@ -1,4 +1,5 @@
-//! The turns of one tenure: it is taken and opened, reads, is given what it read, and marks its row.
+//! The turns of one tenure: it is taken, its shard is opened and read, the records are delivered, and the checkpoint is
+//! set.
 ghost use Rattle.std.specs.Prelude.{ℕ, ◌≡◌, List, Some, Ok};
 ghost use Rattle.kds_base.specs.declared.lease_key.Checkpoint.{Checkpoint};
 ghost use Rattle.kds_defs.specs.declared.command.Turn.{Turn as Asked};
@@ -14,7 +15,7 @@ use kcl_consumer::first_place;
 use kds_base::{Memory, Moment, ShardRef, WorkerNo};
 use kds_defs::{Answer, Command, Machine, Reply, Target};
 
-/// The tenure of an answer to a taking.
+/// The tenure in the answer to a take command, if the row was taken.
 fn taken_of(answer: &Answer) -> Option<DrainTenure>
     ensures { (t n : ℕ) (start : Checkpoint) → answer.now ≡ Ok (reply.Taken t n start)
         → result ≡ Some (record { tenure = t; place = first_place start; counter = n }) }
@@ -35,7 +36,7 @@ fn taken_of(answer: &Answer) -> Option<DrainTenure>
     }
 }
 
-/// The counter of an answer to a mark, or else this one.
+/// The counter in the answer to a mark command. `otherwise` if the answer has no counter.
 fn counter_of(answer: &Answer, otherwise: u64) -> u64
     ensures { (n : ℕ) → answer.now ≡ Ok (reply.Counter n) → result ≡ n }
 {
@@ -45,7 +46,7 @@ fn counter_of(answer: &Answer, otherwise: u64) -> u64
     }
 }
 
-/// Takes the row of a key at its counter.
+/// Takes the row of a key with its counter.
 pub fn take<M: Machine>(
     machine: &mut M,
     by: u32,
@@ -87,7 +88,7 @@ pub fn open<M: Machine>(
     Ok(())
 }
 
-/// Reads at the place of a tenure.
+/// Reads at the tenure's read position.
 pub fn read<M: Machine>(
     machine: &mut M,
     by: u32,
@@ -108,7 +109,7 @@ pub fn read<M: Machine>(
     ask(machine, by, at, what)
 }
 
-/// Gives what a tenure has read.
+/// Delivers what a tenure has read.
 pub fn give<M: Machine>(
     machine: &mut M,
     by: u32,
@@ -125,7 +126,7 @@ pub fn give<M: Machine>(
     Ok(())
 }
 
-/// Marks the row of a tenure, and tells its counter.
+/// Sets the checkpoint in the row of a tenure, and returns the row's counter.
 pub fn mark<M: Machine>(
     machine: &mut M,
     by: u32,

@@ -1,4 +1,4 @@
-//! What a tenure is answered that its actor alone uses, and what turns on leases leave as it is.
+//! The answers to commands on a tenure that only its actor uses, and what turns on leases leave unchanged.
 ghost use Rattle.std.specs.Prelude.{ℕ, ◌≡◌, ◌+◌, ◌<◌, ◌≤◌, ◌==◌, true, false, length, List, ◌∷◌, ◌++◌, Some};
 ghost use Rattle.kds_base.specs.declared.lease_key.ShardRef.{ShardRef};
 ghost use Rattle.kds_defs.specs.declared.command.Target.{Target};
@@ -18,9 +18,10 @@ ghost use Rattle.kds_defs.specs.Legal.{IsLegal};
 ghost use Rattle.kds_defs.specs.Shards.{shards};
 ghost use Rattle.kcl_drill_laws.specs.Leasing.{AreOnLeases, HasSameFloors, HasSameStreams};
 
-/// A row that isn't at its end is taken with its counter, and opened where its shard is listed and no parent is unread.
-/// The tenure then reads at its place while fewer than eight reads wait, is given those that wait in their order, and
-/// sets its row to what it was given (Kinesis Client Library, leases).
+/// The answers of a tenure that only its actor uses. A row that isn't at its shard's end can be taken with its counter.
+/// Its shard can be opened if it is listed and its parents are processed. Then the tenure can read at its read position
+/// while fewer than eight reads are pending, deliver its pending reads in their order, and set the checkpoint of its
+/// row to a delivered position (Kinesis Client Library, leases).
 pub fn held_answers()
     ensures take { (log : Journal) (c by owner : ℕ) (key : ShardRef) (r : Row) → row log key ≡ Some r → MayTake log r
         → IsTakenSo log c by owner key r }
@@ -34,7 +35,7 @@ pub fn held_answers()
         → IsMarkedSo log c x to }
 {}
 
-/// What each of these lines leaves: how far the tenure has come, and its row.
+/// The state after each of these journal lines: how far the tenure has come, and its row.
 pub fn held_states()
     ensures begun { (log : Journal) (c d by owner : ℕ) (key : ShardRef) (r : Row) → row log key ≡ Some r
         → Holds (opened_line log d by ∷ taken_line log c by key r owner ∷ log) (begun_from log by key r) }
@@ -45,28 +46,28 @@ pub fn held_states()
     ensures marked { (log : Journal) (c : ℕ) (x : Holding) (to : Target) → Holds log x → Holds (marked_line c x to ∷ log) (after_mark x to) }
 {}
 
-/// Turns on leases leave the streams as they are.
+/// Turns on leases don't change the streams.
 pub fn lease_turns()
     ensures { (more h : List Turn) → AreOnLeases more → HasSameStreams (journal (more ++ h)) (journal h) }
 {}
 
-/// They leave the same streams live, and trim nothing that isn't trimmed without them.
+/// Turns on leases don't change which streams are live, nor which records are trimmed at a given clock.
 pub fn lease_floors()
     ensures { (more h : List Turn) (c : ℕ) → AreOnLeases more → clock (more ++ h) ≤ c
         → HasSameFloors c (journal (more ++ h)) (journal h) }
 {}
 
-/// The parents of a shard have smaller numbers than it, and are closed (Kinesis API Reference, Shard).
+/// Every parent of a shard has a smaller number than the shard, and is closed (Kinesis API Reference, Shard).
 pub fn closed_parents()
     ensures { (log : Journal) → IsLegal log → (s : ℕ) → AreParentsClosed (shards log s) }
 {}
 
-/// Each turn raises a row's counter by one at most, and begins one tenure at most.
+/// Each turn increases a row's counter by at most one, and starts at most one tenure.
 pub fn lease_counts()
     ensures { (h : List Turn) → AreCounted h }
 {}
 
-/// A turn puts 500 records at most (Kinesis API Reference, PutRecords).
+/// A turn puts at most 500 records (Kinesis API Reference, PutRecords).
 pub fn record_counts()
     ensures { (h : List Turn) → IsHistory h → AreFewRecords h }
 {}

@@ -1,4 +1,4 @@
-//! What is known of a drill's history once its hall was closed.
+//! Laws of a drill's history after its hall was closed.
 ghost use Rattle.std.specs.Prelude.{ℕ, ◌≡◌, ◌++◌, ◌<◌, ◌≤◌, ◌^◌, List, length};
 ghost use Rattle.kds_defs.specs.declared.command.Turn.{Turn};
 ghost use Rattle.kds_defs.specs.Histories.{clock, journal};
@@ -15,8 +15,8 @@ ghost use Rattle.kcl_drill_laws.specs.Closed.{AreDrillTurns, AreFromHorizon, Are
 use kcl_drill::untrimmed;
 use kcl_laws::rows;
 
-/// However its passes came after one another, the closed history of a drill has the generator's commands in their order
-/// among turns on leases. It is below 24 hours, and has fewer than 2^32 turns.
+/// In whatever order the passes made their turns, the closed history of a drill contains the generator's commands in
+/// their order, with turns on leases in between. Its clock is below 24 hours, and it has fewer than 2^32 turns.
 pub fn closed()
     ensures fed { (number records : ℕ) (root feeder : Standing) (members : List Account) (h : List Turn)
         → IsClosed number records root feeder members h → IsFed number records root.by feeder.by h }
@@ -31,26 +31,28 @@ pub fn closed()
     rows()
 }
 
-/// However far its passes came, the closed history of a drill has fewer than 2^32 turns.
+/// The closed history of a drill has fewer than 2^32 turns, even if its passes stopped early.
 pub fn stopped()
     ensures { (number records : ℕ) (root feeder : Standing) (members : List Account) (h : List Turn)
         → IsStopped number records root feeder members h → length h < 2 ^ 32 }
 {}
 
-/// The turns of a worker whose settings say that reading begins at the trim horizon: each row that they make does.
+/// If a worker's initial position is the trim horizon, each row that the worker makes has the trim horizon as its
+/// origin.
 pub fn horizon()
     ensures { (by : ℕ) (made : WorkerMade) (past : WorkerPast) → made.settings.from ≡ origin.TrimHorizon
         → AreDrillTurns (turns_in by made past) }
 {}
 
-/// Turns on leases that come after a drill's history, at its clock, leave it a drill's with that clock.
+/// If turns on leases at moments up to the clock follow a drill's history, the result is again a drill's history, with
+/// the same clock.
 pub fn drained()
     ensures drill { (number records by at : ℕ) (more h : List Turn) → IsDrill h number records → at ≤ clock h
         → AreLeased by at more → IsDrill (more ++ h) number records }
     ensures clock { (by at : ℕ) (more h : List Turn) → at ≤ clock h → AreLeased by at more → clock (more ++ h) ≡ clock h }
 {}
 
-/// The stream of a drill's history can be summed.
+/// The totals of the drill's stream can be computed from the drill's history.
 pub fn summed()
     ensures { (h : List Turn) (number records : ℕ) → IsDrill h number records → CanSum h (clock h) }
 {

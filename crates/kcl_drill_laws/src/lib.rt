@@ -1,5 +1,6 @@
-//! The laws of a drill: functions without parameters, whose contracts they are. What a tenure is answered that its actor alone
-//! uses, and what turns on leases leave as it is; then what is known of a drill's history once its hall was closed.
+//! The laws of a drill, as contracts of functions without parameters. `answers` has the answers to commands on a tenure
+//! that only its actor uses, and what turns on leases leave unchanged. `histories` has the laws of a drill's history
+//! after its hall was closed.
 #![tactic(auto)]
 
 mod answers;

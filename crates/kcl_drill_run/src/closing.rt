@@ -1,4 +1,4 @@
-//! The end of a drill's hall.
+//! Closes a drill's hall.
 ghost use Rattle.std.specs.Prelude.{◌≡◌, ℕ, All};
 ghost use Rattle.kcl_drill_run.specs.Running.{AreShort, HasDrilled, HasTaken, HaveRun, HaveStopped};
 
@@ -7,7 +7,7 @@ use kcl_live::Member;
 use kcl_world::World;
 use kds_turn::{Hall, Pass};
 
-/// The root's pass, which has taken in the feeder's and those of all workers.
+/// The root's pass after it has taken in the passes of the feeder and of all workers.
 fn join_all(hall: &Hall<World>, participants: Participants) -> Pass<World>
     requires ends { (participants.root.hall ≡ hall.now.id) × (participants.feeder.hall ≡ hall.now.id) }
     requires members { All (λ m. m.pass.hall ≡ hall.now.id) participants.members.items }
@@ -27,8 +27,8 @@ fn join_all(hall: &Hall<World>, participants: Participants) -> Pass<World>
     root
 }
 
-/// The machine that the threads of a drill leave, however they ended, once all passes were taken in and the hall was closed.
-/// No pass has seen 2^32 turns.
+/// Takes in all passes, closes the hall, and returns its machine, however the threads have ended. No pass has seen 2^32
+/// turns.
 pub fn close(hall: Hall<World>, participants: Participants) -> World
     requires stopped { (number : ℕ) × (records : ℕ) × HaveStopped hall number records participants }
     ensures drilled { (number records : ℕ) → HaveRun hall number records participants → HasDrilled number records result }

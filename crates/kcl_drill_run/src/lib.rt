@@ -1,4 +1,4 @@
-//! The drill: a generator and workers on threads at one machine, and the summary of what they leave.
+//! Runs a drill: a generator and workers on threads use one machine, and the machine's final state is summarised.
 #![tactic(auto)]
 
 mod closing;

@@ -1,4 +1,4 @@
-//! Who takes part in a drill.
+//! The participants of a drill.
 ghost use Rattle.std.specs.Prelude.{◌≡◌, ◌+◌, ◌≤◌, [], length, IfOk, vec_len};
 ghost use Rattle.kcl_drill.specs.declared.limits.TheConstants.{MOST_WORKERS};
 ghost use Rattle.kcl_drill_run.specs.Participants.{AreDealt, AreMembersOf, IsMemberOf};
@@ -12,7 +12,7 @@ use kds_base::{Memory, WorkerNo};
 use kds_turn::{Hall, Pass};
 use std::alloc::Global;
 
-/// A worker that tallies, with its pass.
+/// A worker whose processor counts records and bytes, with the worker's pass.
 pub type DrillMember = Member<World, Stock, Kind, OpenGate>;
 
 /// The passes and the workers of a drill.
@@ -23,7 +23,7 @@ pub struct Participants {
     pub members: Vec<DrillMember>,
 }
 
-/// The worker of this name, with its pass.
+/// The worker with this name and pass.
 fn member(alloc: Global, name: u32, pass: Pass<World>) -> DrillMember
     requires { 1 ≤ name }
     ensures { IsMemberOf name pass result }
@@ -36,7 +36,7 @@ fn member(alloc: Global, name: u32, pass: Pass<World>) -> DrillMember
     }
 }
 
-/// The workers w1, w2, .., one for each of the passes.
+/// The workers w1, w2 and so on, one worker for each of the passes.
 fn members_of(alloc: Global, passes: Vec<Pass<World>>) -> Result<Vec<DrillMember>, Memory>
     requires { vec_len passes ≤ MOST_WORKERS }
     ensures { IfOk result (λ made. AreMembersOf 1 passes.items made.items) }
@@ -50,8 +50,8 @@ fn members_of(alloc: Global, passes: Vec<Pass<World>>) -> Result<Vec<DrillMember
     Ok(made)
 }
 
-/// The hall of a new machine, and who takes part there: the root has the first pass, the feeder the second, and each worker
-/// another one. Memory: want of memory.
+/// Makes a hall with a new machine, and the participants. The root gets the first pass, the feeder the second, and each
+/// worker a further pass. Memory: memory ran out.
 pub fn assemble(alloc: Global, workers: u32) -> Result<(Hall<World>, Participants), Memory>
     requires { workers ≤ MOST_WORKERS }
     ensures { IfOk result (λ made. AreDealt made.0 made.1 × (length made.1.members.items ≡ workers)) }

@@ -1,4 +1,4 @@
-//! The run of a drill.
+//! Runs a drill to its summary.
 ghost use Rattle.std.specs.Prelude.{◌≡◌, ◌≤◌, IfOk};
 ghost use Rattle.kds_ends.specs.Causes.{Rose};
 ghost use Rattle.kcl_drill.specs.declared.limits.TheConstants.{MOST_RECORDS, MOST_WORKERS};
@@ -18,8 +18,8 @@ use std::alloc::Global;
 use std::sync::Wait;
 use std::thread::Threads;
 
-/// The machine after a drill of so many workers, whose hall was closed. Memory: want of memory for the hall, for a command
-/// of the generator, or for a worker.
+/// Runs a drill with `workers` workers, closes the hall, and returns its machine. Memory: memory ran out for the hall,
+/// for a command of the generator, or for a worker.
 fn drill<R: Threads + Wait + Sync>(
     rt: &R,
     alloc: Global,
@@ -32,7 +32,8 @@ fn drill<R: Threads + Wait + Sync>(
 {
     let (hall, mut participants) = assemble(alloc, workers)?;
     let ran = run_threads(rt, alloc, &hall, &mut participants, number, records);
-    // However they ended, the hall is closed and its history counted: it is too short for `Spent`.
+    // The hall is closed however the threads have ended: from the closed history it follows that there are too few
+    // turns for `Spent`.
     let world = close(hall, participants);
     match ran {
         Ok(()) => Ok(world),
@@ -41,7 +42,7 @@ fn drill<R: Threads + Wait + Sync>(
     }
 }
 
-/// The summary after a drill, once each shard was read to its end. Memory: want of memory.
+/// Runs a drill, reads each shard to its end, and returns the summary. Memory: memory ran out.
 fn find_text<R: Threads + Wait + Sync>(
     rt: &R,
     alloc: Global,
@@ -56,9 +57,9 @@ fn find_text<R: Threads + Wait + Sync>(
     drained_text(alloc, &mut world)
 }
 
-/// Runs a drill of a number with so many workers and records, and writes its summary: the same text at each run, whatever
-/// the number of workers is and however the threads ran. Done: the text was written. Write: the sink failed. Memory:
-/// want of memory, before anything was written. It may wait for its threads.
+/// Runs the drill `number` with this many workers and records, and writes its summary. The text depends only on
+/// `number` and `records`, not on the number of workers or the timing of the threads. Done: the text was written.
+/// Write: the sink failed. Memory: memory ran out before anything was written. The function waits for its threads.
 pub fn run_drill<R: Threads + Wait + Sync, K: Sink>(
     rt: &R,
     alloc: Global,

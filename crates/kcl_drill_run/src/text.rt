@@ -1,4 +1,4 @@
-//! The text of a drill.
+//! The text that a drill writes.
 ghost use Rattle.std.specs.Prelude.{ℕ, ◌≡◌, ◌<◌, ◌^◌, ◌++◌, List, length, IfOk};
 ghost use Rattle.kds_defs.specs.declared.command.Turn.{Turn};
 ghost use Rattle.kds_defs.specs.Histories.{journal};
@@ -12,11 +12,12 @@ use kds_base::{Memory, Moment, Octets};
 use kds_defs::Machine;
 use std::alloc::Global;
 
-/// The actor of what is done once the hall was closed: no pass has this number.
+/// The actor of the turns after the hall was closed. No pass has this number.
 const NOBODY: u32 = 0;
 
-/// Reads each shard of a drill's machine to its end, and gives the summary. The turns are at the clock, whatever that is:
-/// their moment isn't above it. Whatever comes of it, the machine has answered some turns more. Memory: want of memory.
+/// Reads each shard of a drill's machine to its end, and returns the summary. The turns are at moment 0, so each takes
+/// place at the machine's present clock. Even if memory runs out, the machine has only answered further turns. Memory:
+/// memory ran out.
 pub fn drained_text<M: Machine>(alloc: Global, machine: &mut M) -> Result<Octets, Memory>
     ensures text { (number records : ℕ) (h : List Turn) → M.stands_for machine.old h → IsDrill h number records → length h < 2 ^ 32
         → AreFromHorizon (journal h) → IfOk result (λ text. text ≡ drill_text number records) }

@@ -1,4 +1,4 @@
-//! The threads of a drill.
+//! Runs the threads of a drill.
 ghost use Rattle.std.specs.Prelude.{◌≡◌, ◌≤◌, IfErr, OnOk};
 ghost use Rattle.kds_turn.specs.declared.pass.TurnErr.TheVariants as failed;
 ghost use Rattle.kcl_drill.specs.declared.limits.TheConstants.{MOST_RECORDS};
@@ -14,7 +14,7 @@ use std::alloc::Global;
 use std::sync::Wait;
 use std::thread::Threads;
 
-/// How the first worker ended that didn't run to its end, if there is one.
+/// The error of the first worker whose run failed. `Ok` if there is no such worker.
 fn first_error(members: &[DrillMember]) -> Result<(), TurnErr>
     ensures ok { OnOk result (AllEnded members.now) }
     ensures err { IfErr result (λ e. SomeFailed e members.now) }
@@ -28,8 +28,9 @@ fn first_error(members: &[DrillMember]) -> Result<(), TurnErr>
     Ok(())
 }
 
-/// Runs the threads of a drill: the root's command, and then the feeder's beside the workers. Memory: want of memory for a
-/// command of the generator, for its turn, or for a worker. Spent: the hall's history is full.
+/// Runs the threads of a drill: first the root's command, and then the feeder's commands concurrently with the workers.
+/// Memory: memory ran out for a command of the generator, for its turn, or for a worker. Spent: the hall's number of
+/// turns has reached its limit.
 pub fn run_threads<R: Threads + Wait + Sync>(
     rt: &R,
     alloc: Global,

@@ -1,4 +1,4 @@
-//! A turn that only reads.
+//! Makes a turn that only reads.
 ghost use Rattle.std.specs.Prelude.{◌≡◌, List, true, max, IfOk};
 ghost use Rattle.kds_defs.specs.declared.command.Turn.{Turn as Asked};
 ghost use Rattle.kds_defs.specs.Histories.{answer_of, clock, decide, journal};
@@ -8,7 +8,7 @@ ghost use Rattle.kcl_drill_summary.specs.Reading.{HasRead, is_reading};
 use kds_base::{Memory, Moment};
 use kds_defs::{Answer, Command, Machine, Turn};
 
-/// Asks the machine a command that only reads. What was read before changes no answer.
+/// Makes a turn of a command that only reads. Turns that only read change no later answer.
 pub fn ask<M: Machine>(
     machine: &mut M,
     by: u32,

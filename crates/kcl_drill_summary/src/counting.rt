@@ -1,4 +1,4 @@
-//! How many records a shard has, and their payload bytes.
+//! Counts a shard's records and their payload bytes.
 ghost use Rattle.std.specs.Prelude.{◌≡◌, ◌+◌, ◌<◌, ◌^◌, List, length, map, Option, Some, Ok, IfOk, IfSome};
 ghost use Rattle.kds_defs.specs.declared.command.Turn.{Turn as Asked};
 ghost use Rattle.kds_defs.specs.declared.reply.Iter.{Iter};
@@ -14,14 +14,14 @@ use kds_base::{Memory, Moment};
 use kds_defs::limits::MOST;
 use kds_defs::{Answer, Command, Iter, Machine, Reply, Stored};
 
-/// How many records, and their payload bytes.
+/// A number of records, and the total of their payload bytes.
 #[derive(Clone, Copy)]
 pub struct Count {
     pub count: u64,
     pub bytes: u128,
 }
 
-/// The payload bytes of a batch.
+/// The total of the payload bytes in a batch.
 fn payload_bytes(batch: &[Stored]) -> u128
     ensures { bytes_of (map logged batch.now) < 2 ^ 128 → result ≡ bytes_of (map logged batch.now) }
 {
@@ -32,7 +32,7 @@ fn payload_bytes(batch: &[Stored]) -> u128
     bytes
 }
 
-/// The count with a batch.
+/// The count `count` increased by the records of a batch.
 fn with_batch(count: Count, batch: &[Stored]) -> Count
     ensures count { count.count + length batch.now < 2 ^ 64 → result.count ≡ count.count + length batch.now }
     ensures bytes { count.bytes + bytes_of (map logged batch.now) < 2 ^ 128
@@ -44,7 +44,7 @@ fn with_batch(count: Count, batch: &[Stored]) -> Count
     }
 }
 
-/// Where reading goes on, if that is above a position.
+/// The iterator `next` if its position is above `position`, otherwise `None`.
 fn above(position: u64, next: Option<Iter>) -> Option<Iter>
     ensures { result ≡ next_above position next }
 {
@@ -60,7 +60,7 @@ fn above(position: u64, next: Option<Iter>) -> Option<Iter>
     }
 }
 
-/// The count with the batch of an answer, and where reading goes on above a position.
+/// The count `count` increased by the batch in an answer, and the next iterator if its position is above `position`.
 fn absorb(count: Count, position: u64, answer: &Answer) -> (Count, Option<Iter>)
     ensures batch { Absorbs count.count count.bytes position answer.now result.0.count result.0.bytes result.1 }
     ensures rises { IfSome result.1 (λ next. position < next.position) }
@@ -74,9 +74,9 @@ fn absorb(count: Count, position: u64, answer: &Answer) -> (Count, Option<Iter>)
     }
 }
 
-/// One read at an iterator: the count with its batch, and where reading goes on. The position must rise with each
-/// batch, so that counting ends over any machine.
-fn step<M: Machine>(
+/// Reads once at an iterator. Returns the count increased by the batch, and the next iterator. The next iterator is
+/// returned only if its position has increased, so that counting ends on any machine.
+fn count_batch<M: Machine>(
     machine: &mut M,
     by: u32,
     at: Moment,
@@ -93,7 +93,7 @@ fn step<M: Machine>(
     Ok(seen)
 }
 
-/// Counts the records from an iterator on.
+/// Counts the records from an iterator to the shard's end.
 pub fn count_from<M: Machine>(
     machine: &mut M,
     by: u32,
@@ -106,7 +106,7 @@ pub fn count_from<M: Machine>(
     let mut iter = from;
     let mut count = Count { count: 0, bytes: 0 };
     loop {
-        let (now, next) = step(machine, by, at, iter, count)?;
+        let (now, next) = count_batch(machine, by, at, iter, count)?;
         count = now;
         match next {
             Some(next) => iter = next,

@@ -1,4 +1,4 @@
-//! The summary of a drill, read from a machine.
+//! Computes the summary of a drill from a machine.
 #![tactic(auto)]
 
 mod asking;

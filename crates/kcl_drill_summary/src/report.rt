@@ -1,4 +1,4 @@
-//! The summary of a drill.
+//! Computes the summary of a drill.
 ghost use Rattle.std.specs.Prelude.{ℕ, ◌≡◌, ◌++◌, List, max, Ok, IfOk, OnOk, OnErr};
 ghost use Rattle.kds_base.specs.declared.lease_key.ShardRef.{ShardRef};
 ghost use Rattle.kds_defs.specs.declared.command.Turn.{Turn as Asked};
@@ -18,7 +18,7 @@ use kds_base::{Memory, Moment, Octets};
 use kds_defs::{Answer, Command, Machine, Reply};
 use std::alloc::Global;
 
-/// What is told of each shard of the drill's stream in a survey.
+/// The totals of each shard of the drill's stream that a survey lists.
 fn sum_survey<M: Machine>(
     alloc: Global,
     machine: &mut M,
@@ -38,7 +38,7 @@ fn sum_survey<M: Machine>(
     }
 }
 
-/// The text of the summary.
+/// The text of a drill's summary.
 fn find_text<M: Machine>(
     alloc: Global,
     machine: &mut M,
@@ -56,9 +56,9 @@ fn find_text<M: Machine>(
     text_of(alloc, sums.as_slice())
 }
 
-/// Adds the summary of a drill: a line for each listed shard of its stream, and then the records and the payload bytes
-/// of all. It is read from the machine by turns of an actor at a moment, which leave the journal as it is. After want of
-/// memory the text is as before.
+/// Adds a drill's summary: one line for each listed shard of its stream, then the total number of records and of
+/// payload bytes over all shards. The summary is read from the machine by turns of the actor `by` at the moment `at`,
+/// which don't change the journal. If memory runs out, nothing is added.
 pub fn summary<M: Machine>(
     alloc: Global,
     machine: &mut M,

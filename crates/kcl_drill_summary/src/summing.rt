@@ -1,4 +1,4 @@
-//! What is told of each shard.
+//! Computes the totals of each shard.
 ghost use Rattle.std.specs.Prelude.{ℕ, ◌≡◌, ◌==◌, ◌++◌, List, Some, Ok, IfOk, OnOk};
 ghost use Rattle.kds_base.specs.declared.lease_key.ShardRef.{ShardRef};
 ghost use Rattle.kds_defs.specs.declared.command.Turn.{Turn as Asked};
@@ -17,8 +17,8 @@ use kds_defs::{Answer, Command, Iter, Machine, Reply, Row, Start};
 use std::alloc::Global;
 use std::marker::Model;
 
-/// What is told of a shard: its number, how many records it has and their payload bytes, its row's checkpoint.
-/// Contracts see the fields.
+/// The totals of a shard: its number, its number of records, the total of their payload bytes, and the checkpoint in
+/// its row. Contracts see the fields.
 #[derive(Clone, Copy)]
 pub struct ShardSum {
     pub no: ShardNo,
@@ -37,7 +37,7 @@ impl Model for ShardSum {
     ghost inverse = { λ x. record { no = x.no; count = x.count; bytes = x.bytes; checkpoint = x.checkpoint } };
 }
 
-/// The iterator of an answer, where it is of this stream.
+/// The iterator in an answer, if it belongs to `stream`.
 fn iterator_of(answer: &Answer, stream: StreamNo) -> Option<Iter>
     ensures { result ≡ iterator_in answer.now stream }
 {
@@ -53,7 +53,7 @@ fn iterator_of(answer: &Answer, stream: StreamNo) -> Option<Iter>
     }
 }
 
-/// Counts the records of a shard, where it is one of the drill's stream.
+/// Counts the records of a shard. `None` if the shard doesn't belong to the drill's stream.
 fn count_key<M: Machine>(
     alloc: Global,
     machine: &mut M,
@@ -78,7 +78,7 @@ fn count_key<M: Machine>(
     }
 }
 
-/// Adds what is told of a shard, where it was counted.
+/// Adds the totals of a shard, unless `found` is `None`.
 fn add_sum(
     sums: &mut Vec<ShardSum>,
     key: &ShardRef,
@@ -98,7 +98,8 @@ fn add_sum(
     Ok(())
 }
 
-/// What is told of those of these shards that are the drill's stream's, and whose rows are among these.
+/// The totals of those shards among `keys` that belong to the drill's stream. Their checkpoints are taken from the rows
+/// `among`.
 pub fn sum_shards<M: Machine>(
     alloc: Global,
     machine: &mut M,

@@ -42,6 +42,6 @@ Asks false coming left before after = (coming ≡ []) × (left ≡ []) × (after
 abbrev pub IsTurnErr : Standing → TurnErr → Type 0
 IsTurnErr p e = (e ≡ failed.Spent) ↔ (length p.seen + 1 ≡ 2 ^ 64)
 
--- why no turn was taken: the generator's want of memory, which leaves the pass as it was, or the error of the turn
+-- why no turn was taken: the generator ran out of memory, which leaves the pass as it was, or the error of the turn
 abbrev pub IsAskErr : Standing → Standing → TurnErr → Type 0
 IsAskErr before after e = ((e ≡ failed.Memory) × (after ≡ before)) ⊎ IsTurnErr after e

@@ -36,7 +36,7 @@ pub record IsAtOwn (p : Standing) : Type 0 where
   pub seen : p.seen ≡ last ∷ place
   pub own : p.own ≡ last ∷ before
 
--- why the feeder left off: the generator's want of memory, before its first turn or right after one, or the error of a turn
+-- why the feeder left off: the generator ran out of memory, before its first turn or right after one, or the error of a turn
 abbrev pub IsFeedErr : Standing → TurnErr → Type 0
 IsFeedErr p e = ((e ≡ failed.Memory) × ((p.own ≡ []) ⊎ IsAtOwn p)) ⊎ IsTurnErr p e
 

@@ -1,4 +1,4 @@
-//! A generator's command as a turn of a pass.
+//! Makes a generator's command as a turn of a pass.
 ghost use Rattle.std.specs.Prelude.{◌≡◌, IfOk, IfErr, OnErr};
 ghost use Rattle.kcl_drill_threads.specs.Asking.{Asks, IsAskErr, IsKept};
 
@@ -8,8 +8,8 @@ use kds_defs::Machine;
 use kds_turn::{Hall, Pass, TurnErr};
 use std::sync::Wait;
 
-/// Takes the generator's next command as a turn of the pass, at moment 0, and answers whether there was one. Memory: want
-/// of memory for the command or for its turn. Spent: the hall's history is full.
+/// Makes a turn of the generator's next command with the pass, at moment 0. Returns `false` if no command is left.
+/// Memory: memory ran out for the command or its turn. Spent: the hall's number of turns has reached its limit.
 pub(crate) fn ask_next<M: Machine, R: Wait>(
     rt: &R,
     hall: &Hall<M>,

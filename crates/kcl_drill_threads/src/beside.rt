@@ -1,4 +1,4 @@
-//! The generator's commands, beside something else.
+//! Makes the generator's commands while another thread does something else.
 ghost use Rattle.std.specs.Prelude.{◌≡◌, []};
 ghost use Rattle.kcl_drill_threads.specs.Beside.{Accepts, Leaves};
 ghost use Rattle.kcl_drill_threads.specs.Feeding.{Feeds};
@@ -10,7 +10,7 @@ use kds_turn::{Hall, Pass, TurnErr};
 use std::sync::Wait;
 use std::thread::{Threads, join_mut};
 
-/// Runs over these.
+/// Calls `run` with `items`.
 fn run_over<T, V: Fn(&mut [T])>(run: &V, items: &mut [T])
     requires { Accepts V.Fn run.now items.old }
     ensures { Leaves V.Fn run.now items.old items.new }
@@ -18,8 +18,9 @@ fn run_over<T, V: Fn(&mut [T])>(run: &V, items: &mut [T])
     run(items);
 }
 
-/// Has the feeder make all commands that are left in a thread of its own, while the calling thread runs over these. Where
-/// no thread can be made the calling thread does both. Memory, Spent: as a turn.
+/// Lets the feeder make all remaining commands in a thread of its own, while the calling thread calls `run` with
+/// `items`. If no thread can be started, the calling thread does both. Memory, Spent: a turn of the feeder failed for
+/// this reason.
 pub(crate) fn feed_beside<M, T, V, R>(
     rt: &R,
     hall: &Hall<M>,

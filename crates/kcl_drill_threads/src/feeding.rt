@@ -1,4 +1,4 @@
-//! The turns of a drill's root and feeder.
+//! The turns that a drill's root and feeder make.
 ghost use Rattle.std.specs.Prelude.{◌≡◌, [], take, drop, IfErr, OnErr, OnOk};
 ghost use Rattle.kcl_drill_threads.specs.Asking.{HasAsked, IsAskErr, IsKept};
 ghost use Rattle.kcl_drill_threads.specs.Feeding.{Feeds, IsAfter};
@@ -9,7 +9,8 @@ use kds_defs::Machine;
 use kds_turn::{Hall, Pass, TurnErr};
 use std::sync::Wait;
 
-/// Has the root make the generator's first command, and the feeder learn of it. Memory, Spent: as a turn.
+/// Lets the root make the generator's first command, and sends a note about it to the feeder. Memory, Spent: the root's
+/// turn failed for this reason.
 pub(crate) fn begin<M: Machine, R: Wait>(
     rt: &R,
     hall: &Hall<M>,
@@ -38,7 +39,7 @@ pub(crate) fn begin<M: Machine, R: Wait>(
     Ok(())
 }
 
-/// Has the feeder make all commands that are left. Memory, Spent: as a turn.
+/// Lets the feeder make all remaining commands. Memory, Spent: a turn failed for this reason.
 pub(crate) fn feed<M: Machine, R: Wait>(
     rt: &R,
     hall: &Hall<M>,

@@ -1,4 +1,4 @@
-//! The threads of a drill: its generator, and its workers beside it.
+//! The threads of a drill: one makes the generator's commands, and the others run the workers.
 #![tactic(auto)]
 
 mod asking;

@@ -1,4 +1,4 @@
-//! The generator and the workers of a drill, beside one another.
+//! Runs the generator and the workers of a drill concurrently.
 ghost use Rattle.std.specs.Prelude.{◌≡◌, ◌+◌, ◌*◌, ◌/◌, ◌^◌, ◌<◌, ◌≤◌, [], All, IfErr, OnErr, OnOk};
 ghost use Rattle.kcl_live.specs.Members.{IsReady};
 ghost use Rattle.kcl_drill_threads.specs.Asking.{IsKept};
@@ -17,7 +17,7 @@ use std::alloc::Global;
 use std::sync::Wait;
 use std::thread::Threads;
 
-/// Has the feeder make all commands that are left, and runs the members beside that, each for so many turns.
+/// Lets the feeder make all remaining commands. Concurrently, each member runs for `turns` turns.
 fn run_both<M, P, F, G, R>(
     rt: &R,
     hall: &Hall<M>,
@@ -52,11 +52,12 @@ where
     )
 }
 
-/// The threads of a drill. The root makes the generator's first command, of which the feeder learns by a note. Then the
-/// feeder makes the other commands, beside the members, each of which makes `MEMBER_TURNS + records / RECORDS_A_TURN` turns
-/// with a tick of `TICK` milliseconds before it is stopped (Kinesis Client Library, Scheduler). All turns of root and feeder are at moment 0.
-/// Where a thread can't be started the calling thread does that work itself. Memory: want of memory for a command or its
-/// turn. Spent: the hall's history is full. How each member ended stands in its outcome.
+/// Runs the threads of a drill. First the root makes the generator's first command, and sends a note about it to the
+/// feeder. Then the feeder makes the other commands. Concurrently, each member makes `MEMBER_TURNS + records /
+/// RECORDS_A_TURN` turns, with a tick of `TICK` milliseconds, and is then stopped (Kinesis Client Library, Scheduler).
+/// All turns of the root and of the feeder are at moment 0. If a thread can't be started, the calling thread does the
+/// work itself. Memory: memory ran out for a command or its turn. Spent: the hall's number of turns has reached its
+/// limit. The `outcome` of each member states how its run ended.
 pub fn crowd<M, P, F, G, R>(
     rt: &R,
     alloc: Global,
@@ -78,15 +79,16 @@ where
     requires ready { All (IsReady P.stands_for hall.now) members.old }
     requires few { records ≤ MOST_RECORDS }
 
-    // The passes keep their numbers, and take in no others.
+    // The passes of the root and of the feeder keep their numbers, and take in no other pass.
     ensures kept { IsKept root.old root.new × IsKept feeder.old feeder.new }
 
-    // The root's turn is the generator's first command, and the feeder's are the others in their order, after it.
+    // The root's only turn is the generator's first command. The feeder's turns come after it: the other commands in
+    // their order.
     ensures fed { OnOk result (HasFed number records root.new feeder.new) }
     ensures fed_so_far { OnErr result (HasFedSoFar number records root.new feeder.new) }
     ensures err { IfErr result (IsCrowdErr root.old root.new feeder.new) }
 
-    // Each member has run, or after an error is as before.
+    // Each member has run. After an error, each member has run or is as before.
     ensures members { OnOk result (HaveEnded P.stands_for (MEMBER_TURNS + records / RECORDS_A_TURN) members.old members.new) }
     ensures members_or_not { OnErr result (HaveEndedOrNot P.stands_for (MEMBER_TURNS + records / RECORDS_A_TURN) members.old members.new) }
 {

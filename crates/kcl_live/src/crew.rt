@@ -1,4 +1,4 @@
-//! Workers that run at once.
+//! Workers that run concurrently.
 ghost use Rattle.std.specs.Prelude.{◌*◌, ◌<◌, ◌^◌, ℕ, All, length, slice_index_or};
 ghost use Rattle.kcl_live.specs.Members.{HasEnded, IsReady};
 
@@ -11,7 +11,7 @@ use kds_turn::{Hall, Pass, TurnErr};
 use std::sync::Wait;
 use std::thread::{Threads, for_each_mut};
 
-/// A worker with its pass and its gate, and how its run ended.
+/// A worker with its pass, its gate, and the outcome of its run.
 #[derive(Drop)]
 pub struct Member<M, P: Processor, F: Maker<P>, G> {
     pub pass: Pass<M>,
@@ -20,7 +20,7 @@ pub struct Member<M, P: Processor, F: Maker<P>, G> {
     pub outcome: Result<(), TurnErr>,
 }
 
-/// Runs one member, and keeps how it ended.
+/// Runs the worker of one member, and stores the outcome in the member.
 fn run_member<M: Machine, P: Processor + Drop, F: Maker<P>, G: Gate, R: Wait>(
     rt: &R,
     hall: &Hall<M>,
@@ -43,8 +43,8 @@ fn run_member<M: Machine, P: Processor + Drop, F: Maker<P>, G: Gate, R: Wait>(
     );
 }
 
-/// Runs all members at once, each in a thread of its own, as `run_worker` runs one. Where a thread can't be started the
-/// calling thread does that work itself. How each ended stands in its outcome.
+/// Runs the workers of all members concurrently by `run_worker`, each in a thread of its own. If a thread can't be
+/// started, the calling thread runs that worker itself. Each member's `outcome` says how its run ended.
 pub fn run_crew<M, P, F, G, R>(
     rt: &R,
     hall: &Hall<M>,

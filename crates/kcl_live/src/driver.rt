@@ -1,4 +1,4 @@
-//! A worker that takes its turns by a pass.
+//! Runs a worker, whose commands become turns of a pass.
 ghost use Rattle.std.specs.Prelude.{◌≡◌, ◌⊎◌, ℕ, ◌*◌, ◌+◌, ◌<◌, ◌≤◌, ◌^◌, [], length, None, IfErr, OnErr, OnOk, true, false};
 ghost use Rattle.kcl_worker_lists.specs.Lists.{due_in};
 ghost use Rattle.kcl_worker.specs.Standing.{StandsFor, is_idle_in};
@@ -8,7 +8,7 @@ ghost use Rattle.kcl_live.specs.Runs.{AreServedSoFar, HasRun, WasCut};
 ghost use Rattle.kcl_live.specs.Steps.{IsFinishing, IsGoing};
 
 use crate::gate::Gate;
-use crate::steps::{call_all, turn};
+use crate::steps::{call_all, make_turn};
 use kcl_consumer::{Maker, Processor};
 use kcl_worker::{Worker, served};
 use kds_base::Moment;
@@ -16,7 +16,7 @@ use kds_defs::Machine;
 use kds_turn::{Hall, Pass, TurnErr};
 use std::sync::Wait;
 
-/// The moment of so many milliseconds.
+/// Returns the moment at `ms` milliseconds.
 fn moment(ms: u64) -> Moment
     requires { ms < 2 ^ 62 }
     ensures { result ≡ ms }
@@ -24,7 +24,8 @@ fn moment(ms: u64) -> Moment
     Moment::new(ms).unwrap()
 }
 
-/// A round of a worker that wasn't stopped: the processor calls that are due, then a turn at this moment.
+/// Makes one round of a worker that wasn't stopped: the processor calls that are due, and then a turn at the moment
+/// `now`.
 fn round<M: Machine, P: Processor + Drop, F: Maker<P>, G: Gate, R: Wait>(
     rt: &R,
     hall: &Hall<M>,
@@ -46,13 +47,13 @@ fn round<M: Machine, P: Processor + Drop, F: Maker<P>, G: Gate, R: Wait>(
     ensures err { IfErr result (λ e. WasCut P.stands_for worker.new pass.new e) }
 {
     match call_all(worker, gate) {
-        Ok(()) => turn(rt, hall, pass, worker, now),
+        Ok(()) => make_turn(rt, hall, pass, worker, now),
         Err(error) => Err(error),
     }
 }
 
-/// A round of a worker that was stopped and isn't idle, whose calls were made: a turn at this moment, then the calls that it
-/// led to.
+/// Makes one round of a worker that was stopped and isn't idle, and for which no processor call is due: a turn at the
+/// moment `now`, and then the processor calls that become due.
 fn last_round<M: Machine, P: Processor + Drop, F: Maker<P>, G: Gate, R: Wait>(
     rt: &R,
     hall: &Hall<M>,
@@ -76,14 +77,14 @@ fn last_round<M: Machine, P: Processor + Drop, F: Maker<P>, G: Gate, R: Wait>(
     ensures finishing { OnOk result ((most : ℕ) → IsFinishing P.stands_for worker.old pass.old most → IsFinishing P.stands_for worker.new pass.new most) }
     ensures err { IfErr result (λ e. WasCut P.stands_for worker.new pass.new e) }
 {
-    match turn(rt, hall, pass, worker, now) {
+    match make_turn(rt, hall, pass, worker, now) {
         Ok(()) => call_all(worker, gate),
         Err(error) => Err(error),
     }
 }
 
-/// The rounds of a worker that was stopped, until it is idle. So many turns it has made, and at most three times as many it
-/// makes, since after a stop each batch is given once and each lease is freed once.
+/// Makes rounds of a worker that was stopped, until it is idle. The worker has made `turns` turns. It makes at most
+/// three times this number in all, because after a stop each batch is given once and each lease is freed once.
 fn finish<M: Machine, P: Processor + Drop, F: Maker<P>, G: Gate, R: Wait>(
     rt: &R,
     hall: &Hall<M>,
@@ -120,7 +121,7 @@ fn finish<M: Machine, P: Processor + Drop, F: Maker<P>, G: Gate, R: Wait>(
     Ok(())
 }
 
-/// So many rounds, a stop, and the rounds until the worker is idle.
+/// Makes `turns` rounds of a worker, stops it, and makes rounds until it is idle.
 fn drive<M: Machine, P: Processor + Drop, F: Maker<P>, G: Gate, R: Wait>(
     rt: &R,
     hall: &Hall<M>,
@@ -151,10 +152,11 @@ fn drive<M: Machine, P: Processor + Drop, F: Maker<P>, G: Gate, R: Wait>(
     finish(rt, hall, pass, worker, gate, turns, tick)
 }
 
-/// Runs a new worker by a pass without turns of its own. In each round it makes the processor calls that are due, and then
-/// one turn; the k-th turn, k from 1, is at k * tick milliseconds. After so many turns the worker is stopped, and goes on
-/// until it is idle, with at most three times as many turns in all (Kinesis Client Library, Scheduler). Memory: want of
-/// memory in a processor's call, for a turn, or for its answer. Spent: the hall's history is full.
+/// Runs a new worker through `pass`, which must not have made a turn yet. In each round, the processor calls that are
+/// due are made, and then one turn. The turns are numbered from 1, and turn k is at k * `tick` milliseconds. After
+/// `turns` turns the worker is stopped. It goes on until it is idle, and makes at most three times `turns` turns in
+/// all (Kinesis Client Library, Scheduler). The error `Memory` means that memory ran out in a processor call, for a
+/// turn, or for its answer. The error `Spent` means that the hall's history is full.
 pub fn run_worker<M: Machine, P: Processor + Drop, F: Maker<P>, G: Gate, R: Wait>(
     rt: &R,
     hall: &Hall<M>,
@@ -167,22 +169,23 @@ pub fn run_worker<M: Machine, P: Processor + Drop, F: Maker<P>, G: Gate, R: Wait
     requires hall { pass.old.hall ≡ hall.now.id }
     requires new { StandsFor P.stands_for worker.old [] × (pass.old.own ≡ []) }
     requires moments { 3 * turns * tick < 2 ^ 62 }
-    // The pass keeps its number and takes in no other, and the worker its name and settings.
+    // The pass keeps its number and joins no other pass. The worker keeps its name and settings.
     ensures kept { (pass.new.hall ≡ pass.old.hall) × (pass.new.by ≡ pass.old.by) × (pass.new.joined ≡ pass.old.joined) }
     ensures made { worker.new.made ≡ worker.old.made }
     ensures seen { Continues pass.new.seen pass.old.seen }
 
-    // The own turns are the commands of the worker's record, at their moments.
+    // The pass's own turns are the commands of the worker's record, each at its moment.
     ensures moments { AreOnLeasesAt tick pass.new.own }
     ensures ok { OnOk result (HasRun P.stands_for worker.new pass.new) }
     ensures least { OnOk result (turns ≤ length pass.new.own) }
     ensures most { length pass.new.own ≤ 3 * turns }
     ensures idle { OnOk result (is_idle_in worker.new ≡ true) }
 
-    // An error is that of a processor's call, of a turn, or of an answer that wasn't taken.
+    // An error comes from a processor call, from a turn, or from an answer that the worker couldn't absorb.
     ensures err { IfErr result (λ e. WasCut P.stands_for worker.new pass.new e) }
 
-    // The processors are called for the given reads of their tenures, in each history that has no other turns of the pass.
+    // The processors are called for the given reads of their tenures. This holds in each history in which the pass
+    // makes only these turns.
     ensures served { OnOk result (AreServedLater P.stands_for pass.new.by pass.new.seen pass.new.own worker.new) }
     ensures served_so_far { OnErr result (AreServedSoFar P.stands_for worker.new pass.new) }
 {

@@ -1,13 +1,14 @@
-//! What is told of the processor calls of a worker on a thread.
+//! A hook around the processor calls of a worker that runs on a thread.
 use kcl_defs::Due;
 use kds_base::WorkerNo;
 
-/// What is told before and after each call of a worker's processors, while no turn is held. A gate may wait there.
+/// A hook that is called before and after each processor call of a worker, at times when no turn is held. The hook may
+/// wait.
 pub trait Gate {
-    /// The processor call comes next.
+    /// Called right before the worker makes the processor call `due`.
     fn before(&mut self, worker: WorkerNo, due: Due);
 
-    /// The processor call came back.
+    /// Called right after the processor call `due` has returned.
     fn after(&mut self, worker: WorkerNo, due: Due);
 }
 

@@ -1,4 +1,4 @@
-//! One step of a worker: the processor calls that are due, then one turn.
+//! One step of a worker: the processor calls that are due, and then one turn.
 ghost use Rattle.std.specs.Prelude.{◌≡◌, ◌⊎◌, ℕ, ◌∷◌, List, None, IfErr, IsSome, OnErr, OnOk, false};
 ghost use Rattle.kcl_defs.specs.declared.consumer.Ask.{Ask};
 ghost use Rattle.kcl_defs.specs.Workers.{WorkerPast};
@@ -17,8 +17,8 @@ use kds_defs::{Machine, let_go};
 use kds_turn::{Hall, Pass, TurnErr};
 use std::sync::Wait;
 
-/// Makes all processor calls that are due, each between the gate's two. Memory: a processor's want of memory; then its call is
-/// still due.
+/// Makes all processor calls that are due. The gate's `before` and `after` are called around each of them. The error
+/// `Memory` means that a processor ran out of memory; then its call is still due.
 pub(crate) fn call_all<P: Processor, F: Maker<P>, G: Gate>(
     worker: &mut Worker<P, F>,
     gate: &mut G,
@@ -45,7 +45,7 @@ pub(crate) fn call_all<P: Processor, F: Maker<P>, G: Gate>(
     Ok(())
 }
 
-/// The answer that wasn't taken isn't needed any more.
+/// Drops the answer that the worker couldn't absorb. Returns the error `Memory`.
 fn without(left: NoRoom) -> TurnErr
     ensures { result ≡ TurnErr.Memory }
 {
@@ -53,9 +53,9 @@ fn without(left: NoRoom) -> TurnErr
     TurnErr::Memory
 }
 
-/// The worker's next command as a turn of the pass at this moment, whose answer it takes. Memory: want of memory for the
-/// turn or for its answer. Spent: the hall's history is full.
-pub(crate) fn turn<M: Machine, P: Processor + Drop, F: Maker<P>, R: Wait>(
+/// Makes the worker's next command as a turn of the pass at the moment `now`. The worker absorbs the answer. The error
+/// `Memory` means that memory ran out for the turn or for its answer, and `Spent` that the hall's history is full.
+pub(crate) fn make_turn<M: Machine, P: Processor + Drop, F: Maker<P>, R: Wait>(
     rt: &R,
     hall: &Hall<M>,
     pass: &mut Pass<M>,

@@ -1,11 +1,11 @@
-//! The command line: its subcommands and their arguments.
+//! The command line's subcommands and their arguments, as `clap` gets them.
 ghost use Rattle.std.specs.Prelude.{IfOk};
-ghost use Rattle.kds_cli_words.specs.Apps.{HasApp, answer_app, audit_app, bare_app, drill_app, kds_app, replay_app, serve_app};
+ghost use Rattle.kds_cli_words.specs.Apps.{HasApp, answer_kds, audit_kds, bare_app, drill_app, kds_app, replay_app, replay_kds, serve_app, serve_kds};
 
 use clap::{Arg, ArgAction, Command};
 use std::alloc::{AllocError, Global};
 
-/// `replay`, with a flag.
+/// The subcommand `replay`, with its flag.
 fn replay_command<'a>(alloc: Global) -> Result<Command<'a>, AllocError>
     ensures { IfOk result (λ c. HasApp c replay_app) }
 {
@@ -15,7 +15,7 @@ fn replay_command<'a>(alloc: Global) -> Result<Command<'a>, AllocError>
     Command::new(alloc, "replay").arg(journal)
 }
 
-/// `serve`, with two words.
+/// The subcommand `serve`, with two arguments.
 fn serve_command<'a>(alloc: Global) -> Result<Command<'a>, AllocError>
     ensures { IfOk result (λ c. HasApp c serve_app) }
 {
@@ -24,7 +24,7 @@ fn serve_command<'a>(alloc: Global) -> Result<Command<'a>, AllocError>
     Command::new(alloc, "serve").arg(port)?.arg(members)
 }
 
-/// `drill`, with three words.
+/// The subcommand `drill`, with three arguments.
 fn drill_command<'a>(alloc: Global) -> Result<Command<'a>, AllocError>
     ensures { IfOk result (λ c. HasApp c drill_app) }
 {
@@ -37,20 +37,56 @@ fn drill_command<'a>(alloc: Global) -> Result<Command<'a>, AllocError>
         .arg(records)
 }
 
-/// The program, whose first word is no name, and which has no help.
-pub fn kds_command<'a>(alloc: Global) -> Result<Command<'a>, AllocError>
-    ensures { IfOk result (λ c. HasApp c kds_app) }
+/// The program without subcommands. `clap` gets the words without the program's name, and adds no help.
+fn bare_command<'a>(alloc: Global) -> Command<'a>
+    ensures { HasApp result bare_app }
 {
-    let replay = replay_command(alloc)?;
-    let serve = serve_command(alloc)?;
-    let drill = drill_command(alloc)?;
     let bare = Command::new(alloc, "kds")
         .no_binary_name(true)
         .disable_help_flag(true)
         .disable_help_subcommand(true);
-    let one = bare.subcommand(replay)?;
-    let two = one.subcommand(Command::new(alloc, "answer"))?;
-    let three = two.subcommand(Command::new(alloc, "audit"))?;
-    let four = three.subcommand(serve)?;
+    bare
+}
+
+/// The program with the subcommand `replay`.
+fn with_replay<'a>(alloc: Global) -> Result<Command<'a>, AllocError>
+    ensures { IfOk result (λ c. HasApp c replay_kds) }
+{
+    let replay = replay_command(alloc)?;
+    bare_command(alloc).subcommand(replay)
+}
+
+/// The program with the subcommands `replay` and `answer`.
+fn with_answer<'a>(alloc: Global) -> Result<Command<'a>, AllocError>
+    ensures { IfOk result (λ c. HasApp c answer_kds) }
+{
+    let one = with_replay(alloc)?;
+    one.subcommand(Command::new(alloc, "answer"))
+}
+
+/// The program with the subcommands `replay`, `answer` and `audit`.
+fn with_audit<'a>(alloc: Global) -> Result<Command<'a>, AllocError>
+    ensures { IfOk result (λ c. HasApp c audit_kds) }
+{
+    let two = with_answer(alloc)?;
+    two.subcommand(Command::new(alloc, "audit"))
+}
+
+/// The program with all subcommands except `drill`.
+fn with_serve<'a>(alloc: Global) -> Result<Command<'a>, AllocError>
+    ensures { IfOk result (λ c. HasApp c serve_kds) }
+{
+    let serve = serve_command(alloc)?;
+    let three = with_audit(alloc)?;
+    three.subcommand(serve)
+}
+
+/// The program with all subcommands. Each function above adds one subcommand, so that few values are alive whenever
+/// memory may run out.
+pub fn kds_command<'a>(alloc: Global) -> Result<Command<'a>, AllocError>
+    ensures { IfOk result (λ c. HasApp c kds_app) }
+{
+    let drill = drill_command(alloc)?;
+    let four = with_serve(alloc)?;
     four.subcommand(drill)
 }

@@ -1,4 +1,4 @@
-//! The words of the command line: the tasks that they may ask for, and the one that `clap` reads of them.
+//! The tasks of the command line, and reading the task from the words with `clap`.
 #![tactic(auto)]
 
 mod command;

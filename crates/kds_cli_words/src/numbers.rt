@@ -1,4 +1,4 @@
-//! Tasks by the texts of their numbers.
+//! Tasks with numeric arguments.
 ghost use Rattle.std.specs.Prelude.{◌≡◌, ◌≤◌, IfSome};
 ghost use Rattle.kds_cli_words.specs.Words.{IsWithin, drill_of, number_in, serve_of};
 
@@ -6,7 +6,7 @@ use crate::ranges::{MOST_MEMBERS, MOST_PORT, MOST_RECORDS};
 use crate::task::Task;
 use kds_base::read_u64;
 
-/// The number of a text, between two others.
+/// The number that `text` spells, if it is between `low` and `high`, both included.
 fn number_between(low: u64, high: u64, text: &str) -> Option<u64>
     ensures value { result ≡ number_in low high text.now }
     ensures within { IfSome result (λ n. (low ≤ n) × (n ≤ high)) }
@@ -15,7 +15,7 @@ fn number_between(low: u64, high: u64, text: &str) -> Option<u64>
     if low <= n && n <= high { Some(n) } else { None }
 }
 
-/// `serve` at the port and with the members of these texts. None where one is no number in its range.
+/// The task `serve` with this port and maximum number of connections. `None` if either isn't a number in its range.
 pub fn serve_task(port: &str, members: &str) -> Option<Task>
     ensures task { result ≡ serve_of port.now members.now }
     ensures within { IfSome result IsWithin }
@@ -28,7 +28,7 @@ pub fn serve_task(port: &str, members: &str) -> Option<Task>
     })
 }
 
-/// `drill` with the numbers of these texts. None where one is no number in its range.
+/// The task `drill` with these numbers. `None` if any of them isn't a number in its range.
 pub fn drill_task(number: &str, workers: &str, records: &str) -> Option<Task>
     ensures task { result ≡ drill_of number.now workers.now records.now }
     ensures within { IfSome result IsWithin }

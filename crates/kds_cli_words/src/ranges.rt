@@ -1,17 +1,17 @@
-//! The ranges of a task's numbers.
+//! The ranges of the tasks' numeric arguments.
 ghost use Rattle.std.specs.Prelude.{◌≡◌};
 ghost use Rattle.kds_cli_words.specs.declared.ranges.TheConstants.{MOST_MEMBERS, MOST_PORT, MOST_RECORDS};
 
-/// The greatest port (RFC 9293, section 3.1).
+/// The largest port number (RFC 9293, section 3.1).
 pub const MOST_PORT: u64 = 65_535;
 
-/// How many connections are served at once, or how many workers a drill has, at most.
+/// The most connections that are served at once, and also the most workers of a drill.
 pub const MOST_MEMBERS: u64 = 64;
 
-/// How many records a drill has, at most.
+/// The maximum number of a drill's records.
 pub const MOST_RECORDS: u64 = 1_000_000;
 
-/// The ranges of the words, in numbers: the definitions name them by their constants.
+/// States the ranges as numbers, since the definitions refer to the code's constants by name.
 pub fn limits()
     ensures port { MOST_PORT ≡ 65535 }
     ensures members { MOST_MEMBERS ≡ 64 }

@@ -1,22 +1,22 @@
-//! What the words ask for.
+//! The tasks of the command line.
 
-/// What the words of the command line ask for.
+/// The task that a command line asks for.
 #[derive(Clone, Copy, Debug, PartialEq, Eq)]
 pub enum Task {
-    /// A schedule from the standard input; with `journal`, its journal is written in place of its answers.
+    /// Replays the schedule on the standard input. If `journal` is true, the journal is written instead of the answers.
     Replay {
         journal: bool,
     },
-    /// The bytes of one HTTP connection.
+    /// Answers the requests of one HTTP connection, whose bytes are on the standard input.
     Answer,
-    /// A journal's text.
+    /// Audits the journal on the standard input.
     Audit,
-    /// Connections at a port, 1 to 65,535, by 1 to 64 passes at once.
+    /// Serves connections at a port from 1 to 65,535, with 1 to 64 passes.
     Serve {
         port: u16,
         passes: u32,
     },
-    /// A generated input of this number, with 1 to 64 workers and at most 1,000,000 records.
+    /// Runs the drill of this number, with 1 to 64 workers and at most 1,000,000 generated records.
     Drill {
         number: u64,
         workers: u32,

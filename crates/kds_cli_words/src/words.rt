@@ -1,4 +1,4 @@
-//! The task of the words.
+//! Reads the task from the words of a command line.
 ghost use Rattle.std.specs.Prelude.{◌≡◌, ◌≤◌, true, IfOk, IfSome, length, string_bytes};
 ghost use Rattle.std.specs.List.{list_all};
 ghost use Rattle.clap.specs.Words.{first_value, found_of, subcommand_rows_of};
@@ -22,21 +22,21 @@ fn has_leading_hyphen(word: &str) -> bool
     }
 }
 
-/// No leading hyphen, or the one flag.
+/// Whether a word doesn't begin with a hyphen, or is the only flag.
 fn is_word_text(word: &str) -> bool
     ensures { result ≡ is_word word.now }
 {
     word == "--journal" || !has_leading_hyphen(word)
 }
 
-/// All words are such.
+/// Whether `is_word_text` holds for each of the words.
 fn are_words(words: &Vec<String>) -> bool
     ensures { result ≡ list_all (λ w. is_word (string_bytes w)) words.now.items }
 {
     words.iter().all(|word| is_word_text(word.as_str()))
 }
 
-/// The task of a subcommand's name and its values.
+/// The task of the subcommand `name` with the arguments in `found`.
 fn told_by(name: &str, found: &ArgMatches) -> Option<Task>
     ensures task { result ≡ told_with name.now (first_value (found_of found.now)) }
     ensures within { IfSome result IsWithin }
@@ -62,7 +62,7 @@ fn told_by(name: &str, found: &ArgMatches) -> Option<Task>
     }
 }
 
-/// The task that a parse met.
+/// The task in the result of a parse by `clap`.
 fn read_task(matches: &ArgMatches) -> Option<Task>
     ensures task { result ≡ told (subcommand_rows_of matches.now) }
     ensures within { IfSome result IsWithin }
@@ -71,7 +71,7 @@ fn read_task(matches: &ArgMatches) -> Option<Task>
     told_by(name, found)
 }
 
-/// The task of words that `clap` may see.
+/// The task of words that may be passed to `clap`.
 fn parse_task(alloc: Global, words: &Vec<String>) -> Result<Option<Task>, Memory>
     requires few { length words.now.items ≤ 4 }
     requires words { list_all (λ w. is_word (string_bytes w)) words.now.items ≡ true }
@@ -88,7 +88,8 @@ fn parse_task(alloc: Global, words: &Vec<String>) -> Result<Option<Task>, Memory
     }
 }
 
-/// The task of the words after the program's name; None where they are usage. The one error is want of memory.
+/// The task of the words after the program's name. `None` if the words aren't a valid command line. An error always
+/// means that memory ran out.
 pub fn find_task(alloc: Global, words: &Vec<String>) -> Result<Option<Task>, Memory>
     ensures task { IfOk result (λ task. task ≡ task_of (texts_of words.now.items)) }
     ensures within { IfOk result (λ task. IfSome task IsWithin) }

@@ -1,7 +1,7 @@
 use Rattle.std.proofs.Common.{max}
 use Rattle.kds_defs.specs.Histories.{clock, journal}
 use Rattle.kcl_drill_summary.proofs.CountLemmas.{read_on}
-use Rattle.kcl_drill_summary.proofs.counting.step.Goals as goal
+use Rattle.kcl_drill_summary.proofs.counting.count_batch.Goals as goal
 
 pub returns-clause-ok : goal.returns-clause-ok
 returns-clause-ok g c = λ h has can goes.

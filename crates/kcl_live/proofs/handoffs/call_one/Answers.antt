@@ -1,5 +1,5 @@
-use Rattle.kcl_live.proofs.Handoffs.{goes_called, goes_uncalled}
-use Rattle.kcl_live.proofs.hands.call_one.Goals as goal
+use Rattle.kcl_live.proofs.HandoffLemmas.{goes_called, goes_uncalled}
+use Rattle.kcl_live.proofs.handoffs.call_one.Goals as goal
 
 pub returns-in-Ok-clause-goes : goal.returns-in-Ok-clause-goes
 returns-in-Ok-clause-goes g c = λ at q.

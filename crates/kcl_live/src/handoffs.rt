@@ -1,4 +1,5 @@
-//! The hand-off of a lease by a pass: its calls between turns, each of its commands a turn at one moment.
+//! The hand-off of a lease through a pass. The processor calls come between turns, and each command is a turn at the
+//! same moment.
 ghost use Rattle.std.specs.Prelude.{◌≡◌, ◌<◌, ◌≤◌, ℕ, None, Some, IfErr, IfNone, IfOk, IfSome, IsSome, OnErr, OnOk};
 ghost use Rattle.std.specs.Option.{MatchOption};
 ghost use Rattle.kcl_defs.specs.Consumers.{due_call};
@@ -18,7 +19,8 @@ use kds_defs::Machine;
 use kds_turn::{Hall, Pass, TurnErr};
 use std::sync::Wait;
 
-/// Makes the processor call that is due, if there is one. Memory: the processor's; then its call is still due.
+/// Makes the processor call that is due, if a call is due. The error `Memory` means that the processor ran out of
+/// memory; then its call is still due.
 fn call_one<P: Processor>(hand: &mut Handover<P>) -> Result<(), TurnErr>
     ensures held { hand.new.held ≡ hand.old.held }
     ensures made { hand.new.consumer.made ≡ hand.old.consumer.made }
@@ -37,7 +39,7 @@ fn call_one<P: Processor>(hand: &mut Handover<P>) -> Result<(), TurnErr>
     }
 }
 
-/// The hand-off's next command as a turn of the pass at this moment, whose answer it takes.
+/// Makes the hand-off's next command as a turn of the pass at the moment `at`. The hand-off absorbs the answer.
 fn answer_one<M: Machine, P: Processor, R: Wait>(
     rt: &R,
     hall: &Hall<M>,
@@ -66,7 +68,8 @@ fn answer_one<M: Machine, P: Processor, R: Wait>(
     }
 }
 
-/// The call that is due, if there is one, and then the next command, if the hand-off hasn't ended: how it ended, where it has.
+/// Makes the processor call that is due, if a call is due, and then the hand-off's next command. If the hand-off has
+/// ended, makes no command, and returns how it ended.
 fn advance<M: Machine, P: Processor, R: Wait>(
     rt: &R,
     hall: &Hall<M>,
@@ -123,10 +126,11 @@ fn carry<M: Machine, P: Processor, R: Wait>(
     }
 }
 
-/// Hands off the lease of a key: its consumer's batch is finished, what was given is marked, and the row is freed, each
-/// command a turn of the pass at this moment. None where the worker has no such lease. No turn is held while the processor
-/// is called. Memory: the processor's want of memory. Spent: the hall's history is full. After an error the lease is left as
-/// the turns that were made say.
+/// Hands off the worker's lease of `key`: its consumer's batch is completed, the checkpoint is set to the last number
+/// that was given, and the row is freed. Each command is a turn of the pass at the same moment. The result is `None`
+/// if the worker has no such lease. No turn is held while the processor is called. The error `Memory` means that the
+/// processor ran out of memory, and `Spent` that the hall's history is full. After an error the lease remains as the
+/// turns made so far have left it.
 pub fn hand_over<M: Machine, P: Processor + Drop, F: Maker<P>, R: Wait>(
     rt: &R,
     hall: &Hall<M>,

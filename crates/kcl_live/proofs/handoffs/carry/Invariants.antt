@@ -2,7 +2,7 @@ use Rattle.std.proofs.Common.{◌≡◌}
 use Rattle.kds_turn.specs.Known.{Continues}
 use Rattle.kcl_hand.specs.Standing.{turns_left_in}
 use Rattle.kcl_live.specs.Hands.{Goes}
-use Rattle.kcl_live.proofs.hands.carry.Given as goal
+use Rattle.kcl_live.proofs.handoffs.carry.Given as goal
 
 -- it went on to here
 abbrev pub invariant-loop-left : goal.invariant-loop-left

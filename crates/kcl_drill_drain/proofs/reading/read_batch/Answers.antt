@@ -1,6 +1,6 @@
 use Rattle.std.proofs.Common.{◌≡◌, Some, None, sym, ◌∙◌}
 use Rattle.kcl_drill_drain.specs.declared.reading.Fetch.{Fetch}
-use Rattle.kcl_drill_drain.proofs.reading.step.Goals as goal
+use Rattle.kcl_drill_drain.proofs.reading.read_batch.Goals as goal
 
 same_fetch : (a b : Fetch) → Some a ≡ Some b → a ≡ b
 same_fetch a b h = cc

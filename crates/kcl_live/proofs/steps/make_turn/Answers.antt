@@ -1,5 +1,5 @@
 use Rattle.kcl_live.proofs.Driven.{answer_failed, has_turned, turn_failed}
-use Rattle.kcl_live.proofs.steps.turn.Goals as goal
+use Rattle.kcl_live.proofs.steps.make_turn.Goals as goal
 
 pub returns-in-Ok-absorb-clause-ok : goal.returns-in-Ok-absorb-clause-ok
 returns-in-Ok-absorb-clause-ok g c = λ past d.

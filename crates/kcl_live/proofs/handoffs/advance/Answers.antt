@@ -1,6 +1,6 @@
 use Rattle.std.proofs.Common.{rules, refl, arith}
-use Rattle.kcl_live.proofs.Handoffs.{goes_on}
-use Rattle.kcl_live.proofs.hands.advance.Goals as goal
+use Rattle.kcl_live.proofs.HandoffLemmas.{goes_on}
+use Rattle.kcl_live.proofs.handoffs.advance.Goals as goal
 
 pub returns-in-Err-clause-goes : goal.returns-in-Err-clause-goes
 returns-in-Err-clause-goes g c = c.call_one.ensures.goes c.args.at c.args.pass.now

@@ -1,5 +1,5 @@
-use Rattle.kcl_live.proofs.Handoffs.{handed_off, was_cut}
-use Rattle.kcl_live.proofs.hands.hand_over.Goals as goal
+use Rattle.kcl_live.proofs.HandoffLemmas.{handed_off, was_cut}
+use Rattle.kcl_live.proofs.handoffs.hand_over.Goals as goal
 
 pub returns-in-Ok-clause-ok : goal.returns-in-Ok-clause-ok
 returns-in-Ok-clause-ok g c = λ past st.

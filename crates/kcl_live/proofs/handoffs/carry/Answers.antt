@@ -1,7 +1,7 @@
 use Rattle.std.proofs.Common.{◌∙◌}
 use Rattle.kds_turn.proofs.Turns.{continues_all}
-use Rattle.kcl_live.proofs.Handoffs.{goes_on}
-use Rattle.kcl_live.proofs.hands.carry.Goals as goal
+use Rattle.kcl_live.proofs.HandoffLemmas.{goes_on}
+use Rattle.kcl_live.proofs.handoffs.carry.Goals as goal
 
 pub returns-in-Ok-Some-clause-seen : goal.returns-in-Ok-Some-clause-seen
 returns-in-Ok-Some-clause-seen g c =

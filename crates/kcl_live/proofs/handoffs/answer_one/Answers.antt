@@ -1,6 +1,6 @@
 use Rattle.std.proofs.Common.{refl}
-use Rattle.kcl_live.proofs.Handoffs.{goes_answered, goes_later}
-use Rattle.kcl_live.proofs.hands.answer_one.Goals as goal
+use Rattle.kcl_live.proofs.HandoffLemmas.{goes_answered, goes_later}
+use Rattle.kcl_live.proofs.handoffs.answer_one.Goals as goal
 
 pub returns-in-Ok-clause-goes : goal.returns-in-Ok-clause-goes
 returns-in-Ok-clause-goes g c =

@@ -1,6 +1,6 @@
 use Rattle.std.proofs.Common.{arith, ◌∙◌, ◌<◌, ◌≤◌}
 use Rattle.kcl_drill_drain.proofs.ReadLemmas.{ends, goes_on, stops}
-use Rattle.kcl_drill_drain.proofs.reading.settle.Goals as goal
+use Rattle.kcl_drill_drain.proofs.reading.finish_or_continue.Goals as goal
 
 pub returns-in_ok-mark-clause-ok : goal.returns-in_ok-mark-clause-ok
 returns-in_ok-mark-clause-ok g c = λ w x spot ready same ended is l.
