@@ -1,4 +1,4 @@
-//! The program.
+//! The function `main` of the program.
 #![tactic(auto)]
 
 use kds_cli_runs::run_here;

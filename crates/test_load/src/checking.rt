@@ -1,20 +1,20 @@
-//! The records of a machine.
+//! Checks that a machine has exactly the records that the passes put.
 
 use crate::commands::{SHARDS, put, read};
 use kds_base::{Items, Memory, Moment, read_u64};
 use kds_defs::{Answer, Command, Machine, Reply, Stored, Turn};
 use std::alloc::Global;
 
-/// The most records of a read.
+/// The most records that one read returns.
 const MOST: u32 = 10_000;
 
-/// Which round each pass's next record is of.
+/// For each pass, the round in which it put the next record to be read.
 #[derive(Drop)]
 struct Next {
     rounds: Vec<u32>,
 }
 
-/// Whether a record is the one that its pass put in a round.
+/// Whether a record is the record that the pass `by` put in the round `round`.
 fn is_put(alloc: Global, record: &Stored, by: u32, round: u32) -> Result<bool, Memory> {
     match put(alloc, by, round)? {
         Command::Put { name: _, item } => {
@@ -27,14 +27,14 @@ fn is_put(alloc: Global, record: &Stored, by: u32, round: u32) -> Result<bool, M
     }
 }
 
-/// The number of the pass that put a record.
+/// Returns the number of the pass that put a record.
 fn pass_of(record: &Stored) -> Option<u32> {
     let by = read_u64(record.key.as_slice())?;
     u32::try_from(by).ok()
 }
 
 impl Next {
-    /// Goes past a record, where it is the next one of its pass.
+    /// Moves past a record of a pass. Returns whether this record is the next record of that pass.
     fn go_past(&mut self, alloc: Global, record: &Stored) -> Result<bool, Memory> {
         let Some(by) = pass_of(record) else {
             return Ok(false);
@@ -48,7 +48,7 @@ impl Next {
     }
 }
 
-/// The records of an answer, and where reading goes on.
+/// Returns the records in an answer, and the position at which reading goes on.
 pub fn records_of(answer: Answer) -> Option<(Items<Stored>, u64)> {
     match answer {
         Ok(
@@ -66,7 +66,7 @@ pub fn records_of(answer: Answer) -> Option<(Items<Stored>, u64)> {
     }
 }
 
-/// Reads a shard, and goes past its records. The answer is whether each was the next one of its pass.
+/// Reads a shard to its end, and moves past its records. Returns whether each record is the next record of its pass.
 fn read_shard<M: Machine>(
     alloc: Global,
     machine: &mut M,
@@ -97,7 +97,8 @@ fn read_shard<M: Machine>(
     Ok(false)
 }
 
-/// Whether the records are, of each pass with a number from 1 to the last, those of its rounds, each once and in order.
+/// Whether the machine has, for each pass from 1 to `last`, the record of each round of that pass exactly once and in
+/// order.
 pub fn is_sound<M: Machine>(
     alloc: Global,
     machine: &mut M,

@@ -1,12 +1,12 @@
-//! All passes, taken together.
+//! The join of all passes.
 ghost use Rattle.std.specs.Prelude.{◌≡◌, All, IfSome};
 ghost use Rattle.kds_turn.specs.Passes.{HasAll};
 
 use kds_defs::Machine;
 use kds_turn::{Hall, Pass};
 
-/// The last pass, with all others joined into it, where they are those with the numbers from 1 to a last one, in their
-/// order.
+/// Joins all other passes into the last of `passes`, and returns that pass. The result is `None` if the passes aren't
+/// those with the numbers 1 to `last`, in order.
 pub fn join_all<M: Machine>(hall: &Hall<M>, passes: Vec<Pass<M>>, last: u32) -> Option<Pass<M>>
     requires { All (λ p. p.hall ≡ hall.now.id) passes.items }
     ensures hall { IfSome result (λ p. p.hall ≡ hall.now.id) }

@@ -1,7 +1,8 @@
-//! Many passes of a hall at once, over the machine that the server has: `test_load PASSES ROUNDS`. Each pass makes a turn and
-//! then two a round, and the program prints how many turns the closed history has and whether each pass's records are there once
-//! and in order. Before that it shows a note between two passes, and a turn of each of four. `rt run -- 64 30000` makes
-//! 3,840,064 turns.
+//! Runs many passes of a hall concurrently, over the same kind of machine as the server: `test_load PASSES ROUNDS`.
+//! Each pass makes one turn first, and then two turns in each round. The program prints the number of turns in the
+//! closed history, and whether the records of each pass are there exactly once and in order. Before that, it shows
+//! what a second pass reads after a note from the first, and runs four passes with one turn each. `rt run -- 64 30000`
+//! makes 3,840,064 turns.
 #![tactic(auto)]
 
 ghost use Rattle.std.specs.Prelude.{◌≤◌, IfSome};
@@ -20,7 +21,7 @@ use running::{Outcome, run};
 use std::process::ExitCode;
 use std::{env, io};
 
-/// The number of a word, where it is one from 1 to the greatest.
+/// Reads a word as a number from 1 to `most`. The result is `None` for any other word.
 fn number(word: Option<String>, most: u64) -> Option<u32>
     ensures { IfSome result (λ n. 1 ≤ n) }
 {
@@ -32,8 +33,9 @@ fn number(word: Option<String>, most: u64) -> Option<u32>
     }
 }
 
-/// The two numbers after the program's name: passes, 1 to 64, and rounds, 1 to 1,000,000.
-fn given(rt: &HostRuntime) -> Option<(u32, u32)>
+/// Returns the two numbers after the program's name: the number of passes, 1 to 64, and the number of rounds, 1 to
+/// 1,000,000.
+fn arguments(rt: &HostRuntime) -> Option<(u32, u32)>
     ensures { IfSome result (λ n. 1 ≤ n.0) }
 {
     let mut words = env::args(rt).ok()?;
@@ -43,7 +45,7 @@ fn given(rt: &HostRuntime) -> Option<(u32, u32)>
     Some((passes, rounds))
 }
 
-/// Prints what so many passes came to. The answer is the exit status.
+/// Prints the outcome of a run with `passes` passes. Returns the exit status.
 fn show(rt: &HostRuntime, passes: u32, outcome: Outcome) -> io::Result<u8> {
     match outcome {
         Outcome::Sound { turns } => {
@@ -61,7 +63,7 @@ fn show(rt: &HostRuntime, passes: u32, outcome: Outcome) -> io::Result<u8> {
     }
 }
 
-/// Prints what a second pass read after a note.
+/// Prints which record a second pass reads after a note from the first pass.
 fn show_relayed(rt: &HostRuntime, relayed: Relayed) -> io::Result<()> {
     let turns = relayed.turns;
     match relayed.number {
@@ -76,7 +78,7 @@ fn show_relayed(rt: &HostRuntime, relayed: Relayed) -> io::Result<()> {
 }
 
 fn main(rt: HostRuntime) -> io::Result<ExitCode> {
-    let Some((passes, rounds)) = given(&rt) else {
+    let Some((passes, rounds)) = arguments(&rt) else {
         println!(rt; "usage: test_load PASSES ROUNDS")?;
         return Ok(ExitCode::from(2));
     };

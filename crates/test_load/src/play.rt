@@ -1,4 +1,4 @@
-//! Passes that take turns at once.
+//! Passes that make their turns concurrently.
 ghost use Rattle.std.specs.Prelude.{◌≡◌, All};
 ghost use Rattle.kds_defs.specs.Lawful.{IsLawfulCommand};
 
@@ -10,7 +10,7 @@ use std::alloc::Global;
 use std::sync::Wait;
 use std::thread::{Threads, for_each_mut};
 
-/// Makes one turn, and tells its answer.
+/// Makes one turn of a pass, and returns its answer.
 pub fn ask<M: Machine, R: Wait>(
     rt: &R,
     hall: &Hall<M>,
@@ -28,7 +28,7 @@ pub fn ask<M: Machine, R: Wait>(
     }
 }
 
-/// Makes one turn.
+/// Makes one turn of a pass, and drops its answer.
 pub fn turn<M: Machine, R: Wait>(
     rt: &R,
     hall: &Hall<M>,
@@ -44,7 +44,7 @@ pub fn turn<M: Machine, R: Wait>(
     Ok(())
 }
 
-/// Makes the two turns of a round.
+/// Makes the two turns of a pass in one round.
 fn round<M: Machine, R: Wait>(
     rt: &R,
     alloc: Global,
@@ -61,7 +61,7 @@ fn round<M: Machine, R: Wait>(
     turn(rt, hall, pass, now, other(number, now))
 }
 
-/// Makes the stream, where no pass has made it yet, and the turns of so many rounds.
+/// Makes the stream, unless another pass has already made it, and then the turns of `count` rounds.
 fn rounds<M: Machine, R: Wait>(
     rt: &R,
     alloc: Global,
@@ -80,7 +80,7 @@ fn rounds<M: Machine, R: Wait>(
     Ok(())
 }
 
-/// Makes the turns of a pass, as far as there is memory.
+/// Makes the turns of a pass, until memory runs out or all are made.
 fn play_one<M: Machine, R: Wait>(
     rt: &R,
     alloc: Global,
@@ -94,7 +94,7 @@ fn play_one<M: Machine, R: Wait>(
     let _ = rounds(rt, alloc, hall, pass, count);
 }
 
-/// All passes make their turns at once, each in a thread of its own.
+/// Has all passes make their turns concurrently, each in a thread of its own.
 pub fn play<M: Machine + Send, R: Threads + Wait + Sync>(
     rt: &R,
     alloc: Global,

@@ -1,4 +1,4 @@
-//! A note between two passes.
+//! A note from one pass to another.
 ghost use Rattle.std.specs.Prelude.{◌≡◌, [], IfOk};
 
 use crate::checking::records_of;
@@ -11,25 +11,25 @@ use kds_turn::{Hall, Note, Pass};
 use std::alloc::Global;
 use std::sync::Wait;
 
-/// The shard that holds the record of pass 1.
+/// The shard in which the record of pass 1 is stored.
 const HOME: u64 = 3;
 
-/// What a pass reads after a note, and how many turns the history then has.
+/// What a second pass reads after a note, and the number of turns in the history then.
 #[derive(Drop)]
 pub struct Relayed {
-    /// The number of the first record, if there is one.
+    /// The sequence number of the first record that was read, if there is a record.
     pub number: Option<Seq>,
     pub turns: u64,
 }
 
-/// The number of the first record of an answer.
+/// Returns the sequence number of the first record in an answer.
 fn number_in(answer: Answer) -> Option<Seq> {
     let (batch, _next) = records_of(answer)?;
     let record = batch.as_slice().first()?;
     Some(record.seq)
 }
 
-/// A pass makes the stream, puts a record and tells what it has seen.
+/// Has a pass make the stream and put a record. Returns a note of everything that the pass has seen.
 fn told<M: Machine, R: Wait>(
     rt: &R,
     alloc: Global,
@@ -47,7 +47,8 @@ fn told<M: Machine, R: Wait>(
     hall.tell(pass)
 }
 
-/// A pass asks for an iterator of the shard, and reads it from its beginning. The answer is the number of the first record.
+/// Has a pass get an iterator of the shard `HOME`, and read the shard from its beginning. Returns the sequence number
+/// of the first record.
 fn first_read<M: Machine, R: Wait>(
     rt: &R,
     alloc: Global,
@@ -68,8 +69,8 @@ fn first_read<M: Machine, R: Wait>(
     Ok(number_in(answer))
 }
 
-/// Has the second of two passes over a new machine learn what the first one had seen, joins them and closes their hall. `None`
-/// where memory ran out.
+/// Passes a note from the first of two passes over a new machine to the second, has the second pass read, joins the
+/// passes and closes their hall. The result is `None` if memory ran out.
 pub fn relay<M: Machine + Drop, R: Wait>(rt: &R, alloc: Global, machine: M) -> Option<Relayed>
     requires { M.stands_for machine [] }
 {

@@ -1,4 +1,4 @@
-//! A hall from its making to its close.
+//! A run of a hall, from its making to its close.
 ghost use Rattle.std.specs.Prelude.{◌≤◌, []};
 
 use crate::checking::is_sound;
@@ -11,17 +11,17 @@ use std::alloc::Global;
 use std::sync::Wait;
 use std::thread::Threads;
 
-/// What a run came to.
+/// The outcome of a run.
 #[derive(Drop)]
 pub enum Outcome {
-    /// The history has so many turns, and each pass's records are there once and in order.
+    /// The closed history has `turns` turns, and the records of each pass are there exactly once and in order.
     Sound { turns: u64 },
     Unsound,
     OutOfMemory,
 }
 
-/// Runs so many passes over a new machine for so many rounds, all at once, and looks what is left. Condition: there is a
-/// pass.
+/// Runs `passes` passes concurrently over a new machine for `rounds` rounds, and checks the records that the machine
+/// has then. Precondition: `passes` is at least 1.
 pub fn run<M: Machine + Drop + Send, R: Threads + Wait + Sync>(
     rt: &R,
     alloc: Global,

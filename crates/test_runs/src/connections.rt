@@ -1,4 +1,4 @@
-//! Connections, and what is written to each.
+//! Tests of connections, and of what is written to each.
 use crate::harness::{Left, RowDoor, Run, run_on};
 use kds_base::{Items, Moment, Octets};
 use kds_cli_runs::run_serve;
@@ -6,67 +6,67 @@ use kds_ends::{Clock, MemClock, MemDoor, MemSink, SystemClock};
 use std::alloc::Global;
 use std::test::Fail;
 
-/// Lists the streams.
+/// A request that lists the streams.
 pub const LIST: &str =
     "POST / HTTP/1.1\r\nHost: 127.0.0.1:4567\r\nX-Amz-Target: Kinesis_20131202.ListStreams\r\nContent-Type: application/x-amz-json-1.1\r\nAuthorization: AWS4-HMAC-SHA256 x\r\nContent-Length: 2\r\n\r\n{}";
 
-/// Makes a stream.
+/// A request that makes a stream.
 const CREATE: &str =
     "POST / HTTP/1.1\r\nHost: 127.0.0.1:4567\r\nX-Amz-Target: Kinesis_20131202.CreateStream\r\nContent-Type: application/x-amz-json-1.1\r\nAuthorization: AWS4-HMAC-SHA256 x\r\nContent-Length: 33\r\n\r\n{\"StreamName\":\"s\",\"ShardCount\":1}";
 
-/// Puts a record.
+/// A request that puts a record.
 const PUT: &str =
     "POST / HTTP/1.1\r\nHost: 127.0.0.1:4567\r\nX-Amz-Target: Kinesis_20131202.PutRecord\r\nContent-Type: application/x-amz-json-1.1\r\nAuthorization: AWS4-HMAC-SHA256 x\r\nContent-Length: 51\r\n\r\n{\"StreamName\":\"s\",\"Data\":\"aGk=\",\"PartitionKey\":\"a\"}";
 
-/// Puts a record, over HTTP/1.0.
+/// A request that puts a record, over HTTP/1.0.
 const LAST_PUT: &str =
     "POST / HTTP/1.0\r\nHost: 127.0.0.1:4567\r\nX-Amz-Target: Kinesis_20131202.PutRecord\r\nContent-Type: application/x-amz-json-1.1\r\nAuthorization: AWS4-HMAC-SHA256 x\r\nContent-Length: 51\r\n\r\n{\"StreamName\":\"s\",\"Data\":\"aGk=\",\"PartitionKey\":\"a\"}";
 
-/// An operation that there is not.
+/// A request for an operation that doesn't exist.
 const OTHER_OPERATION: &str =
     "POST / HTTP/1.1\r\nHost: 127.0.0.1:4567\r\nX-Amz-Target: Kinesis_20131202.Foo\r\nContent-Type: application/x-amz-json-1.1\r\nAuthorization: AWS4-HMAC-SHA256 x\r\nContent-Length: 2\r\n\r\n{}";
 
-/// A body that is not JSON by its type.
+/// A request whose content type isn't JSON.
 const OTHER_TYPE: &str =
     "POST / HTTP/1.1\r\nHost: 127.0.0.1:4567\r\nX-Amz-Target: Kinesis_20131202.PutRecord\r\nContent-Type: application/x-amz-cbor-1.1\r\nAuthorization: AWS4-HMAC-SHA256 x\r\nContent-Length: 2\r\n\r\n{}";
 
-/// Reads the first record, by an iterator of the moment 3000.
+/// A request that reads the first record, with an iterator made at the moment 3000.
 const READ: &str =
     "POST / HTTP/1.1\r\nHost: 127.0.0.1:4567\r\nX-Amz-Target: Kinesis_20131202.GetRecords\r\nContent-Type: application/x-amz-json-1.1\r\nAuthorization: AWS4-HMAC-SHA256 x\r\nContent-Length: 40\r\n\r\n{\"ShardIterator\":\"S0kxOjE6MDoxOjMwMDA=\"}";
 
-/// There are no streams.
+/// The response to `LIST` if there are no streams.
 pub const LISTED: &str =
     "HTTP/1.1 200 OK\r\nContent-Type: application/x-amz-json-1.1\r\nContent-Length: 41\r\n\r\n{\"HasMoreStreams\":false,\"StreamNames\":[]}";
 
-/// The stream was made.
+/// The response to `CREATE`.
 const CREATED: &str =
     "HTTP/1.1 200 OK\r\nContent-Type: application/x-amz-json-1.1\r\nContent-Length: 0\r\n\r\n";
 
-/// The first record was put.
+/// The response to the `PUT` of the first record.
 const FIRST: &str =
     "HTTP/1.1 200 OK\r\nContent-Type: application/x-amz-json-1.1\r\nContent-Length: 55\r\n\r\n{\"SequenceNumber\":\"1\",\"ShardId\":\"shardId-000000000000\"}";
 
-/// The second record was put.
+/// The response to the `PUT` of the second record.
 const SECOND: &str =
     "HTTP/1.1 200 OK\r\nContent-Type: application/x-amz-json-1.1\r\nContent-Length: 55\r\n\r\n{\"SequenceNumber\":\"2\",\"ShardId\":\"shardId-000000000000\"}";
 
-/// The first record, which was put at the moment 3000, as it is read at 4000.
+/// The response to `READ` at the moment 4000; the record was put at 3000.
 const FIRST_READ: &str =
     "HTTP/1.1 200 OK\r\nContent-Type: application/x-amz-json-1.1\r\nContent-Length: 167\r\n\r\n{\"MillisBehindLatest\":0,\"NextShardIterator\":\"S0kxOjE6MDoyOjQwMDA=\",\"Records\":[{\"ApproximateArrivalTimestamp\":3,\"Data\":\"aGk=\",\"PartitionKey\":\"a\",\"SequenceNumber\":\"1\"}]}";
 
-/// The first record was put, and the connection closes.
+/// The response to `LAST_PUT` of the first record, after which the connection closes.
 const LAST: &str =
     "HTTP/1.1 200 OK\r\nContent-Type: application/x-amz-json-1.1\r\nContent-Length: 55\r\nConnection: close\r\n\r\n{\"SequenceNumber\":\"1\",\"ShardId\":\"shardId-000000000000\"}";
 
-/// No such operation.
+/// The response if the operation doesn't exist.
 const UNKNOWN: &str =
     "HTTP/1.1 400 Bad Request\r\nContent-Type: application/x-amz-json-1.1\r\nContent-Length: 68\r\n\r\n{\"__type\":\"UnknownOperationException\",\"message\":\"unknown operation\"}";
 
-/// No JSON.
+/// The response if the body isn't a JSON object.
 const NO_OBJECT: &str =
     "HTTP/1.1 400 Bad Request\r\nContent-Type: application/x-amz-json-1.1\r\nContent-Length: 73\r\n\r\n{\"__type\":\"SerializationException\",\"message\":\"body is not a JSON object\"}";
 
-/// No such stream.
+/// The response if the stream doesn't exist.
 const NO_STREAM: &str =
     "HTTP/1.1 400 Bad Request\r\nContent-Type: application/x-amz-json-1.1\r\nContent-Length: 67\r\n\r\n{\"__type\":\"ResourceNotFoundException\",\"message\":\"stream not found\"}";
 
@@ -74,7 +74,7 @@ const CUT: &str = "input ended inside a message\n";
 
 const REFUSED: &str = "message refused\n";
 
-/// Parts one after another.
+/// The three parts, one after another.
 fn joined(alloc: Global, parts: [&str; 3]) -> Result<Octets, Fail> {
     let mut all = Octets::new(alloc);
     for part in parts {
@@ -83,42 +83,75 @@ fn joined(alloc: Global, parts: [&str; 3]) -> Result<Octets, Fail> {
     Ok(all)
 }
 
-/// Whole requests, cut after each byte and by other pieces: more of them at once, faults, and one that closes the
-/// connection. An input that ends inside a request is cut.
+/// Requests on one connection: several one after another, requests with faults, and a request that closes the
+/// connection. The input comes byte by byte and in larger pieces. If it ends inside a request, the run reports that.
 #[test]
-fn connections(rt: HostRuntime) -> Result<(), Fail> {
+fn requests_are_answered_one_after_another(rt: HostRuntime) -> Result<(), Fail> {
     let alloc = rt.alloc();
     let (cut, _) = PUT.split_at_checked(PUT.len() - 1).ok_or("cut")?;
     let (short, _) = LIST.split_at_checked(LIST.len() - 1).ok_or("cut")?;
     let cases = [
-        ([LIST, "", ""], 0u8, [LISTED, "", ""], ""),
-        ([LIST, LIST, ""], 0, [LISTED, LISTED, ""], ""),
-        ([short, "", ""], 7, ["", "", ""], CUT),
-        ([CREATE, PUT, PUT], 0, [CREATED, FIRST, SECOND], ""),
-        ([CREATE, PUT, cut], 7, [CREATED, FIRST, ""], CUT),
-        ([PUT, CREATE, PUT], 0, [NO_STREAM, CREATED, FIRST], ""),
+        ("one request", [LIST, "", ""], 0u8, [LISTED, "", ""], ""),
+        ("two at once", [LIST, LIST, ""], 0, [LISTED, LISTED, ""], ""),
+        ("a short one", [short, "", ""], 7, ["", "", ""], CUT),
         (
+            "a stream and its puts",
+            [CREATE, PUT, PUT],
+            0,
+            [CREATED, FIRST, SECOND],
+            "",
+        ),
+        (
+            "a short last one",
+            [CREATE, PUT, cut],
+            7,
+            [CREATED, FIRST, ""],
+            CUT,
+        ),
+        (
+            "a put before its stream",
+            [PUT, CREATE, PUT],
+            0,
+            [NO_STREAM, CREATED, FIRST],
+            "",
+        ),
+        (
+            "faults",
             [OTHER_OPERATION, OTHER_TYPE, ""],
             0,
             [UNKNOWN, NO_OBJECT, ""],
             "",
         ),
-        ([CREATE, LAST_PUT, PUT], 0, [CREATED, LAST, ""], ""),
-        ([CREATE, "\r\n", ""], 7, [CREATED, "", ""], CUT),
-        (["", "", ""], 0, ["", "", ""], ""),
+        (
+            "one that closes",
+            [CREATE, LAST_PUT, PUT],
+            0,
+            [CREATED, LAST, ""],
+            "",
+        ),
+        (
+            "an empty line",
+            [CREATE, "\r\n", ""],
+            7,
+            [CREATED, "", ""],
+            CUT,
+        ),
+        ("nothing", ["", "", ""], 0, ["", "", ""], ""),
     ];
-    for (bytes, code, out, err) in cases {
+    for (name, bytes, code, out, err) in cases {
         let bytes = joined(alloc, bytes)?;
         let out = joined(alloc, out)?;
         for step in [1usize, 7, 4096] {
             let left = run_on(alloc, Run::Answer, bytes.as_slice(), step, &[], &[])?;
-            assert!(rt; left.is(code, out.as_slice(), err), "by {step}");
+            let other = left.other(alloc, code, out.as_slice(), err)?;
+            assert!(rt; other.is_empty(), "{name}, by pieces of {step}: {other}");
         }
     }
     Ok(())
 }
 
-/// A head of so many headers beside its length, whose last one has so many bytes, and its end or no end.
+/// The head of a request with `headers` headers besides Content-Length. The last header's value has `bytes` bytes, and
+/// `end` follows it.
 fn long_head(alloc: Global, headers: u64, bytes: u64, end: &str) -> Result<Octets, Fail> {
     let mut head = Octets::of(alloc, b"POST / HTTP/1.1\r\nContent-Length: 0".as_slice())?;
     for _ in 0..headers {
@@ -131,9 +164,10 @@ fn long_head(alloc: Global, headers: u64, bytes: u64, end: &str) -> Result<Octet
     Ok(head)
 }
 
-/// Heads that are refused, each alone on a connection. A byte less than a head may have is none yet.
+/// Heads that are refused, each alone on its connection. An unfinished head of one byte less than the limit isn't
+/// refused yet.
 #[test]
-fn refused_heads(rt: HostRuntime) -> Result<(), Fail> {
+fn a_head_is_refused_by_its_first_fault(rt: HostRuntime) -> Result<(), Fail> {
     let alloc = rt.alloc();
     let cases = [
         ("GET / HTTP/1.1", "411 Length Required"),
@@ -161,27 +195,29 @@ fn refused_heads(rt: HostRuntime) -> Result<(), Fail> {
     ];
     for (head, status) in cases {
         let bytes = joined(alloc, [head, "\r\n\r\n", PUT])?;
-        assert!(rt; is_refused(alloc, bytes.as_slice(), status)?, "{status}");
+        let other = other_refusal(alloc, bytes.as_slice(), status)?;
+        assert!(rt; other.is_empty(), "{head}: {other}");
     }
     let many = long_head(alloc, 64, 0, "\r\n\r\n")?;
-    assert!(rt; is_refused(alloc, many.as_slice(), "400 Bad Request")?);
+    let other = other_refusal(alloc, many.as_slice(), "400 Bad Request")?;
+    assert!(rt; other.is_empty(), "of 65 headers: {other}");
     let long = long_head(alloc, 1, 16345, "")?;
     assert_eq!(rt; long.as_slice().len(), 16384);
-    assert!(rt;
-        is_refused(
-            alloc,
-            long.as_slice(),
-            "431 Request Header Fields Too Large"
-        )?
-    );
+    let other = other_refusal(
+        alloc,
+        long.as_slice(),
+        "431 Request Header Fields Too Large",
+    )?;
+    assert!(rt; other.is_empty(), "of 16,384 bytes: {other}");
     let cut = long_head(alloc, 1, 16344, "")?;
     let left = run_on(alloc, Run::Answer, cut.as_slice(), 4096, &[], &[])?;
-    assert!(rt; left.is(7, b"", CUT));
+    let other = left.other(alloc, 7, b"", CUT)?;
+    assert!(rt; other.is_empty(), "of 16,383 bytes: {other}");
     Ok(())
 }
 
-/// Whether the connection is refused with this status.
-fn is_refused(alloc: Global, bytes: &[u8], status: &str) -> Result<bool, Fail> {
+/// How the run differs from one whose connection is refused with `status`. Empty if there is no difference.
+fn other_refusal(alloc: Global, bytes: &[u8], status: &str) -> Result<String, Fail> {
     let out = joined(
         alloc,
         [
@@ -191,34 +227,37 @@ fn is_refused(alloc: Global, bytes: &[u8], status: &str) -> Result<bool, Fail> {
         ],
     )?;
     let left = run_on(alloc, Run::Answer, bytes, 4096, &[], &[])?;
-    Ok(left.is(10, out.as_slice(), REFUSED))
+    Ok(left.other(alloc, 10, out.as_slice(), REFUSED)?)
 }
 
-/// A read that fails after the first request, and a first write that fails.
+/// The read after the first request fails; then, in another run, the first write fails.
 #[test]
-fn failing_ends(rt: HostRuntime) -> Result<(), Fail> {
+fn what_came_before_a_failing_end_is_answered(rt: HostRuntime) -> Result<(), Fail> {
     let alloc = rt.alloc();
     let bytes = joined(alloc, [CREATE, PUT, ""])?;
     let step = CREATE.len().max(1);
     let left = run_on(alloc, Run::Answer, bytes.as_slice(), step, &[2], &[])?;
-    assert!(rt; left.is(4, CREATED.as_bytes(), "read fault\n"));
+    let other = left.other(alloc, 4, CREATED.as_bytes(), "read fault\n")?;
+    assert!(rt; other.is_empty(), "the second read: {other}");
     let left = run_on(alloc, Run::Answer, bytes.as_slice(), 4096, &[], &[1])?;
-    assert!(rt; left.is(5, b"", "write fault\n"));
+    let other = left.other(alloc, 5, b"", "write fault\n")?;
+    assert!(rt; other.is_empty(), "the first write: {other}");
     Ok(())
 }
 
-/// The machine's clock gives milliseconds since 1970: after the year 2020, before the year 3000.
+/// The machine's clock gives milliseconds since 1970: its moment is after the year 2020 and before the year 3000.
 #[test]
-fn clock_of_the_machine(rt: HostRuntime) {
+fn the_clock_tells_milliseconds_since_1970(rt: HostRuntime) {
     let mut clock = SystemClock::new(rt);
     let now = clock.now().ms();
     assert!(rt; now > 1_577_836_800_000, "{now}");
     assert!(rt; now < 32_503_680_000_000, "{now}");
 }
 
-/// Two connections of a held door, of which the first is read once the second has written: both are served at once.
+/// The door holds the first connection's input back until the second connection has written, so both must be served at
+/// once.
 #[test]
-fn served_at_once(rt: HostRuntime) -> Result<(), Fail> {
+fn two_connections_are_served_at_once(rt: HostRuntime) -> Result<(), Fail> {
     let alloc = rt.alloc();
     let mut calls = Items::new(alloc);
     calls.push(Octets::of(alloc, LIST.as_bytes())?)?;
@@ -228,7 +267,8 @@ fn served_at_once(rt: HostRuntime) -> Result<(), Fail> {
     let mut door = MemDoor::new(alloc, rt, calls, 1024, true)?;
     let status = run_serve(&rt, alloc, 4567, 3, &mut out, clock, &mut door);
     let left = Left::new(alloc, status, out)?;
-    assert!(rt; left.is(8, b"listening\n", "door fault\n"));
+    let other = left.other(alloc, 8, b"listening\n", "door fault\n")?;
+    assert!(rt; other.is_empty(), "{other}");
     for place in [0usize, 1] {
         let written = door.written(alloc, place)?;
         assert_eq!(rt; written.as_slice(), LISTED.as_bytes(), "of {place}");
@@ -246,10 +286,11 @@ fn four_moments(alloc: Global) -> Result<MemClock, Fail> {
     Ok(MemClock::new(moments))
 }
 
-/// Four connections at two places, one behind the other: one is cut inside a request, one fails, one puts a record, and
-/// the last reads it with the moment at which it came. Each ends alone, and the door's end is the server's.
+/// Four connections, one after the other, on a server with two slots. The first is cut inside a request, and a read of
+/// the second fails. The third puts a record, and the fourth reads the record with the moment of its arrival. Each
+/// connection ends without effect on the others, and the server ends when the door fails.
 #[test]
-fn served_in_a_row(rt: HostRuntime) -> Result<(), Fail> {
+fn connections_end_each_alone(rt: HostRuntime) -> Result<(), Fail> {
     let alloc = rt.alloc();
     let (cut, _) = PUT.split_at_checked(PUT.len() - 1).ok_or("cut")?;
     let mut second = Items::new(alloc);
@@ -263,7 +304,8 @@ fn served_in_a_row(rt: HostRuntime) -> Result<(), Fail> {
     let clock = four_moments(alloc)?;
     let status = run_serve(&rt, alloc, 4567, 2, &mut out, clock, &mut door);
     let left = Left::new(alloc, status, out)?;
-    assert!(rt; left.is(8, b"listening\n", "door fault\n"));
+    let other = left.other(alloc, 8, b"listening\n", "door fault\n")?;
+    assert!(rt; other.is_empty(), "{other}");
     let wanted = [LISTED, CREATED, FIRST, FIRST_READ];
     for place in 0..wanted.len() {
         let written = door.written(alloc, place)?;

@@ -1,4 +1,4 @@
-//! What tests run on: runs over ends in memory, and what a run leaves behind.
+//! The harness of the tests: runs over inputs and outputs in memory, and what a run leaves behind.
 
 mod cases;
 mod left;
@@ -9,5 +9,5 @@ mod runs;
 pub use cases::Case;
 pub use left::Left;
 pub use row_door::RowDoor;
-pub use rows::{Row, first_other};
+pub use rows::{Named, Row, first_other};
 pub use runs::{Run, run_on};

@@ -1,8 +1,9 @@
-//! Journals of schedules, and their audits.
-use crate::harness::{Row, Run, first_other, run_on};
+//! Tests of the journals of schedules, and of the audits of these journals.
+use crate::harness::{Named, Run, first_other, run_on};
 use std::test::Fail;
 
-/// A robbed lease: what was read may still be given, and a mark by the old tenure is refused.
+/// A lease is taken from its holder. The batch that the old tenure has read may still be given, but a mark by the old
+/// tenure is refused.
 const ROBBED: &str = r#"1000 api CreateStream {"StreamName":"s","ShardCount":1}
 1000 api PutRecord {"StreamName":"s","Data":"aGk=","PartitionKey":"a"}
 1001 api PutRecord {"StreamName":"s","Data":"","PartitionKey":"abc"}
@@ -17,8 +18,8 @@ const ROBBED: &str = r#"1000 api CreateStream {"StreamName":"s","ShardCount":1}
 3000 raw 2 mark 1 2 2
 "#;
 
-/// Its journal: the stream and its two puts, the row, two takings, the opening, the read and the giving. What was
-/// refused adds no entry. The hashes are those of the keys by MD5 (RFC 1321).
+/// The journal of `ROBBED`: the stream, its two puts, the row, two takings, the opening, the read and the giving.
+/// Refused turns add no entry. The hash keys are the MD5 hashes of the partition keys (RFC 1321).
 const JOURNAL: &str = "journal 2
 1000 0 made 1 s 1
 1000 0 put 1 0 1 16955237001963240173058271559858726497 2 1
@@ -32,7 +33,7 @@ const JOURNAL: &str = "journal 2
 end 3000
 ";
 
-/// The same journal of the first version: its puts don't tell the bytes of their keys.
+/// The same journal in the journal's first version, whose put entries don't state the bytes of the partition keys.
 const FIRST_VERSION: &str = "1000 0 made 1 s 1
 1000 0 put 1 0 1 16955237001963240173058271559858726497 2
 1001 0 put 1 0 2 191415658344158766168031473277922803570 0
@@ -45,7 +46,7 @@ const FIRST_VERSION: &str = "1000 0 made 1 s 1
 end 3000
 ";
 
-/// The journal with a mark of the tenure that lost its row.
+/// `JOURNAL` with a further entry: a mark by the tenure that lost its row.
 const STALE_MARK: &str = "journal 2
 1000 0 made 1 s 1
 1000 0 put 1 0 1 16955237001963240173058271559858726497 2 1
@@ -60,100 +61,219 @@ const STALE_MARK: &str = "journal 2
 end 3000
 ";
 
-/// Schedules whose journal stops early, without its last line.
-const STOPPED: [Row; 2] = [
+/// A worker hands its lease off while its processor has a batch that isn't given yet. The line of the hand-off makes
+/// three turns: give, mark and free.
+const HANDED: &str = r#"1000 api CreateStream {"StreamName":"s","ShardCount":1}
+1000 api PutRecord {"StreamName":"s","Data":"aGk=","PartitionKey":"a"}
+1001 api PutRecord {"StreamName":"s","Data":"","PartitionKey":"abc"}
+3000 worker w1 tally
+3000 step 1000
+3000 step 1000
+3000 step 1000
+3000 step 1000
+3000 step 1000
+3000 step 1000
+3000 step 1000
+3000 step 1000
+3000 hand 1000 1/0
+"#;
+
+/// The journal of `HANDED`: ten entries, of which the last three are the hand-off's.
+const HANDED_JOURNAL: &str = "journal 2
+1000 0 made 1 s 1
+1000 0 put 1 0 1 16955237001963240173058271559858726497 2 1
+1001 0 put 1 0 2 191415658344158766168031473277922803570 0 3
+3000 1000 lease 1/0
+3000 1000 taken 1/0 1 1 w1
+3000 1000 opened 1
+3000 1000 read 1 1000 more 1 2
+3000 1000 given 1
+3000 1000 marked 1 2 2
+3000 1000 freed 1 3
+end 3000
+";
+
+/// Schedules that stop early, so that their journals have no last line.
+const STOPPED: [Named; 3] = [
     (
-        "1000 api CreateStream {\"StreamName\":\"s\",\"ShardCount\":1}\nx\n",
-        3,
-        "journal 2\n1000 0 made 1 s 1\n",
-        "line 2: not a schedule line\n",
+        "a bad first line",
+        (
+            "1000 raw 1 make\n1000 raw 1 survey\n",
+            3,
+            "journal 2\n",
+            "line 1: not a schedule line\n",
+        ),
     ),
     (
-        "1000 api CreateStream {\"StreamName\":\"s\",\"ShardCount\":1}\n2000 raw 1 make 1/0",
-        3,
-        "journal 2\n1000 0 made 1 s 1\n",
-        "line 2: not a schedule line\n",
+        "a bad line",
+        (
+            "1000 api CreateStream {\"StreamName\":\"s\",\"ShardCount\":1}\nx\n",
+            3,
+            "journal 2\n1000 0 made 1 s 1\n",
+            "line 2: not a schedule line\n",
+        ),
+    ),
+    (
+        "no line feed",
+        (
+            "1000 api CreateStream {\"StreamName\":\"s\",\"ShardCount\":1}\n2000 raw 1 make 1/0",
+            3,
+            "journal 2\n1000 0 made 1 s 1\n",
+            "line 2: not a schedule line\n",
+        ),
     ),
 ];
 
-/// Turns that change nothing still raise the clock of the last line; what is no turn doesn't.
-const CLOCKS: [Row; 3] = [
-    ("", 0, "journal 2\nend 0\n", ""),
-    ("5000 raw 1 renew 1 1\n", 0, "journal 2\nend 5000\n", ""),
+/// The last line states the clock. A turn that changes nothing still advances the clock, but a line that makes no turn
+/// doesn't.
+const CLOCKS: [Named; 3] = [
+    ("no lines", ("", 0, "journal 2\nend 0\n", "")),
     (
-        "1000 api ListStreams {}\n2000 worker w1 tally\n3000 step 7\n4000 api Nothing \n",
-        0,
-        "journal 2\nend 1000\n",
-        "",
+        "a refused turn",
+        ("5000 raw 1 renew 1 1\n", 0, "journal 2\nend 5000\n", ""),
+    ),
+    (
+        "lines without a turn",
+        (
+            "1000 api ListStreams {}\n2000 worker w1 tally\n3000 step 7\n4000 api Nothing \n",
+            0,
+            "journal 2\nend 1000\n",
+            "",
+        ),
     ),
 ];
 
 #[test]
-fn journals(rt: HostRuntime) -> Result<(), Fail> {
+fn a_journal_has_an_entry_for_each_change(rt: HostRuntime) -> Result<(), Fail> {
     let alloc = rt.alloc();
-    let rows: [Row; 1] = [(ROBBED, 0, JOURNAL, "")];
-    for rows in [&rows as &[Row], &STOPPED, &CLOCKS] {
-        assert_eq!(rt; first_other(alloc, Run::Journal, rows, &[1, 4096])?, None);
+    let rows: [Named; 2] = [
+        ("a robbed lease", (ROBBED, 0, JOURNAL, "")),
+        ("a hand-off by one line", (HANDED, 0, HANDED_JOURNAL, "")),
+    ];
+    for rows in [&rows as &[Named], &STOPPED, &CLOCKS] {
+        let other = first_other(alloc, Run::Journal, rows, &[1, 4096])?;
+        assert!(rt; other.is_empty(), "{other}");
     }
     Ok(())
 }
 
 #[test]
-fn audits(rt: HostRuntime) -> Result<(), Fail> {
-    let rows: [Row; 13] = [
-        (JOURNAL, 0, "sound 9\n", ""),
-        (FIRST_VERSION, 0, "sound 9\n", ""),
-        (STALE_MARK, 1, "entry 10 Lost\n", ""),
-        ("", 1, "entry 1 Form\n", ""),
-        ("journal 2\n", 1, "entry 1 Form\n", ""),
-        ("journal 2\nend 0\n", 0, "sound 0\n", ""),
-        ("end 0\n", 0, "sound 0\n", ""),
-        ("journal 2\nend 0", 1, "entry 1 Form\n", ""),
-        ("journal 2\njournal 2\nend 0\n", 1, "entry 1 Form\n", ""),
-        ("journal 1\nend 0\n", 1, "entry 1 Form\n", ""),
-        ("1000 0 made 1 s 1\nend 999\n", 1, "entry 2 Clock\n", ""),
+fn an_audit_names_the_first_bad_entry(rt: HostRuntime) -> Result<(), Fail> {
+    let rows: [Named; 13] = [
+        ("the journal", (JOURNAL, 0, "sound 9\n", "")),
+        ("the first version", (FIRST_VERSION, 0, "sound 9\n", "")),
+        ("a stale mark", (STALE_MARK, 1, "entry 10 Lost\n", "")),
+        ("nothing", ("", 1, "entry 1 Form\n", "")),
+        ("a heading alone", ("journal 2\n", 1, "entry 1 Form\n", "")),
+        ("no entries", ("journal 2\nend 0\n", 0, "sound 0\n", "")),
         (
-            "1000 0 made 1 s 1\nend 1000\nend 1000\n",
-            1,
-            "entry 3 Form\n",
-            "",
+            "no entries of the first version",
+            ("end 0\n", 0, "sound 0\n", ""),
         ),
-        ("1000 0 made 2 s 1\nend 1000\n", 1, "entry 1 Entry\n", ""),
+        (
+            "no last line feed",
+            ("journal 2\nend 0", 1, "entry 1 Form\n", ""),
+        ),
+        (
+            "two headings",
+            ("journal 2\njournal 2\nend 0\n", 1, "entry 1 Form\n", ""),
+        ),
+        (
+            "a heading of the first version",
+            ("journal 1\nend 0\n", 1, "entry 1 Form\n", ""),
+        ),
+        (
+            "an earlier end",
+            ("1000 0 made 1 s 1\nend 999\n", 1, "entry 2 Clock\n", ""),
+        ),
+        (
+            "two ends",
+            (
+                "1000 0 made 1 s 1\nend 1000\nend 1000\n",
+                1,
+                "entry 3 Form\n",
+                "",
+            ),
+        ),
+        (
+            "a number too great",
+            ("1000 0 made 2 s 1\nend 1000\n", 1, "entry 1 Entry\n", ""),
+        ),
     ];
-    assert_eq!(rt;
-        first_other(rt.alloc(), Run::Audit, &rows, &[1, 4096])?,
-        None
-    );
+    let other = first_other(rt.alloc(), Run::Audit, &rows, &[1, 4096])?;
+    assert!(rt; other.is_empty(), "{other}");
     Ok(())
 }
 
-/// A read that fails behind the lines that were read, and a write that fails: of a schedule's journal the first, that of the
-/// entries, the last; of an audit the only one.
+/// A read or a write fails. For the journal of a schedule it is the second read, the first write, the write of the
+/// entries, or the last write. For an audit it is the second read, or the only write.
 #[test]
-fn failing_ends(rt: HostRuntime) -> Result<(), Fail> {
+fn what_came_before_a_failing_end_is_written(rt: HostRuntime) -> Result<(), Fail> {
     let (entries, _) = JOURNAL
         .split_at_checked(JOURNAL.len().saturating_sub("end 3000\n".len()))
         .ok_or("entries")?;
-    let cases: [(Run, &str, &[u64], &[u64], u8, &str, &str); 7] = [
-        (Run::Journal, ROBBED, &[2], &[], 4, entries, "read fault\n"),
-        (Run::Journal, ROBBED, &[], &[1], 5, "", "write fault\n"),
+    let cases: [(&str, Run, &str, &[u64], &[u64], (u8, &str, &str)); 7] = [
         (
+            "the second read",
+            Run::Journal,
+            ROBBED,
+            &[2],
+            &[],
+            (4, entries, "read fault\n"),
+        ),
+        (
+            "the first write",
+            Run::Journal,
+            ROBBED,
+            &[],
+            &[1],
+            (5, "", "write fault\n"),
+        ),
+        (
+            "the write of the entries",
             Run::Journal,
             ROBBED,
             &[],
             &[2],
-            5,
-            "journal 2\n",
-            "write fault\n",
+            (5, "journal 2\n", "write fault\n"),
         ),
-        (Run::Journal, ROBBED, &[], &[3], 5, entries, "write fault\n"),
-        (Run::Audit, JOURNAL, &[2], &[], 4, "", "read fault\n"),
-        (Run::Audit, JOURNAL, &[], &[1], 5, "", "write fault\n"),
-        (Run::Audit, STALE_MARK, &[], &[1], 5, "", "write fault\n"),
+        (
+            "the last write",
+            Run::Journal,
+            ROBBED,
+            &[],
+            &[3],
+            (5, entries, "write fault\n"),
+        ),
+        (
+            "the read of an audit",
+            Run::Audit,
+            JOURNAL,
+            &[2],
+            &[],
+            (4, "", "read fault\n"),
+        ),
+        (
+            "the write of an audit",
+            Run::Audit,
+            JOURNAL,
+            &[],
+            &[1],
+            (5, "", "write fault\n"),
+        ),
+        (
+            "the write of a bad entry",
+            Run::Audit,
+            STALE_MARK,
+            &[],
+            &[1],
+            (5, "", "write fault\n"),
+        ),
     ];
-    for (place, (run, input, reads, writes, code, out, err)) in cases.iter().enumerate() {
-        let left = run_on(rt.alloc(), *run, input.as_bytes(), 4096, reads, writes)?;
-        assert!(rt; left.is(*code, out.as_bytes(), err), "at {place}");
+    for (name, run, input, reads, writes, (code, out, err)) in cases {
+        let left = run_on(rt.alloc(), run, input.as_bytes(), 4096, reads, writes)?;
+        let other = left.other(rt.alloc(), code, out.as_bytes(), err)?;
+        assert!(rt; other.is_empty(), "{name}: {other}");
     }
     Ok(())
 }

@@ -1,8 +1,9 @@
-//! Worked rows of leases in schedules, and what each writes.
+//! Schedules that work with leases, and what each of them writes.
 use crate::harness::{Row, Run, first_other};
 use std::test::Fail;
 
-/// A robbed lease: what was read may still be given, and a mark by the old tenure is refused. Then the order of marks.
+/// A lease is taken from its holder. The batch that the old tenure has read may still be given, but a mark by the old
+/// tenure is refused. Then the new tenure tries reads, gives and marks in several orders.
 const ROBBED: Row = (
     r#"1000 api CreateStream {"StreamName":"s","ShardCount":1}
 1000 api PutRecord {"StreamName":"s","Data":"aGk=","PartitionKey":"a"}
@@ -60,7 +61,8 @@ refused Lost 0
     "",
 );
 
-/// A merged shard, whose first parent alone has ended. Then the other parent ends too.
+/// The shard is the child of a merge. Its opening is refused while only its first parent has ended, and accepted once
+/// the other parent has ended too.
 const BOTH_ENDED: Row = (
     r#"4000 api CreateStream {"StreamName":"s","ShardCount":2}
 4000 api MergeShards {"StreamName":"s","ShardToMerge":"shardId-000000000000","AdjacentShardToMerge":"shardId-000000000001"}
@@ -106,7 +108,8 @@ ok
     "",
 );
 
-/// The same, and the other parent expires, so that its row may be removed.
+/// As in `BOTH_ENDED`, one parent ends. The other parent expires: then the child can be opened, and the row of the
+/// expired shard may be removed.
 const ONE_EXPIRED: Row = (
     r#"4000 api CreateStream {"StreamName":"s","ShardCount":2}
 4000 api MergeShards {"StreamName":"s","ShardToMerge":"shardId-000000000000","AdjacentShardToMerge":"shardId-000000000001"}
@@ -146,7 +149,7 @@ ok
     "",
 );
 
-/// A record that is read is trimmed before it is given.
+/// A record is read, and then trimmed before it is given.
 const TRIMMED: Row = (
     r#"1000 api CreateStream {"StreamName":"s","ShardCount":1}
 1000 api PutRecord {"StreamName":"s","Data":"aGk=","PartitionKey":"a"}
@@ -170,7 +173,7 @@ ok counter 2
     "",
 );
 
-/// Rows and tenures that aren't there, a read before the opening, and more reads than may wait for their delivery.
+/// Requests for rows and tenures that don't exist, a read before the opening, and more reads than may be pending.
 const READS: Row = (
     r#"1000 api CreateStream {"StreamName":"s","ShardCount":1}
 3000 raw 1 take 1/0 0 w1
@@ -216,8 +219,8 @@ refused TooManyPending
     "",
 );
 
-/// A row that begins at LATEST: what was put before isn't read, and no mark goes below it. Then the shard is split, and its
-/// child is read from its first record.
+/// A row begins at LATEST: earlier records aren't read, and no mark may go below this position. Then the shard is
+/// split, and its child is read from its first record.
 const LATEST: Row = (
     r#"1000 api CreateStream {"StreamName":"s","ShardCount":1}
 1000 api PutRecord {"StreamName":"s","Data":"aGk=","PartitionKey":"a"}
@@ -259,7 +262,8 @@ ok tenure 2 counter 1 start TRIM_HORIZON
     "",
 );
 
-/// The same after the split: the parent's row begins above its end, so the child's begins at LATEST too.
+/// As in `LATEST`, but the rows are made after the split. The parent's row begins above the end of its shard, so the
+/// child's row begins at LATEST too.
 const LATEST_AFTER_A_SPLIT: Row = (
     r#"1000 api CreateStream {"StreamName":"s","ShardCount":1}
 1000 api SplitShard {"StreamName":"s","ShardToSplit":"shardId-000000000000","NewStartingHashKey":"170141183460469231731687303715884105728"}
@@ -277,7 +281,8 @@ ok tenure 1 counter 1 start 1
     "",
 );
 
-/// Rows that begin at a moment: at the first record that arrived then, and at the next number where none did.
+/// Rows begin at a moment: at the first record that arrived at or after it, or, if there is none, at the next sequence
+/// number.
 const MOMENTS: Row = (
     r#"1000 api CreateStream {"StreamName":"s","ShardCount":1}
 1000 api PutRecord {"StreamName":"s","Data":"aGk=","PartitionKey":"a"}
@@ -312,17 +317,18 @@ refused LeaseThere
 );
 
 #[test]
-fn leases(rt: HostRuntime) -> Result<(), Fail> {
+fn leases_are_held_and_lost(rt: HostRuntime) -> Result<(), Fail> {
     let rows = [
-        ROBBED,
-        BOTH_ENDED,
-        ONE_EXPIRED,
-        TRIMMED,
-        READS,
-        LATEST,
-        LATEST_AFTER_A_SPLIT,
-        MOMENTS,
+        ("robbed", ROBBED),
+        ("both ended", BOTH_ENDED),
+        ("one expired", ONE_EXPIRED),
+        ("trimmed", TRIMMED),
+        ("reads", READS),
+        ("latest", LATEST),
+        ("latest after a split", LATEST_AFTER_A_SPLIT),
+        ("moments", MOMENTS),
     ];
-    assert_eq!(rt; first_other(rt.alloc(), Run::Replay, &rows, &[4096])?, None);
+    let other = first_other(rt.alloc(), Run::Replay, &rows, &[4096])?;
+    assert!(rt; other.is_empty(), "{other}");
     Ok(())
 }

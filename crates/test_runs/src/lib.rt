@@ -1,5 +1,6 @@
-//! Tests that cross crates, of whole runs: schedules with their streams, leases, workers and journals, audits, connections and a
-//! served door. They go through the runs and not through the program, whose words a check of them would load too.
+//! Tests of whole runs, which cross crates: schedules with their streams, leases, workers and journals, audits,
+//! connections, and a served door. The tests call the functions of the runs and not the program, since a check of the
+//! tests would then load the program's words too.
 #![tactic(auto)]
 
 #[cfg(test)]
@@ -7,7 +8,7 @@ mod connections;
 #[cfg(test)]
 mod faults;
 #[cfg(test)]
-mod hands;
+mod handoffs;
 #[cfg(test)]
 mod harness;
 #[cfg(test)]

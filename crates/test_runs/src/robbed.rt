@@ -1,10 +1,11 @@
-//! A worker whose lease is taken away after each of its steps, and the journal of what followed.
+//! Another actor takes a worker's row after two, three, and up to ten of the worker's steps. The test looks at what
+//! follows, and audits the journal.
 use crate::harness::{Left, Run, run_on};
 use kds_ends::Status;
 use std::alloc::Global;
 use std::test::Fail;
 
-/// A stream of one shard with two records, and a worker.
+/// The lines that make a stream of one shard, put two records and add a worker; then the output of these lines.
 const BEGINNING: (&str, &str) = (
     r#"3000 api CreateStream {"StreamName":"s","ShardCount":1}
 3000 api PutRecord {"StreamName":"s","Data":"aGk=","PartitionKey":"a"}
@@ -18,7 +19,7 @@ worker 1000
 "#,
 );
 
-/// The worker's steps, where nobody takes its lease.
+/// The output of the worker's steps if nobody takes its lease.
 const STEPS: [&str; 10] = [
     "survey = ok 1 0\n",
     "make 1/0 = ok\n",
@@ -34,19 +35,20 @@ const STEPS: [&str; 10] = [
 
 const STEP: &str = "3000 step 1000\n";
 
-/// Actor 9 takes a row that nobody has.
+/// Actor 9 takes a row that nobody holds: the line, and its output.
 const TAKE_FREE: (&str, &str) = (
     "3000 raw 9 take 1/0 0 w9\n",
     "ok tenure 1 counter 1 start TRIM_HORIZON\n",
 );
 
-/// It takes the worker's row.
+/// Actor 9 takes the worker's row: the line, and its output.
 const ROB: (&str, &str) = (
     "3000 raw 9 take 1/0 1 w9\n",
     "ok tenure 2 counter 2 start TRIM_HORIZON\n",
 );
 
-/// After so many steps actor 9 takes the row, and the worker's next step writes this.
+/// For each case: the number of steps after which actor 9 takes the row, the line that takes the row with its output,
+/// and the output of the worker's next step.
 const CASES: [(usize, (&str, &str), &str); 9] = [
     (2, TAKE_FREE, "survey = ok 1 1\n"),
     (3, TAKE_FREE, "take 1/0 0 w1 = refused Moved 1\n"),
@@ -59,10 +61,11 @@ const CASES: [(usize, (&str, &str), &str); 9] = [
     (10, ROB, "mark 1 1 2 = refused Lost 2\n"),
 ];
 
-/// What the rows are after ten further steps: the thief's, with the two writes that were accepted.
+/// The rows after ten further steps, if the worker had held the row: the thief holds it, and its counter is 2, since
+/// only the two takings of the row were accepted.
 const ROWS: (&str, &str) = ("3000 raw 9 rows\n", "ok 1 1/0 w9 2 TRIM_HORIZON 1\n");
 
-/// The schedule of a case, and the front of its output.
+/// The schedule of a case, and the expected beginning of its output.
 fn robbed(
     alloc: Global,
     steps: usize,
@@ -86,7 +89,7 @@ fn robbed(
     Ok((lines, out))
 }
 
-/// The audit of the schedule's journal.
+/// The audit of the journal that the schedule writes.
 fn audited(alloc: Global, lines: &str) -> Result<Left, Fail> {
     let journal = run_on(alloc, Run::Journal, lines.as_bytes(), 4096, &[], &[])?;
     let audit = run_on(alloc, Run::Audit, journal.out.held(), 4096, &[], &[])?;
@@ -94,24 +97,26 @@ fn audited(alloc: Global, lines: &str) -> Result<Left, Fail> {
 }
 
 #[test]
-fn robbed_workers(rt: HostRuntime) -> Result<(), Fail> {
+fn a_robbed_worker_writes_nothing_more(rt: HostRuntime) -> Result<(), Fail> {
     let alloc = rt.alloc();
     for (steps, take, next) in CASES {
         let (lines, out) = robbed(alloc, steps, take, next)?;
         let left = run_on(alloc, Run::Replay, lines.as_bytes(), 4096, &[], &[])?;
         assert!(rt; left.status == Status::Done, "after {steps}");
+        let given = String::from_utf8_lossy(alloc, left.out.held())?;
+        let begins = given.as_bytes().starts_with(out.as_bytes());
+        assert!(rt; begins, "after {steps}, output\n{given}\nfor\n{out}");
+        let is_thiefs = steps < 4 || given.as_bytes().ends_with(ROWS.1.as_bytes());
         assert!(rt;
-            left.out.held().starts_with(out.as_bytes()),
-            "after {steps}"
+            is_thiefs,
+            "after {steps}, output\n{given}\nfor, at its end,\n{}",
+            ROWS.1
         );
-        let is_thiefs = left.out.held().ends_with(ROWS.1.as_bytes());
-        assert!(rt; steps < 4 || is_thiefs, "after {steps}");
         let audit = audited(alloc, lines.as_str())?;
-        assert!(rt; audit.status == Status::Done, "after {steps}");
-        assert!(rt;
-            audit.out.held().starts_with(b"sound ".as_slice()),
-            "after {steps}"
-        );
+        let found = String::from_utf8_lossy(alloc, audit.out.held())?;
+        let is_sound = audit.status == Status::Done
+            && found.as_bytes().starts_with(b"sound ".as_slice());
+        assert!(rt; is_sound, "after {steps}, the audit: {found}");
     }
     Ok(())
 }

@@ -1,8 +1,8 @@
-//! What is a schedule and what isn't, by pieces of any size, and long inputs.
+//! Tests of which texts are schedules, in pieces of any size, and of long inputs.
 use crate::harness::{Row, Run, first_other, run_on};
 use std::test::Fail;
 
-/// The first path.
+/// The first path: a stream is made, and a record is put.
 pub const FIRST: Row = (
     r#"1000 api CreateStream {"StreamName":"s","ShardCount":1}
 1000 api PutRecord {"StreamName":"s","Data":"aGk=","PartitionKey":"a"}
@@ -14,10 +14,10 @@ pub const FIRST: Row = (
     "",
 );
 
-/// No lines.
+/// A schedule without lines.
 const NOTHING: Row = ("", 0, "", "");
 
-/// A line of too few fields.
+/// A line with too few fields.
 const NO_BODY: Row = (
     "1000 api CreateStream\n",
     3,
@@ -25,7 +25,7 @@ const NO_BODY: Row = (
     "line 1: not a schedule line\n",
 );
 
-/// An operation that there is not.
+/// A request for an operation that doesn't exist.
 const NO_OPERATION: Row = (
     "1000 api Nothing \n",
     0,
@@ -33,7 +33,7 @@ const NO_OPERATION: Row = (
     "",
 );
 
-/// A third line that is none.
+/// The third line isn't a schedule line.
 const BAD_LINE: Row = (
     r#"1000 api CreateStream {"StreamName":"s","ShardCount":1}
 1000 api PutRecord {"StreamName":"s","Data":"aGk=","PartitionKey":"a"}
@@ -47,7 +47,7 @@ x
     "line 3: not a schedule line\n",
 );
 
-/// A last line without a line feed.
+/// The last line has no line feed.
 const NO_FEED: Row = (
     r#"1000 api CreateStream {"StreamName":"s","ShardCount":1}
 1000 api PutRecord {"StreamName":"s","Data":"aGk=","PartitionKey":"a"}"#,
@@ -56,7 +56,8 @@ const NO_FEED: Row = (
     "line 2: not a schedule line\n",
 );
 
-/// Keys of the test suite of RFC 1321 go to the one shard, and draw one number after the other.
+/// The partition keys are from the test suite of RFC 1321. All records go to the only shard, and get consecutive
+/// sequence numbers.
 const ONE_SHARD: Row = (
     r#"1000 api CreateStream {"StreamName":"s","ShardCount":1}
 1000 api PutRecord {"StreamName":"s","Data":"","PartitionKey":"a"}
@@ -73,56 +74,57 @@ const ONE_SHARD: Row = (
 );
 
 #[test]
-fn schedules(rt: HostRuntime) -> Result<(), Fail> {
+fn a_run_ends_at_the_first_bad_line(rt: HostRuntime) -> Result<(), Fail> {
     let rows = [
-        FIRST,
-        NOTHING,
-        NO_BODY,
-        NO_OPERATION,
-        BAD_LINE,
-        NO_FEED,
-        ONE_SHARD,
+        ("first", FIRST),
+        ("nothing", NOTHING),
+        ("no body", NO_BODY),
+        ("no operation", NO_OPERATION),
+        ("bad line", BAD_LINE),
+        ("no feed", NO_FEED),
+        ("one shard", ONE_SHARD),
     ];
-    assert_eq!(rt;
-        first_other(rt.alloc(), Run::Replay, &rows, &[1, 2, 7, 4096])?,
-        None
-    );
+    let other = first_other(rt.alloc(), Run::Replay, &rows, &[1, 2, 7, 4096])?;
+    assert!(rt; other.is_empty(), "{other}");
     Ok(())
 }
 
-/// A line of one byte more than the limit.
+/// The input is a line that is one byte longer than the limit.
 #[test]
-fn too_long(rt: HostRuntime) -> Result<(), Fail> {
+fn a_line_beyond_the_limit_ends_the_run(rt: HostRuntime) -> Result<(), Fail> {
     let alloc = rt.alloc();
     let bytes = vec![in alloc; b'1'; 16777217]?;
     let left = run_on(alloc, Run::Replay, bytes.as_slice(), 65536, &[], &[])?;
-    assert!(rt; left.is(9, b"", "input too long\n"));
+    let other = left.other(alloc, 9, b"", "input too long\n")?;
+    assert!(rt; other.is_empty(), "{other}");
     Ok(())
 }
 
-/// Lines that lie across the pieces that are read, and more output than waits.
+/// The input has lines that cross the pieces in which it is read, and the output is longer than what is held back
+/// before a write.
 #[test]
-fn many_lines(rt: HostRuntime) -> Result<(), Fail> {
-    let line = b"1000 api Nothing \n";
+fn lines_cross_the_pieces_that_are_read(rt: HostRuntime) -> Result<(), Fail> {
+    let line = "1000 api Nothing \n";
     let answer =
-        b"400 {\"__type\":\"UnknownOperationException\",\"message\":\"unknown operation\"}\n";
+        "400 {\"__type\":\"UnknownOperationException\",\"message\":\"unknown operation\"}\n";
     let alloc = rt.alloc();
-    let mut text = Vec::new(alloc);
-    let mut out = Vec::new(alloc);
+    let mut text = String::new(alloc);
+    let mut out = String::new(alloc);
     for _ in 0..4000u32 {
-        text.extend_from_slice(line)?;
-        out.extend_from_slice(answer)?;
+        text.push_str(line)?;
+        out.push_str(answer)?;
     }
     for step in [1000usize, 65536, 1048576] {
-        let left = run_on(alloc, Run::Replay, text.as_slice(), step, &[], &[])?;
-        assert!(rt; left.is(0, out.as_slice(), ""), "by {step}");
+        let left = run_on(alloc, Run::Replay, text.as_bytes(), step, &[], &[])?;
+        let other = left.other(alloc, 0, out.as_bytes(), "")?;
+        assert!(rt; other.is_empty(), "by {step}: {other}");
     }
     Ok(())
 }
 
-/// Partition keys of so many characters of three bytes each: 256 are accepted, 257 and none aren't.
+/// Partition keys of 0, 256 and 257 characters of three bytes each: only the key of 256 characters is accepted.
 #[test]
-fn partition_keys(rt: HostRuntime) -> Result<(), Fail> {
+fn a_partition_key_has_1_to_256_characters(rt: HostRuntime) -> Result<(), Fail> {
     let alloc = rt.alloc();
     let not_valid =
         "200\n400 {\"__type\":\"ValidationException\",\"message\":\"PartitionKey is not valid\"}\n";
@@ -137,7 +139,8 @@ fn partition_keys(rt: HostRuntime) -> Result<(), Fail> {
         }
         text.push_str("\"}\n")?;
         let left = run_on(alloc, Run::Replay, text.as_bytes(), 4096, &[], &[])?;
-        assert!(rt; left.is(0, answer.as_bytes(), ""), "at {count}");
+        let other = left.other(alloc, 0, answer.as_bytes(), "")?;
+        assert!(rt; other.is_empty(), "at {count}: {other}");
     }
     Ok(())
 }

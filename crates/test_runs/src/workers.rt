@@ -1,8 +1,9 @@
-//! Worked rows of workers in schedules, and what each writes.
+//! Schedules with workers, and what each of them writes.
 use crate::harness::{Row, Run, first_other};
 use std::test::Fail;
 
-/// A worker, and its restart beside it, which takes the row over: the mark of the first is refused.
+/// A worker is restarted while the first one still runs. The restarted worker takes the row over, and the first one's
+/// mark is refused.
 const RESTART: Row = (
     r#"3000 api CreateStream {"StreamName":"s","ShardCount":1}
 3000 api PutRecord {"StreamName":"s","Data":"aGk=","PartitionKey":"a"}
@@ -48,7 +49,7 @@ none
     "",
 );
 
-/// A processor that asks for the first number of its batch: the worker's eleventh step marks it.
+/// The processor asks for a checkpoint at the first number of its batch. The worker's eleventh step makes this mark.
 const FIRST_NUMBER: Row = (
     r#"3000 api CreateStream {"StreamName":"s","ShardCount":1}
 3000 api PutRecord {"StreamName":"s","Data":"aGk=","PartitionKey":"a"}
@@ -86,8 +87,8 @@ mark 1 1 1 = ok counter 2
     "",
 );
 
-/// A processor of user records, where the second record is an aggregate of two of them: all but the last are done, so the
-/// worker's eleventh step marks the record before.
+/// The processor handles user records. The second record is an aggregate of two user records, and all user records but
+/// the last are done. So the worker's eleventh step marks the record before the aggregate.
 const USER_RECORDS: Row = (
     r#"3000 api CreateStream {"StreamName":"s","ShardCount":1}
 3000 api PutRecord {"StreamName":"s","Data":"aGk=","PartitionKey":"a"}
@@ -125,7 +126,7 @@ mark 1 1 1 = ok counter 2
     "",
 );
 
-/// A worker that is stopped frees its lease, and is idle then. Who has no worker is told so.
+/// A worker that is stopped frees its lease, and then is idle. A line for an actor without a worker prints `none`.
 const STOPPED: Row = (
     r#"3000 api CreateStream {"StreamName":"s","ShardCount":1}
 3000 api PutRecord {"StreamName":"s","Data":"aGk=","PartitionKey":"a"}
@@ -183,7 +184,7 @@ ok 1 1/0 - 2 TRIM_HORIZON 0
     "",
 );
 
-/// A worker whose rows begin at LATEST reads what is put after its row was made.
+/// A worker whose rows begin at LATEST reads the records that are put after its row was made.
 const AT_LATEST: Row = (
     r#"3000 api CreateStream {"StreamName":"s","ShardCount":1}
 3000 api PutRecord {"StreamName":"s","Data":"aGk=","PartitionKey":"a"}
@@ -228,8 +229,15 @@ give 1 = ok delivered 4
 );
 
 #[test]
-fn workers(rt: HostRuntime) -> Result<(), Fail> {
-    let rows = [RESTART, FIRST_NUMBER, USER_RECORDS, STOPPED, AT_LATEST];
-    assert_eq!(rt; first_other(rt.alloc(), Run::Replay, &rows, &[4096])?, None);
+fn workers_call_their_processors(rt: HostRuntime) -> Result<(), Fail> {
+    let rows = [
+        ("restart", RESTART),
+        ("first number", FIRST_NUMBER),
+        ("user records", USER_RECORDS),
+        ("stopped", STOPPED),
+        ("at latest", AT_LATEST),
+    ];
+    let other = first_other(rt.alloc(), Run::Replay, &rows, &[4096])?;
+    assert!(rt; other.is_empty(), "{other}");
     Ok(())
 }

@@ -1,11 +1,11 @@
-//! Audits of the lines of a text.
+//! Tests of audits of texts, line by line.
 use kcl_audit::AuditTaker;
 use kds_base::{Memory, Octets};
 use kds_lines::Taker;
 use std::alloc::Global;
 use std::test::Fail;
 
-/// What is written of a text of these lines.
+/// Returns the output of an audit of these lines.
 fn audit(alloc: Global, lines: &[&str]) -> Result<Octets, Memory> {
     let mut taker = AuditTaker::new(alloc);
     let mut out = Octets::new(alloc);
@@ -19,9 +19,10 @@ fn audit(alloc: Global, lines: &[&str]) -> Result<Octets, Memory> {
 }
 
 #[test]
-fn journals(rt: HostRuntime) -> Result<(), Fail> {
+fn an_audit_tells_the_first_bad_entry(rt: HostRuntime) -> Result<(), Fail> {
     let cases = [
         (
+            "a lease that is robbed",
             &[
                 "1000 0 made 1 s 1",
                 "1000 0 put 1 0 1 16955237001963240173058271559858726497 2",
@@ -37,6 +38,7 @@ fn journals(rt: HostRuntime) -> Result<(), Fail> {
             "sound 9\n",
         ),
         (
+            "a stale mark",
             &[
                 "journal 2",
                 "1000 0 made 1 s 1",
@@ -53,21 +55,28 @@ fn journals(rt: HostRuntime) -> Result<(), Fail> {
             ] as &[&str],
             "entry 10 Lost\n",
         ),
-        // ends of journals
-        (&[] as &[&str], "entry 1 Form\n"),
-        (&["journal 2"] as &[&str], "entry 1 Form\n"),
+        // journals with a missing, wrong or repeated end
+        ("nothing", &[] as &[&str], "entry 1 Form\n"),
         (
+            "a heading alone",
+            &["journal 2"] as &[&str],
+            "entry 1 Form\n",
+        ),
+        (
+            "an earlier end",
             &["1000 0 made 1 s 1", "end 999"] as &[&str],
             "entry 2 Clock\n",
         ),
         (
+            "two ends",
             &["1000 0 made 1 s 1", "end 1000", "end 1000"] as &[&str],
             "entry 3 Form\n",
         ),
     ];
-    for (lines, text) in cases {
+    for (name, lines, text) in cases {
         let out = audit(rt.alloc(), lines)?;
-        assert!(rt; out.as_slice() == text.as_bytes());
+        let given = String::from_utf8_lossy(rt.alloc(), out.as_slice())?;
+        assert_eq!(rt; given.as_str(), text, "of {name}");
     }
     Ok(())
 }

@@ -1,4 +1,4 @@
-//! Journals as text, against worked rows.
+//! Tests of the text of journals, against examples.
 ghost use Rattle.kcl_journal.specs.Entries.{IsVersion};
 
 use kcl_journal::{
@@ -8,7 +8,7 @@ use kds_base::{Memory, Octets};
 use std::alloc::Global;
 use std::test::Fail;
 
-/// A lease that is robbed, and each other entry.
+/// The lines of a journal in which a worker's lease is stolen, and further lines, so that each kind of entry occurs.
 const LINES: [&str; 22] = [
     "1000 0 made 1 s 1",
     "2000 0 put 1 0 1 16955237001963240173058271559858726497 2 1",
@@ -34,7 +34,7 @@ const LINES: [&str; 22] = [
     "4611686018427387903 1 cut 1/0 5",
 ];
 
-/// Texts that are no entry of the second version.
+/// Texts that aren't entries of the journal's second version.
 const OTHERS: [&str; 13] = [
     "journal 2",
     "end 3000",
@@ -51,7 +51,8 @@ const OTHERS: [&str; 13] = [
     "1000 0 gone 1 ",
 ];
 
-/// The text of the line that a text is.
+/// Reads a text as an entry and prints that entry again. The inner `None` means that the text isn't an entry of this
+/// version.
 fn again(alloc: Global, text: &[u8], version: u8) -> Result<Option<Octets>, Memory>
     requires { IsVersion version }
 {
@@ -66,23 +67,26 @@ fn again(alloc: Global, text: &[u8], version: u8) -> Result<Option<Octets>, Memo
 }
 
 #[test]
-fn entries(rt: HostRuntime) -> Result<(), Fail> {
+fn an_entry_is_printed_as_it_was_read(rt: HostRuntime) -> Result<(), Fail> {
     one_entry();
     for text in LINES {
         match again(rt.alloc(), text.as_bytes(), VERSION)? {
-            Some(to) => assert!(rt; to.as_slice() == text.as_bytes(), "of {text}"),
-            None => assert!(rt; false, "of {text}"),
+            Some(to) => {
+                let given = String::from_utf8_lossy(rt.alloc(), to.as_slice())?;
+                assert_eq!(rt; given.as_str(), text);
+            }
+            None => assert!(rt; false, "no entry: {text}"),
         }
     }
     for text in OTHERS {
         let none = again(rt.alloc(), text.as_bytes(), VERSION)?.is_none();
-        assert!(rt; none, "of {text}");
+        assert!(rt; none, "an entry: {text}");
     }
     Ok(())
 }
 
 #[test]
-fn versions(rt: HostRuntime) -> Result<(), Fail> {
+fn the_first_version_has_no_key_bytes(rt: HostRuntime) -> Result<(), Fail> {
     let first = b"1000 0 put 1 0 1 5 1048576".as_slice();
     match again(rt.alloc(), first, FIRST_VERSION)? {
         Some(to) => assert!(rt; to.as_slice() == b"1000 0 put 1 0 1 5 1048576 0".as_slice()),
@@ -104,7 +108,7 @@ fn versions(rt: HostRuntime) -> Result<(), Fail> {
 }
 
 #[test]
-fn ends(rt: HostRuntime) -> Result<(), Fail> {
+fn the_first_line_and_the_last_are_fixed(rt: HostRuntime) -> Result<(), Fail> {
     let mut to = Octets::new(rt.alloc());
     print_heading(&mut to)?;
     assert!(rt; to.as_slice() == b"journal 2".as_slice());

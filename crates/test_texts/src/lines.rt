@@ -1,4 +1,4 @@
-//! Lines as text: no run prints one.
+//! Tests of the text of a schedule's lines, which no run prints.
 
 use kcl_script::{print_line, read_line};
 use kcl_script_fields::print_command;
@@ -30,7 +30,8 @@ const LINES: [&str; 20] = [
     "3000 hand 1000 1/0",
 ];
 
-/// The text of the line that a text is.
+/// Reads a text as a line of a schedule and prints that line again. The inner `None` means that the text isn't such a
+/// line.
 fn again(alloc: Global, text: &[u8]) -> Result<Option<Octets>, Memory> {
     kcl_script::one_spelling();
     match read_line(alloc, text)? {
@@ -44,11 +45,14 @@ fn again(alloc: Global, text: &[u8]) -> Result<Option<Octets>, Memory> {
 }
 
 #[test]
-fn lines(rt: HostRuntime) -> Result<(), Fail> {
+fn a_line_is_printed_as_it_was_read(rt: HostRuntime) -> Result<(), Fail> {
     for text in LINES {
         match again(rt.alloc(), text.as_bytes())? {
-            Some(to) => assert!(rt; to.as_slice() == text.as_bytes(), "of {text}"),
-            None => assert!(rt; false, "of {text}"),
+            Some(to) => {
+                let given = String::from_utf8_lossy(rt.alloc(), to.as_slice())?;
+                assert_eq!(rt; given.as_str(), text);
+            }
+            None => assert!(rt; false, "no line: {text}"),
         }
     }
     let mut to = Octets::new(rt.alloc());

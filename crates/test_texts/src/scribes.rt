@@ -1,4 +1,4 @@
-//! A scribe's lines as text.
+//! Tests of the text of a scribe's lines.
 use kcl_journal::{EntryLine, print_entry};
 use kcl_sim_scribe::Scribe;
 use kds_base::{Items, Memory, Moment, Name, Octets};
@@ -6,7 +6,7 @@ use kds_defs::{Answer, Command, Reply, Turn};
 use std::alloc::Global;
 use std::test::Fail;
 
-/// What a new scribe notes of the making of a stream.
+/// Returns the entries that a new scribe writes when a stream is made.
 fn made(alloc: Global, name: Name) -> Result<Items<EntryLine>, Memory> {
     let mut scribe = Scribe::new(alloc);
     let turn = Turn::request(Moment::start(), Command::Create { name, shards: 1 });
@@ -15,7 +15,7 @@ fn made(alloc: Global, name: Name) -> Result<Items<EntryLine>, Memory> {
 }
 
 #[test]
-fn making(rt: HostRuntime) -> Result<(), Fail> {
+fn a_new_scribe_notes_the_making_of_a_stream(rt: HostRuntime) -> Result<(), Fail> {
     kcl_sim_scribe::turn_by_turn();
     let Some(name) = Name::read(rt.alloc(), b"s".as_slice())? else {
         assert!(rt; false);
@@ -26,6 +26,7 @@ fn making(rt: HostRuntime) -> Result<(), Fail> {
     for line in lines.as_slice() {
         print_entry(rt.alloc(), line, &mut text)?;
     }
-    assert!(rt; text.as_slice() == b"0 0 made 1 s 1".as_slice());
+    let given = String::from_utf8_lossy(rt.alloc(), text.as_slice())?;
+    assert_eq!(rt; given.as_str(), "0 0 made 1 s 1");
     Ok(())
 }

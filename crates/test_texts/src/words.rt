@@ -1,9 +1,9 @@
-//! The words of the command line: which of them ask for which task.
+//! Tests of the words of the command line: which words ask for which task.
 use kds_cli_words::{Task, find_task};
 use std::alloc::Global;
 use std::test::Fail;
 
-/// Words of each task, with the least and the greatest numbers.
+/// Command lines for each task, with the least and the greatest numbers allowed.
 const TASKS: [(&str, Task); 8] = [
     ("replay", Task::Replay { journal: false }),
     ("replay --journal", Task::Replay { journal: true }),
@@ -35,7 +35,7 @@ const TASKS: [(&str, Task); 8] = [
     ),
 ];
 
-/// Words that ask for no task.
+/// Command lines that ask for no task.
 const OTHERS: [&str; 43] = [
     "",
     " ",
@@ -82,7 +82,7 @@ const OTHERS: [&str; 43] = [
     "drill 1 2 0 0",
 ];
 
-/// The words of a text, one behind each space; none of the empty text.
+/// Splits a text into its words, at single spaces. The empty text has no words.
 fn words_of(alloc: Global, text: &str) -> Result<Vec<String>, Fail> {
     let mut words = Vec::new(alloc);
     if !text.is_empty() {
@@ -94,19 +94,19 @@ fn words_of(alloc: Global, text: &str) -> Result<Vec<String>, Fail> {
 }
 
 #[test]
-fn words_of_a_task(rt: HostRuntime) -> Result<(), Fail> {
+fn words_name_a_task(rt: HostRuntime) -> Result<(), Fail> {
     for (text, task) in TASKS {
         let words = words_of(rt.alloc(), text)?;
-        assert_eq!(rt; find_task(rt.alloc(), &words)?, Some(task));
+        assert_eq!(rt; find_task(rt.alloc(), &words)?, Some(task), "of {text}");
     }
     Ok(())
 }
 
 #[test]
-fn words_of_no_task(rt: HostRuntime) -> Result<(), Fail> {
+fn other_words_name_no_task(rt: HostRuntime) -> Result<(), Fail> {
     for text in OTHERS {
         let words = words_of(rt.alloc(), text)?;
-        assert_eq!(rt; find_task(rt.alloc(), &words)?, None);
+        assert_eq!(rt; find_task(rt.alloc(), &words)?, None, "of {text}");
     }
     Ok(())
 }

@@ -1,4 +1,4 @@
-//! Which bodies are JSON (RFC 8259), and which of two members of a name counts.
+//! Tests of which bodies are JSON (RFC 8259), and of which member counts if two have the same name.
 use kds_base::{Memory, Octets};
 use kds_defs::Command;
 use kds_json::ask;
@@ -6,7 +6,7 @@ use kds_json_members::FaultKind;
 use std::alloc::Global;
 use std::test::Fail;
 
-/// The name of the stream that DeleteStream is asked for by a body, or the kind of its fault.
+/// Returns the stream name that DeleteStream takes from a body, or the kind of the body's fault.
 fn named(alloc: Global, body: &[u8]) -> Result<Result<Octets, FaultKind>, Memory> {
     match ask(alloc, b"DeleteStream".as_slice(), body)? {
         Ok(Command::Delete { name }) => Ok(Ok(Octets::of(alloc, name.bytes())?)),
@@ -15,8 +15,8 @@ fn named(alloc: Global, body: &[u8]) -> Result<Result<Octets, FaultKind>, Memory
     }
 }
 
-/// Whether a body is read that names a stream and has this value beside it. Where it isn't read the fault is
-/// `Serialization`; `None` is any other answer.
+/// Whether a body is accepted that names a stream and has `value` as a second member. `Some(false)` means that the
+/// fault is `Serialization`, and `None` means any other result.
 fn is_read(alloc: Global, value: &[u8]) -> Result<Option<bool>, Memory> {
     let mut body = Octets::of(alloc, b"{\"StreamName\":\"s\",\"x\":".as_slice())?;
     body.extend(value)?;
@@ -33,7 +33,7 @@ fn is_read(alloc: Global, value: &[u8]) -> Result<Option<bool>, Memory> {
 }
 
 #[test]
-fn values(rt: HostRuntime) -> Result<(), Fail> {
+fn a_value_is_read_exactly_if_it_is_json(rt: HostRuntime) -> Result<(), Fail> {
     let cases: [(&str, bool); 54] = [
         ("", false),
         (" \t\r\n", false),
@@ -97,9 +97,10 @@ fn values(rt: HostRuntime) -> Result<(), Fail> {
     Ok(())
 }
 
-/// A body is one object, and the last member of a name counts, also where it is null or of another kind.
+/// A body is a single object. If several members have the same name, the last of them counts, even if it is null or of
+/// another kind.
 #[test]
-fn members(rt: HostRuntime) -> Result<(), Fail> {
+fn the_last_member_of_a_name_counts(rt: HostRuntime) -> Result<(), Fail> {
     let cases: [(&str, Result<&str, FaultKind>); 22] = [
         ("{\"StreamName\":\"a\"}", Ok("a")),
         (" \t\r\n{ \"StreamName\" : \"a\" } \t\r\n", Ok("a")),
@@ -138,17 +139,21 @@ fn members(rt: HostRuntime) -> Result<(), Fail> {
     ];
     for (body, want) in cases {
         match (named(rt.alloc(), body.as_bytes())?, want) {
-            (Ok(name), Ok(want)) => assert!(rt; name.as_slice() == want.as_bytes(), "of {body}"),
+            (Ok(name), Ok(want)) => {
+                let given = String::from_utf8_lossy(rt.alloc(), name.as_slice())?;
+                assert_eq!(rt; given.as_str(), want, "of {body}");
+            }
             (Err(kind), Err(want)) => assert_eq!(rt; kind, want, "of {body}"),
-            _ => assert!(rt; false, "of {body}"),
+            (Ok(_), Err(want)) => assert!(rt; false, "a name for {want:?}, of {body}"),
+            (Err(kind), Ok(want)) => assert!(rt; false, "{kind:?} for {want}, of {body}"),
         }
     }
     Ok(())
 }
 
-/// Bytes that aren't UTF-8 are no value, wherever they stand.
+/// A value with bytes that aren't UTF-8 is refused, wherever these bytes are in the body.
 #[test]
-fn bytes_beyond_text(rt: HostRuntime) -> Result<(), Fail> {
+fn bytes_that_are_no_text_are_no_value(rt: HostRuntime) -> Result<(), Fail> {
     let cases: [(&[u8], bool); 5] = [
         (&[255], false),
         (&[34, 255, 34], false),
@@ -158,14 +163,14 @@ fn bytes_beyond_text(rt: HostRuntime) -> Result<(), Fail> {
     ];
     for (bytes, want) in cases {
         let read = is_read(rt.alloc(), bytes)?;
-        assert_eq!(rt; read, Some(want));
+        assert_eq!(rt; read, Some(want), "of {bytes:?}");
     }
     Ok(())
 }
 
-/// So many levels of arrays, or of objects, with the body itself.
+/// A body with nested arrays or nested objects is accepted up to 127 levels, of which the body itself is the first.
 #[test]
-fn levels(rt: HostRuntime) -> Result<(), Fail> {
+fn a_body_has_at_most_127_levels(rt: HostRuntime) -> Result<(), Fail> {
     for (open, close) in [("[", "]"), ("{\"a\":", "}")] {
         for (levels, want) in [(1, true), (127, true), (128, false), (129, false)] {
             let mut text = Octets::new(rt.alloc());

@@ -1,9 +1,9 @@
-//! The first commands of a worked drill.
+//! A test of the first commands of a drill.
 use kcl_drill::generate;
 use kds_defs::Command;
 use std::test::Fail;
 
-/// A drill of one record creates the stream, and puts the record.
+/// A drill of one record has two commands: it creates the stream, and then puts the record.
 #[test]
 fn one_record(rt: HostRuntime) -> Result<(), Fail> {
     let mut generator = generate(rt.alloc(), 7, 1);

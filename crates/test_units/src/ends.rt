@@ -1,4 +1,4 @@
-//! What no clause says of the ends over the machine.
+//! Tests of the inputs, outputs and clocks of the operating system, for behavior that no contract states.
 use kds_ends::{Clock, Door, Sink, Source, StdSink, StdSource, SystemClock, TcpDoor, write_all};
 use std::io;
 use std::io::{Read, Write};
@@ -8,15 +8,15 @@ use std::sync::atomic::{AtomicU32, Ordering};
 use std::test::Fail;
 use std::time::Duration;
 
-/// A port that is free.
+/// Returns a TCP port that is free.
 fn free_port(rt: &HostRuntime) -> Result<u16, Fail> {
     let listener = TcpListener::bind(rt, "127.0.0.1:0")?;
     Ok(listener.local_addr()?.port())
 }
 
-/// Bytes go through a connection both ways, in one process.
+/// Bytes pass in both directions through a TCP connection of this process with itself.
 #[test]
-fn tcp(rt: HostRuntime) -> Result<(), Fail> {
+fn a_door_listens_over_tcp(rt: HostRuntime) -> Result<(), Fail> {
     let port = free_port(&rt)?;
     let mut door = TcpDoor::new(rt);
     assert!(rt; door.accept().is_err());
@@ -35,7 +35,7 @@ fn tcp(rt: HostRuntime) -> Result<(), Fail> {
     Ok(())
 }
 
-/// A reader that gives a byte, and fails from its second call on.
+/// A reader whose first call returns one byte, and whose later calls fail.
 #[derive(Drop)]
 struct FailingReader {
     calls: u32,
@@ -52,7 +52,7 @@ impl Read for FailingReader {
     }
 }
 
-/// A reader that fails is no end of input.
+/// The failure of a reader isn't taken for the end of the input.
 #[test]
 fn failing_reader(rt: HostRuntime) -> Result<(), Fail> {
     let mut source = StdSource::new(FailingReader { calls: 0 });
@@ -63,7 +63,8 @@ fn failing_reader(rt: HostRuntime) -> Result<(), Fail> {
     Ok(())
 }
 
-/// A writer that takes two bytes at its first call, none at its second, and fails at its third.
+/// A writer that accepts two bytes at its first call and no bytes at its second, and that fails from its third call
+/// on.
 #[derive(Drop)]
 struct FailingWriter {
     calls: u32,
@@ -84,7 +85,7 @@ impl Write for FailingWriter {
     }
 }
 
-/// A writer that takes nothing, or fails, has failed.
+/// A write fails if the writer accepts no bytes or returns an error.
 #[test]
 fn failing_writer(rt: HostRuntime) -> Result<(), Fail> {
     let mut sink = StdSink::new(FailingWriter { calls: 0 });
@@ -94,7 +95,7 @@ fn failing_writer(rt: HostRuntime) -> Result<(), Fail> {
     Ok(())
 }
 
-/// A timer that gives 5 ms at its first call, fails at its second, and gives 7 ms from its third on.
+/// A timer that returns 5 ms at its first call, fails at its second, and returns 7 ms from its third on.
 #[derive(Drop)]
 struct FailingTimer {
     calls: AtomicU32,
@@ -114,7 +115,7 @@ impl Timer for FailingTimer {
     }
 }
 
-/// A clock asks the machine's each time, and where that fails gives its last answer again.
+/// A clock asks the operating system at each call. If that fails, the clock returns its last moment again.
 #[test]
 fn failing_timer(rt: HostRuntime) {
     let mut clock = SystemClock::new(FailingTimer {

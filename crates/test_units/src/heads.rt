@@ -1,9 +1,9 @@
-//! Heads at the edges of the table, and the text of responses.
+//! Tests of request heads at the limits of the table of statuses, and of the text of responses.
 use kds_base::Octets;
 use kds_head::{Found, head, response};
 use std::test::Fail;
 
-/// The status of a finding: 0 where more is needed, 200 for a whole head.
+/// Returns the status of a finding, with 0 for a head that needs more bytes and 200 for a whole head.
 fn status(found: &Found) -> u16 {
     match found {
         Found::Need => 0,
@@ -57,7 +57,7 @@ fn headers_are_counted(rt: HostRuntime) -> Result<(), Fail> {
 }
 
 #[test]
-fn whole_head(rt: HostRuntime) -> Result<(), Fail> {
+fn a_whole_head_gives_its_fields(rt: HostRuntime) -> Result<(), Fail> {
     let text =
         b"\r\nPOST / HTTP/1.1\r\nx-amz-target: Kinesis_20131202.ListStreams\r\nContent-Type: application/x-amz-json-1.1; charset=utf-8\r\nCONNECTION: Close\r\nContent-Length: 02\r\n\r\n{}".as_slice();
     match head(rt.alloc(), text)? {
@@ -73,7 +73,7 @@ fn whole_head(rt: HostRuntime) -> Result<(), Fail> {
 }
 
 #[test]
-fn responses(rt: HostRuntime) -> Result<(), Fail> {
+fn a_response_has_its_length(rt: HostRuntime) -> Result<(), Fail> {
     let mut text = Octets::new(rt.alloc());
     let names = b"{\"HasMoreStreams\":false,\"StreamNames\":[]}".as_slice();
     response(rt.alloc(), 200, names, true, false, &mut text)?;

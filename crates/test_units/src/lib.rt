@@ -1,5 +1,6 @@
-//! Tests of one crate each, of what no schedule reaches: numbers, logs, trees, tokens, bodies in JSON, ends and heads; then what
-//! workers and drills are built of. They stand apart, so that no crate is proved a second time beside its tests.
+//! Tests of behavior that no schedule reaches. Each test is of one crate: first numbers, logs, trees, tokens, JSON
+//! bodies, inputs and outputs, and request heads, and then the parts of workers and drills. The tests are in a crate
+//! of their own, so that no tested crate is proved a second time beside its tests.
 #![tactic(auto)]
 
 #[cfg(test)]

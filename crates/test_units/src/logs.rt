@@ -1,4 +1,4 @@
-//! The log of a shard: its batches, a trim, and a record in reserved memory.
+//! Tests of a shard's log: its batches, a trim, and a record in reserved memory.
 ghost use Rattle.std.specs.Prelude.{◌≡◌, ◌<◌};
 
 use kds_base::{Memory, Moment, Octets, Seq};
@@ -17,7 +17,7 @@ fn moment(ms: u64) -> Moment
     }
 }
 
-/// Record 1, which arrived at 1000, and record 2, which arrived at 1001.
+/// Returns a log with record 1, which arrived at 1000 ms, and record 2, which arrived at 1001 ms.
 fn two_records(alloc: Global) -> Result<ShardLog, Memory> {
     let mut log = ShardLog::new(alloc, Seq(1));
     log.append(Stored {
@@ -36,7 +36,7 @@ fn two_records(alloc: Global) -> Result<ShardLog, Memory> {
 }
 
 #[test]
-fn batches(rt: HostRuntime) -> Result<(), Fail> {
+fn a_batch_ends_at_its_limit(rt: HostRuntime) -> Result<(), Fail> {
     let log = two_records(rt.alloc())?;
     let cases = [
         (None, 0, 10, 2, Some(1)),
@@ -57,7 +57,7 @@ fn batches(rt: HostRuntime) -> Result<(), Fail> {
 }
 
 #[test]
-fn trims(rt: HostRuntime) -> Result<(), Fail> {
+fn what_is_trimmed_is_not_found(rt: HostRuntime) -> Result<(), Fail> {
     let mut log = two_records(rt.alloc())?;
     assert_eq!(rt; log.first_left(None, 2), Some(moment(1001)));
     assert_eq!(rt; log.at_time(None, moment(1000)), Some(Seq(1)));

@@ -1,4 +1,4 @@
-//! What stock processors keep and ask, of two batches.
+//! Tests of what ready-made processors keep of two batches, and which checkpoints they ask for.
 use crate::rows::key;
 use kcl_consumer::{Maker, Processor};
 use kcl_defs::Ask;
@@ -7,7 +7,7 @@ use kds_base::{Checkpoint, Moment, Octets, Seq};
 use kds_defs::Stored;
 use std::test::Fail;
 
-/// A record of this number, with two bytes of payload and one of key.
+/// Returns a record with the sequence number `seq`, two bytes of payload, and a key of one byte.
 fn record(rt: &HostRuntime, seq: u64) -> Result<Stored, Fail> {
     Ok(Stored {
         seq: Seq(seq),
@@ -19,14 +19,14 @@ fn record(rt: &HostRuntime, seq: u64) -> Result<Stored, Fail> {
 
 #[test]
 fn stock_processors(rt: HostRuntime) -> Result<(), Fail> {
-    let key = key(0);
+    let first = key(0);
     for (mut kind, asked) in [
         (Kind::Tally, Ask::Last),
         (Kind::Lines, Ask::At(Seq(3))),
         (Kind::Users, Ask::None),
     ] {
-        let mut stock = kind.make(rt.alloc(), key)?;
-        stock.initialize(key, Checkpoint::TrimHorizon)?;
+        let mut stock = kind.make(rt.alloc(), first)?;
+        stock.initialize(first, Checkpoint::TrimHorizon)?;
         stock.process_records(&[record(&rt, 1)?, record(&rt, 2)?])?;
         assert_eq!(rt; stock.process_records(&[record(&rt, 3)?])?, asked);
         stock.shard_ended()?;

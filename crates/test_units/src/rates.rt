@@ -1,4 +1,4 @@
-//! How much a shard takes within a second.
+//! Tests of how much a shard accepts within a second.
 use kds_base::Moment;
 use kds_rate::Window;
 

@@ -1,4 +1,4 @@
-//! When a lease is renewed.
+//! Tests of when a lease is due for renewal.
 use crate::rows::key;
 use kcl_defs::Held;
 use kcl_renew::due;

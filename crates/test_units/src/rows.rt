@@ -1,8 +1,8 @@
-//! Keys and rows of leases, of the shards of stream 1.
+//! Keys and rows of leases for the tests, all for shards of stream 1.
 use kds_base::{Checkpoint, Seq, ShardNo, ShardRef, StreamNo, TenureNo, WorkerNo};
 use kds_defs::Row;
 
-/// The key of this shard.
+/// Returns the key of the shard `shard` of stream 1.
 pub fn key(shard: u64) -> ShardRef {
     ShardRef {
         stream: StreamNo(1),
@@ -10,7 +10,8 @@ pub fn key(shard: u64) -> ShardRef {
     }
 }
 
-/// A row from the trim horizon: of no owner, or of this one, in the tenure of the same number.
+/// Returns a row that begins at the trim horizon. It has no owner, or the owner `owner` and a tenure of the same
+/// number.
 pub fn row(shard: u64, owner: Option<u32>, counter: u64) -> Row {
     Row {
         key: key(shard),

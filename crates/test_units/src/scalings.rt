@@ -1,4 +1,4 @@
-//! The steps of a scaling to three ranges.
+//! Tests of the steps of a scaling to three ranges.
 use kds_defs::ScaleStep;
 use kds_scale::plan;
 use std::test::Fail;

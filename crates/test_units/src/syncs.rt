@@ -1,4 +1,4 @@
-//! A worked row: a listed shard has no row, and a row's shard isn't listed.
+//! A test of a sync plan: one listed shard has no row, and one row's shard isn't listed.
 use crate::rows::{key, row};
 use kcl_defs::SyncStep;
 use kcl_sync::plan;
@@ -6,7 +6,7 @@ use kds_base::Items;
 use kds_defs::Origin;
 use std::test::Fail;
 
-/// What is written for the shards 0 and 2, where the shards 0 and 1 have rows.
+/// Returns the sync plan if the shards 0 and 2 are listed and the shards 0 and 1 have rows.
 fn steps_from(rt: &HostRuntime, from: &Origin) -> Result<Items<SyncStep>, Fail> {
     Ok(plan(
         rt.alloc(),
@@ -21,7 +21,7 @@ fn makes_come_before_cuts(rt: HostRuntime) -> Result<(), Fail> {
     for from in [Origin::TrimHorizon, Origin::Latest] {
         let steps = steps_from(&rt, &from)?;
         let wanted = [SyncStep::Make(key(2), from), SyncStep::Cut(key(1), 4)];
-        assert_eq!(rt; steps.as_slice(), wanted.as_slice());
+        assert_eq!(rt; steps.as_slice(), wanted.as_slice(), "from {from:?}");
     }
     Ok(())
 }

@@ -1,4 +1,4 @@
-//! The worked row on stealing: five rows of one worker, six rows of two, and when a row is expired.
+//! Tests of take plans: what is stolen if one worker owns five rows or two workers own six, and when a row is expired.
 use crate::rows::{key, row};
 use kcl_defs::{Held, TakeStep};
 use kcl_take::{Observed, plan};
@@ -9,7 +9,8 @@ fn moment(ms: u64) -> Result<Moment, Fail> {
     Ok(Moment::new(ms).ok_or("a moment")?)
 }
 
-/// What the worker w1 takes of rows of these owners, 0 for no row, which it saw just now, where it has its own.
+/// Returns the take plan of the worker w1 if the rows have these owners; 0 means that the row doesn't exist. The
+/// worker has just seen all rows, and holds the leases of the rows that it owns.
 fn taken(rt: &HostRuntime, owners: [u32; 6]) -> Result<Vec<TakeStep>, Fail> {
     let now = moment(3000)?;
     let mut rows = Vec::new(rt.alloc());
@@ -60,9 +61,9 @@ fn one_row_of_the_busiest_is_stolen(rt: HostRuntime) -> Result<(), Fail> {
                     key: key(shard),
                     counter: 1,
                 }];
-                assert_eq!(rt; steps.as_slice(), wanted.as_slice());
+                assert_eq!(rt; steps.as_slice(), wanted.as_slice(), "of {owners:?}");
             }
-            None => assert!(rt; steps.is_empty()),
+            None => assert!(rt; steps.is_empty(), "of {owners:?}"),
         }
     }
     Ok(())

@@ -1,4 +1,4 @@
-//! The tokens of shard iterators, both ways.
+//! Tests of the tokens of shard iterators: how they are written, and how they are read.
 use kds_base::{Moment, ShardNo, StreamNo};
 use kds_defs::Iter;
 use kds_token::{read_iter, write_iter};

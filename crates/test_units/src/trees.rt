@@ -1,4 +1,4 @@
-//! The shards of a stream after a split and after a merge.
+//! Tests of the shards of a stream after a split and after a merge.
 use kds_base::{Moment, Seq, ShardNo};
 use kds_defs::Refusal;
 use kds_tree::ShardTree;
@@ -25,7 +25,7 @@ fn a_split(rt: HostRuntime) -> Result<(), Fail> {
         assert_eq!(rt;
             tree.split_refusal(ShardNo(shard), at),
             Some(refusal),
-            "of {shard}"
+            "of {shard} at {at}"
         );
     }
     Ok(())

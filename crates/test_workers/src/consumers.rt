@@ -1,4 +1,4 @@
-//! A processor whose calls are refused memory once: the same call is due until it is granted.
+//! A test of a processor whose calls run out of memory once: the same call stays due until it succeeds.
 use kcl_consumer::{Ahead, Consumer, Due, Processor};
 use kcl_defs::Ask;
 use kds_base::{
@@ -8,7 +8,7 @@ use kds_defs::{Command, Reply, Stored, Target};
 use std::process::Abort;
 use std::test::Fail;
 
-/// Refuses every other call, from the first one on, and counts those that it granted.
+/// A processor that refuses its first call and then every other call, and counts the calls that it granted.
 #[derive(Drop)]
 struct Refusing {
     refused: bool,
@@ -49,7 +49,7 @@ impl Processor for Refusing {
     }
 }
 
-/// The call is due, is refused, and is due again until it is granted.
+/// Checks that the call `wanted` is due, makes it, and sees it refused; then the call is due again, and is granted.
 fn refused_and_granted(rt: &impl Abort, c: &mut Consumer<Refusing>, wanted: Due) {
     for granted in [false, true] {
         let due = c.due();
@@ -59,14 +59,14 @@ fn refused_and_granted(rt: &impl Abort, c: &mut Consumer<Refusing>, wanted: Due)
     }
 }
 
-/// The command that comes next.
+/// Returns the consumer's next command.
 fn asked(rt: &impl Abort, c: &Consumer<Refusing>) -> Command {
     assert!(rt; c.due().is_none());
     assert!(rt; c.over().is_none());
     c.next(1)
 }
 
-/// Whether it sets a checkpoint to the end of its shard.
+/// Whether the command sets a checkpoint to the end of the shard.
 fn marks_end(what: &Command) -> bool {
     matches!(
         what,

@@ -1,4 +1,4 @@
-//! The workers of a drill's crowd run beside one another.
+//! A test that the workers of a drill's crowd run concurrently.
 
 use crate::meeting::member;
 use kcl_defs::Due;

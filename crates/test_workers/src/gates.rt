@@ -1,4 +1,5 @@
-//! What a gate is told of a processor's call, and when: the worker and the call, before it begins and after it came back.
+//! A test that a gate is called with the right worker and the right processor call, right before that call begins and
+//! right after it has returned.
 ghost use Rattle.std.specs.Prelude.{◌≡◌};
 
 use crate::crews::prepare;
@@ -14,14 +15,14 @@ use std::alloc::Global;
 use std::sync::atomic::{AtomicU64, Ordering};
 use std::test::Fail;
 
-/// The calls that were made: how many, and the code of the last one.
+/// The processor calls made so far: their number, and the code of the last call.
 #[derive(Drop)]
 struct Calls {
     count: AtomicU64,
     last: AtomicU64,
 }
 
-/// The number that stands for a call.
+/// Returns the code of a processor call.
 fn code(call: Due) -> u64 {
     match call {
         Due::Initialize => 1,
@@ -31,7 +32,7 @@ fn code(call: Due) -> u64 {
     }
 }
 
-/// Notes its calls as they are made.
+/// A processor that notes each of its calls in `calls`.
 #[derive(Drop)]
 struct Counting<'a> {
     calls: &'a Calls,
@@ -70,7 +71,7 @@ impl<'a> Processor for Counting<'a> {
     }
 }
 
-/// Makes processors that count together.
+/// Makes processors that note their calls in the same `calls`.
 #[derive(Drop)]
 struct Counters<'a> {
     calls: &'a Calls,
@@ -84,13 +85,14 @@ impl<'a> Maker<Counting<'a>> for Counters<'a> {
     }
 }
 
-/// Looks at each telling whether the call was made, and whether worker and call are the right ones.
+/// A gate that checks at each of its calls whether the processor was already called, and whether the worker and the
+/// processor call are the right ones.
 #[derive(Drop)]
 struct Looking<'a> {
     calls: &'a Calls,
     worker: WorkerNo,
     told: u64,
-    /// The call that was told before it, until it is told after it.
+    /// The processor call between the gate's `before` and `after`, if there is such a call.
     open: Option<Due>,
     is_right: bool,
 }
@@ -149,7 +151,8 @@ fn gate_is_told_before_and_after(rt: HostRuntime) -> Result<(), Fail> {
         Ok(())
     );
     assert!(rt; gate.is_right);
-    // Two shards: each begun, handed its record, and told of the loss when the worker is stopped.
+    // The worker has two shards. For each shard, its processor is called when the tenure begins, with the shard's
+    // record, and when the stopped worker gives up the lease.
     assert!(rt; gate.told >= 4);
     Ok(())
 }

@@ -1,6 +1,7 @@
-//! Tests of consumers, of workers, and of workers on threads, of what no schedule reaches: what is due again after memory ran out,
-//! that the workers of a crew, and those of a drill's crowd, run beside one another, that a gate is told before a call and after
-//! it, and that a pass hands off a lease. They stand apart, so that no crate is proved a second time beside its tests.
+//! Tests of consumers, of workers, and of workers on threads, for behavior that no schedule reaches: which call or
+//! answer is due again after memory ran out, that the workers of a crew and those of a drill's crowd run concurrently,
+//! that a gate is called before and after a processor call, and that a pass hands off a lease. The tests are in a
+//! crate of their own, so that no tested crate is proved a second time beside its tests.
 #![tactic(auto)]
 
 #[cfg(test)]
@@ -12,7 +13,7 @@ mod crowds;
 #[cfg(test)]
 mod gates;
 #[cfg(test)]
-mod hands;
+mod handoffs;
 #[cfg(test)]
 mod meeting;
 #[cfg(test)]

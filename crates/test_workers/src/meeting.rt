@@ -1,4 +1,5 @@
-//! Workers that wait for one another: a gate that holds its worker's first call of a kind until the other worker's has begun.
+//! Workers that wait for one another: a gate holds its worker's first processor call of a kind until the other
+//! worker's first call of that kind has begun.
 ghost use Rattle.std.specs.Prelude.{◌≡◌, ◌≤◌, []};
 ghost use Rattle.kcl_live.specs.Members.{IsReady};
 ghost use Rattle.kcl_proc.specs.Stocks.{StandsFor};
@@ -14,10 +15,11 @@ use std::alloc::Global;
 use std::sync::atomic::{AtomicU64, Ordering};
 use std::thread::yield_now;
 
-/// How often a gate looks whether the other worker's call has begun.
+/// How many times, at most, a gate checks whether the other worker's call has begun.
 const LOOKS: u32 = 100_000_000;
 
-/// Holds its worker's first call of a kind until the other's first one has begun.
+/// A gate that holds its worker's first call of the kind `held` until the other worker's first call of that kind has
+/// begun.
 #[derive(Drop)]
 pub struct Meeting<'a> {
     held: Due,
@@ -44,7 +46,8 @@ impl<'a> Gate for Meeting<'a> {
     fn after(&mut self, _worker: WorkerNo, _due: Due) {}
 }
 
-/// A worker that counts, with its pass, whose first call of this kind is held.
+/// Returns a member of a crew: a worker whose processors count records, its pass, and a gate that holds its first call
+/// of the kind `held`.
 pub fn member<'a, M: Machine>(
     alloc: Global,
     hall: &Hall<M>,

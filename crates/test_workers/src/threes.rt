@@ -1,4 +1,4 @@
-//! A crew of three workers has a thread for each: they wait for one another in a ring.
+//! A test that a crew of three workers has a thread for each worker: the three wait for one another in a ring.
 ghost use Rattle.std.specs.Prelude.{◌≡◌};
 
 use crate::crews::request;
@@ -13,7 +13,8 @@ use std::sync::Wait;
 use std::sync::atomic::AtomicU64;
 use std::test::Fail;
 
-/// Makes a stream of three shards, and puts a record into each: at the hash keys 0, the middle one and the greatest.
+/// Makes a stream of three shards, and puts a record into each shard: at the hash key 0, at the middle hash key and at
+/// the greatest.
 fn prepare<M: Machine, R: Wait>(
     rt: &R,
     alloc: Global,

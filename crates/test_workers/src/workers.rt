@@ -1,4 +1,5 @@
-//! Want of memory hands the answer back, and the worker takes it again; then a stop to its end.
+//! A test of a worker that runs out of memory, hands the answer back, absorbs the same answer later, and then is
+//! stopped and runs until it is idle.
 ghost use Rattle.std.specs.Prelude.{◌≡◌, None, IsSome};
 
 use kcl_consumer::{Maker, Processor};
@@ -14,7 +15,7 @@ use std::process::Abort;
 use std::rc::Rc;
 use std::test::Fail;
 
-/// Grants each call, and asks nothing.
+/// A processor that grants each call, and asks for no checkpoint.
 #[derive(Drop)]
 struct Silent;
 
@@ -40,7 +41,7 @@ impl Processor for Silent {
     }
 }
 
-/// Has memory for a processor where the cell says so.
+/// A maker that makes a processor if `has_memory` is true, and otherwise runs out of memory.
 #[derive(Drop)]
 struct Poor {
     has_memory: Rc<Cell<bool>>,
@@ -58,7 +59,7 @@ impl Maker<Silent> for Poor {
     }
 }
 
-/// The command that comes next.
+/// Returns the worker's next command.
 fn asked(rt: &impl Abort, worker: &mut Worker<Silent, Poor>) -> Command
     requires { worker.old.waiting ≡ None }
     ensures { IsSome worker.new.waiting }
@@ -68,7 +69,7 @@ fn asked(rt: &impl Abort, worker: &mut Worker<Silent, Poor>) -> Command
     worker.next(Moment::start())
 }
 
-/// The command that comes next is answered.
+/// Makes the worker absorb `answer` as the answer to its next command. Returns that command.
 fn answered(rt: &impl Abort, worker: &mut Worker<Silent, Poor>, answer: Answer) -> Command
     requires { worker.old.waiting ≡ None }
     ensures { worker.new.waiting ≡ None }
@@ -79,7 +80,7 @@ fn answered(rt: &impl Abort, worker: &mut Worker<Silent, Poor>, answer: Answer) 
     what
 }
 
-/// This processor call is due, and is made.
+/// Checks that the processor call `wanted` is due, and makes it.
 fn called(rt: &impl Abort, worker: &mut Worker<Silent, Poor>, wanted: (ShardRef, Due))
     requires { worker.old.waiting ≡ None }
     ensures { worker.new.waiting ≡ None }
@@ -111,7 +112,7 @@ fn row() -> Row {
     }
 }
 
-/// The answer to a survey of one shard, which has a row.
+/// Returns the answer to a survey that finds one shard, and a row for this shard.
 fn surveyed(rt: &HostRuntime) -> Result<Reply, Fail> {
     let mut shards = Items::new(rt.alloc());
     shards.push(key())?;
@@ -128,7 +129,8 @@ fn taken() -> Answer {
     })
 }
 
-/// The answer to a Take finds no memory, is handed back, and is taken once there is some.
+/// Has the worker absorb the answer to a Take. Memory runs out, and the worker hands the answer back. Once there is
+/// memory, the worker absorbs the same answer.
 fn taken_again(rt: &impl Abort, worker: &mut Worker<Silent, Poor>, memory: &Cell<bool>)
     requires { worker.old.waiting ≡ None }
     ensures { worker.new.waiting ≡ None }

@@ -1,23 +1,24 @@
-//! What a run leaves one of whose reads or writes fails.
+//! What a run leaves behind if one of its reads or writes fails.
 ghost use Rattle.std.specs.Prelude.{◌<◌};
 
 use crate::harness::runs::{Run, run_on};
 use kds_base::Memory;
 use std::alloc::Global;
 
-/// A run whose input and output are known: which part of the output is written once so many bytes of the input were read.
+/// A run with a known input and output, and how much of the output is written after which part of the input is read.
 #[derive(Drop)]
 pub struct Case {
     pub input: &'static str,
     pub out: &'static str,
-    /// After so many bytes of the input, so many of the output.
+    /// In each pair: once the first number of bytes of the input is read, the second number of bytes of the output is
+    /// written.
     pub parts: &'static [(usize, usize)],
 }
 
-/// What it leaves: the exit status, how many bytes of the output, and the error output.
+/// What a run leaves behind: its exit status, the length of its output, and its error output.
 pub type Leaves = (u8, usize, &'static str);
 
-/// How many calls move so many bytes, by pieces of a size.
+/// The number of calls that move `bytes` bytes in pieces of `step` bytes.
 fn calls(bytes: usize, step: usize) -> usize
     requires { 0 < step }
 {
@@ -25,21 +26,21 @@ fn calls(bytes: usize, step: usize) -> usize
 }
 
 impl Case {
-    /// How many reads there are, by pieces of a size: the last one finds the end.
+    /// The number of reads in pieces of `step` bytes. The last read finds the end of the input.
     fn reads(&self, step: usize) -> usize
         requires { 0 < step }
     {
         calls(self.input.len(), step).saturating_add(1)
     }
 
-    /// How many writes there are.
+    /// The number of writes in pieces of `step` bytes.
     fn writes(&self, step: usize) -> usize
         requires { 0 < step }
     {
         calls(self.out.len(), step)
     }
 
-    /// Where the read fails that comes after so many.
+    /// What the run should leave behind if `before` reads succeed and the next read fails.
     fn at_read(&self, step: usize, before: usize) -> Leaves
         requires { 0 < step }
     {
@@ -56,8 +57,8 @@ impl Case {
         (4, written, "read fault\n")
     }
 
-    /// Where the write fails that comes after so many. Condition of its use: all of the output is written at once, or byte by
-    /// byte.
+    /// What the run should leave behind if `before` writes succeed and the next write fails. Use this only if the
+    /// output is written all at once, or byte by byte.
     fn at_write(&self, step: usize, before: usize) -> Leaves
         requires { 0 < step }
     {
@@ -68,26 +69,29 @@ impl Case {
         (5, written, "write fault\n")
     }
 
-    /// Whether each single read, and each single write, that fails leaves what was answered before, by pieces of a size. One
-    /// more than there are is none.
-    pub fn leaves_each(&self, alloc: Global, run: Run, step: usize) -> Result<bool, Memory>
+    /// Fails each read and each write in turn, in pieces of `step` bytes. The result describes the first of these runs
+    /// that doesn't leave behind exactly what was answered before the failure. It is empty if there is no such run. A
+    /// failure set after the last call has no effect.
+    pub fn other(&self, alloc: Global, run: Run, step: usize) -> Result<String, Memory>
         requires { 0 < step }
     {
         let bytes = self.input.as_bytes();
         for before in 0..self.reads(step).saturating_add(1) {
             let number = (before as u64).saturating_add(1);
             let left = run_on(alloc, run, bytes, step, &[number], &[])?;
-            if !left.leaves(self.out, self.at_read(step, before)) {
-                return Ok(false);
+            let other = left.other_leaving(alloc, self.out, self.at_read(step, before))?;
+            if !other.is_empty() {
+                return Ok(format!(in alloc; "read {number}: {other}")?);
             }
         }
         for before in 0..self.writes(step).saturating_add(1) {
             let number = (before as u64).saturating_add(1);
             let left = run_on(alloc, run, bytes, step, &[], &[number])?;
-            if !left.leaves(self.out, self.at_write(step, before)) {
-                return Ok(false);
+            let other = left.other_leaving(alloc, self.out, self.at_write(step, before))?;
+            if !other.is_empty() {
+                return Ok(format!(in alloc; "write {number}: {other}")?);
             }
         }
-        Ok(true)
+        Ok(String::new(alloc))
     }
 }

@@ -1,14 +1,31 @@
-//! What a run left behind.
+//! What a run leaves behind.
 use crate::harness::cases::Leaves;
 use kds_base::{Items, Memory};
 use kds_cli_runs::tell;
 use kds_ends::{MemSink, Status};
 use std::alloc::Global;
 
-/// The room of the error output.
+/// Stands for the missing line if a text has ended.
+const END: &str = "(the end)";
+
+/// The number of the first line in which the two texts differ, and that line in `given` and in `wanted`.
+fn first_line<'a>(given: &'a str, wanted: &'a str) -> (usize, &'a str, &'a str) {
+    let mut others = wanted.split('\n');
+    let mut number = 1usize;
+    for line in given.split('\n') {
+        let other = others.next().unwrap_or(END);
+        if line != other {
+            return (number, line, other);
+        }
+        number = number.saturating_add(1);
+    }
+    (number, END, others.next().unwrap_or(END))
+}
+
+/// The capacity of the error output.
 const ROOM: usize = 256;
 
-/// What a run left behind: its end, its output, and what the error output is told of the end.
+/// What a run left behind: its status, its output, and the error output that belongs to the status.
 #[derive(Drop)]
 pub struct Left {
     pub status: Status,
@@ -17,24 +34,50 @@ pub struct Left {
 }
 
 impl Left {
-    /// What a run with this end left in this output.
+    /// What is left behind by a run that ended with `status` and wrote `out`.
     pub fn new(alloc: Global, status: Status, out: MemSink) -> Result<Left, Memory> {
         let mut err = MemSink::new(alloc, ROOM, ROOM, Items::new(alloc))?;
         tell(&mut err, status);
         Ok(Left { status, out, err })
     }
 
-    /// Whether it is this, of an output.
-    pub fn leaves(&self, out: &str, leaves: Leaves) -> bool {
+    /// How this result differs from `leaves`, what a case should leave behind. The case's whole output is `out`. Empty
+    /// if there is no difference.
+    pub fn other_leaving(
+        &self,
+        alloc: Global,
+        out: &str,
+        leaves: Leaves,
+    ) -> Result<String, Memory> {
         let (code, written, err) = leaves;
         match out.as_bytes().get(..written) {
-            Some(front) => self.is(code, front, err),
-            None => false,
+            Some(front) => self.other(alloc, code, front, err),
+            None => Ok(format!(in alloc; "a case of {written} bytes of a shorter output")?),
         }
     }
 
-    /// Whether it is this exit status, this output and this error output, whole.
-    pub fn is(&self, code: u8, out: &[u8], err: &str) -> bool {
-        self.status.code() == code && self.out.held() == out && self.err.held() == err.as_bytes()
+    /// How this result differs from the exit status `code`, the output `out` and the error output `err`. Of the output
+    /// only the first line that differs is shown. Empty if there is no difference.
+    pub fn other(&self, alloc: Global, code: u8, out: &[u8], err: &str) -> Result<String, Memory> {
+        let mut other = String::new(alloc);
+        let status = self.status.code();
+        if status != code {
+            other.push_str(format!(in alloc; "status {status} in place of {code}\n")?.as_str())?;
+        }
+        if self.err.held() != err.as_bytes() {
+            let told = String::from_utf8_lossy(alloc, self.err.held())?;
+            let text = format!(in alloc; "error output {told:?} in place of {err:?}\n")?;
+            other.push_str(text.as_str())?;
+        }
+        if self.out.held() != out {
+            let given = String::from_utf8_lossy(alloc, self.out.held())?;
+            let wanted = String::from_utf8_lossy(alloc, out)?;
+            let (number, line, want) = first_line(given.as_str(), wanted.as_str());
+            let text = format!(in alloc;
+                "line {number} of the output\n  {line}\nin place of\n  {want}\n"
+            )?;
+            other.push_str(text.as_str())?;
+        }
+        Ok(other)
     }
 }

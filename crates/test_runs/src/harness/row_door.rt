@@ -1,4 +1,4 @@
-//! A door whose connections come one behind the other.
+//! A door that accepts its connections one after the other.
 ghost use Rattle.std.specs.Prelude.{None};
 
 use kds_base::{Items, Memory, Octets};
@@ -8,16 +8,16 @@ use std::collections::VecDeque;
 use std::sync::{Arc, Mutex, Wait};
 use std::thread::yield_now;
 
-/// How often the door looks whether the last connection has ended.
+/// How many times the door checks whether the last connection has ended.
 const LOOKS: u32 = 10_000_000;
 
-/// The room of a connection's output.
+/// The capacity of a connection's output.
 const ROOM: usize = 1024;
 
-/// What a connection wrote, which its door can copy.
+/// The output of a connection, which the door can copy.
 type Written = Arc<Mutex<MemSink>>;
 
-/// The output of a connection. It is let go with the connection.
+/// The output end of a connection. It is dropped together with the connection.
 #[derive(Drop)]
 pub struct RowOutput<R: Wait + Drop> {
     rt: R,
@@ -41,7 +41,8 @@ impl<R: Wait + Drop> Sink for RowOutput<R> {
     }
 }
 
-/// A door with connections in memory, each of which comes once the last one has ended. It fails where there is none left.
+/// A door with connections in memory. It accepts a connection once the one before has ended, and fails if no connection
+/// is left.
 #[derive(Drop)]
 pub struct RowDoor<R: Wait + Drop> {
     rt: R,
@@ -60,7 +61,7 @@ impl<R: Wait + Clone + Drop> RowDoor<R> {
         }
     }
 
-    /// One connection more, whose reads of these numbers fail.
+    /// Adds a connection with the input `bytes`. The reads whose numbers are in `failing` fail.
     pub fn add(&mut self, alloc: Global, bytes: Octets, failing: Items<u64>) -> Result<(), Memory> {
         let sink = MemSink::new(alloc, ROOM, ROOM, Items::new(alloc))?;
         let written = Arc::new(alloc, Mutex::new(sink))?;
@@ -77,7 +78,7 @@ impl<R: Wait + Clone + Drop> RowDoor<R> {
 }
 
 impl<R: Wait + Drop> RowDoor<R> {
-    /// A copy of what the connection at a place wrote, from 0.
+    /// A copy of the output of the connection at `place`, counted from 0.
     pub fn written(&self, alloc: Global, place: usize) -> Result<Octets, Memory> {
         match self.written.as_slice().get(place) {
             Some(written) => Octets::of(alloc, written.lock(&self.rt).held()),
@@ -85,8 +86,8 @@ impl<R: Wait + Drop> RowDoor<R> {
         }
     }
 
-    /// Whether all connections that were accepted have ended, within so many looks: then the outputs of those that wait
-    /// are held twice, and all others once.
+    /// Waits until all accepted connections have ended, with at most `LOOKS` checks, and returns whether they have.
+    /// They have ended when only the outputs of the waiting connections have a second holder.
     fn row_has_ended(&self) -> bool {
         let open = self.waiting.len();
         for _ in 0..LOOKS {

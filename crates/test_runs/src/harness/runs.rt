@@ -1,4 +1,4 @@
-//! Runs over ends in memory.
+//! Runs over inputs and outputs in memory.
 ghost use Rattle.std.specs.Prelude.{◌<◌};
 
 use crate::harness::left::Left;
@@ -8,19 +8,19 @@ use kds_cli_runs::{run_answer, run_replay};
 use kds_ends::{MemClock, MemSink, MemSource};
 use std::alloc::Global;
 
-/// The room of an output.
+/// The capacity of a run's output.
 const ROOM: usize = 524_288;
 
-/// What is run.
+/// The kinds of runs.
 #[derive(Clone, Copy)]
 pub enum Run {
-    /// A schedule, for its answers.
+    /// Runs a schedule and writes its answers.
     Replay,
-    /// A schedule, for its journal.
+    /// Runs a schedule and writes its journal.
     Journal,
-    /// The audit of a journal.
+    /// Audits a journal.
     Audit,
-    /// A connection, at the moment 1000.
+    /// Answers a connection whose clock stands at 1000.
     Answer,
 }
 
@@ -32,14 +32,15 @@ fn numbers(alloc: Global, numbers: &[u64]) -> Result<Items<u64>, Memory> {
     Ok(items)
 }
 
-/// A clock that stands at 1000.
-fn clock(alloc: Global) -> Result<MemClock, Memory> {
+/// A clock that always gives the moment 1000.
+fn fixed_clock(alloc: Global) -> Result<MemClock, Memory> {
     let mut moments = Items::new(alloc);
     moments.push(Moment::new(1000).unwrap_or(Moment::start()))?;
     Ok(MemClock::new(moments))
 }
 
-/// What a run over these bytes leaves, by pieces of a size. The reads and the writes of these numbers fail.
+/// What a run of the kind `run` over `bytes` leaves behind, in pieces of `step` bytes. The reads whose numbers are in
+/// `reads` and the writes whose numbers are in `writes` fail.
 pub fn run_on(
     alloc: Global,
     run: Run,
@@ -59,7 +60,7 @@ pub fn run_on(
         Run::Journal => run_replay(alloc, &mut input, &mut out, true),
         Run::Audit => run_audit(alloc, &mut input, &mut out),
         Run::Answer => {
-            let mut clock = clock(alloc)?;
+            let mut clock = fixed_clock(alloc)?;
             run_answer(alloc, &mut input, &mut out, &mut clock)
         }
     };

@@ -1,5 +1,5 @@
 use Rattle.std.proofs.Common.{◌≡◌, [], None}
-use Rattle.test_workers.proofs.hands.a_lease_is_handed_off.Given as goal
+use Rattle.test_workers.proofs.handoffs.a_lease_is_handed_off.Given as goal
 
 -- the first pass is as it was dealt but for its turns, and no command waits
 abbrev pub invariant-loop : goal.invariant-loop

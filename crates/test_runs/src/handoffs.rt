@@ -1,9 +1,10 @@
-//! Worked rows of hand-offs in schedules: what each writes, and the journal of one.
+//! Schedules with hand-offs, what each of them writes, and the journal of one of them.
 use crate::harness::{Row, Run, first_other};
 use std::test::Fail;
 
-/// After ten steps both records are given: they are marked, and the row is freed. Another worker then begins behind
-/// them. What isn't held any more, and an actor that is no worker, hand off nothing.
+/// After ten steps both records have been delivered. The hand-off marks them as processed and frees the row. Another
+/// worker then begins after these records. Nothing is handed off if the worker doesn't hold the lease any more, or if
+/// the actor has no worker.
 const GIVEN: Row = (
     r#"3000 api CreateStream {"StreamName":"s","ShardCount":1}
 3000 api PutRecord {"StreamName":"s","Data":"aGk=","PartitionKey":"a"}
@@ -53,7 +54,7 @@ none
     "",
 );
 
-/// After seven steps the batch is read and the processor wasn't handed it: nothing is given or marked.
+/// After seven steps the batch has been read, but not handed to the processor: nothing is given or marked.
 const READ: Row = (
     r#"3000 api CreateStream {"StreamName":"s","ShardCount":1}
 3000 api PutRecord {"StreamName":"s","Data":"aGk=","PartitionKey":"a"}
@@ -87,7 +88,7 @@ ok 1 1/0 - 2 TRIM_HORIZON 0
     "",
 );
 
-/// The lines up to the eighth step, before which the processor is handed the batch, and a hand-off.
+/// The lines up to the eighth step, which first hands the batch to the processor, and then a hand-off.
 const HANDED_LINES: &str = r#"3000 api CreateStream {"StreamName":"s","ShardCount":1}
 3000 api PutRecord {"StreamName":"s","Data":"aGk=","PartitionKey":"a"}
 3000 api PutRecord {"StreamName":"s","Data":"","PartitionKey":"abc"}
@@ -103,7 +104,7 @@ const HANDED_LINES: &str = r#"3000 api CreateStream {"StreamName":"s","ShardCoun
 3000 hand 1000 1/0
 "#;
 
-/// The batch that the processor has is given, marked, and then the row is freed.
+/// The hand-off gives the batch that the processor was handed, marks it, and then frees the row.
 const HANDED: Row = (
     HANDED_LINES,
     0,
@@ -124,7 +125,8 @@ give 1 = ok delivered 3; mark 1 1 2 = ok counter 2; free 1 2 = ok counter 3; han
     "",
 );
 
-/// Its journal has an entry for each of the three turns. The hashes are those of the keys by MD5 (RFC 1321).
+/// The journal of `HANDED_LINES`, which has an entry for each of the hand-off's three turns. The hash keys are the MD5
+/// hashes of the partition keys (RFC 1321).
 const HANDED_JOURNAL: Row = (
     HANDED_LINES,
     0,
@@ -144,7 +146,7 @@ end 3000
     "",
 );
 
-/// The lease was taken away: the mark is refused, and nothing is freed.
+/// The lease was taken away before the hand-off: the mark is refused, and the row isn't freed.
 const TAKEN_AWAY: Row = (
     r#"3000 api CreateStream {"StreamName":"s","ShardCount":1}
 3000 api PutRecord {"StreamName":"s","Data":"aGk=","PartitionKey":"a"}
@@ -187,13 +189,17 @@ ok 1 1/0 w9 2 TRIM_HORIZON 1
 );
 
 #[test]
-fn hand_offs(rt: HostRuntime) -> Result<(), Fail> {
-    let rows = [GIVEN, READ, HANDED, TAKEN_AWAY];
-    assert_eq!(rt; first_other(rt.alloc(), Run::Replay, &rows, &[4096])?, None);
-    let journals = [HANDED_JOURNAL];
-    assert_eq!(rt;
-        first_other(rt.alloc(), Run::Journal, &journals, &[4096])?,
-        None
-    );
+fn one_line_hands_a_lease_off(rt: HostRuntime) -> Result<(), Fail> {
+    let rows = [
+        ("given", GIVEN),
+        ("read", READ),
+        ("handed", HANDED),
+        ("taken away", TAKEN_AWAY),
+    ];
+    let other = first_other(rt.alloc(), Run::Replay, &rows, &[4096])?;
+    assert!(rt; other.is_empty(), "{other}");
+    let journals = [("handed journal", HANDED_JOURNAL)];
+    let other = first_other(rt.alloc(), Run::Journal, &journals, &[4096])?;
+    assert!(rt; other.is_empty(), "{other}");
     Ok(())
 }

@@ -1,4 +1,4 @@
-//! A lease is handed off by a pass of a hall.
+//! A test of the hand-off of a lease through a pass of a hall.
 ghost use Rattle.std.specs.Prelude.{◌≡◌, [], None, true};
 
 use crate::crews::request;
@@ -14,7 +14,8 @@ use kds_turn::{Hall, Pass, TurnErr};
 use std::sync::Wait;
 use std::test::Fail;
 
-/// Makes the call that is due, if there is one: a worker of one shard has no second. Whether it went well.
+/// Makes the processor call that is due, if a call is due. A worker of one shard has at most one call due. Returns
+/// whether the call succeeded.
 fn call_due(worker: &mut Worker<Stock, Kind>) -> bool
     requires free { worker.old.waiting ≡ None }
     ensures free { worker.new.waiting ≡ None }
@@ -25,8 +26,9 @@ fn call_due(worker: &mut Worker<Stock, Kind>) -> bool
     }
 }
 
-/// One step of a worker: the call that is due, then a command as a turn of the pass. Whether all went well.
-fn step<M: Machine, R: Wait>(
+/// Makes one step of a worker: the processor call that is due, and then a command as a turn of the pass. Returns
+/// whether both succeeded.
+fn worker_step<M: Machine, R: Wait>(
     rt: &R,
     hall: &Hall<M>,
     pass: &mut Pass<M>,
@@ -48,7 +50,7 @@ fn step<M: Machine, R: Wait>(
     }
 }
 
-/// How many records a Tally was handed.
+/// Returns the number of records that a Tally was handed.
 fn records(processor: &Stock) -> u64 {
     match processor {
         Stock::Tally(tally) => tally.records(),
@@ -56,7 +58,8 @@ fn records(processor: &Stock) -> u64 {
     }
 }
 
-/// Hands off the lease of a key, and tells how that ended and how many records its processor was handed.
+/// Hands off the worker's lease of `key`. Returns how the hand-off ended, and the number of records that its processor
+/// was handed.
 fn hand_off<M: Machine, R: Wait>(
     rt: &R,
     hall: &Hall<M>,
@@ -77,7 +80,7 @@ fn hand_off<M: Machine, R: Wait>(
     }
 }
 
-/// How many turns were made at a hall of these two passes.
+/// Returns the number of turns that were made at the hall by its two passes.
 fn turns_of<M: Machine + Drop>(hall: Hall<M>, first: Pass<M>, second: Pass<M>) -> u64
     requires hall { (first.hall ≡ hall.id) × (second.hall ≡ hall.id) × (hall.passes ≡ 2) }
     requires passes { (first.by ≡ 1) × (first.joined ≡ []) × (second.by ≡ 2) }
@@ -105,7 +108,7 @@ fn a_lease_is_handed_off(rt: HostRuntime) -> Result<(), Fail> {
     };
     let mut worker = Worker::new(alloc, WorkerNo(1), Settings::usual(), Kind::Tally);
     for _ in 0..10 {
-        assert!(rt; step(&rt, &hall, &mut first, &mut worker, at));
+        assert!(rt; worker_step(&rt, &hall, &mut first, &mut worker, at));
     }
     let key = ShardRef {
         stream: StreamNo(1),
@@ -119,7 +122,7 @@ fn a_lease_is_handed_off(rt: HostRuntime) -> Result<(), Fail> {
         hand_off(&rt, &hall, &mut first, &mut worker, key, at),
         Ok(None)
     );
-    // three requests, ten steps, the mark and the freeing
+    // three requests, ten steps of the worker, and the Mark and the Free of the hand-off
     assert_eq!(rt; turns_of(hall, first, second), 3 + 10 + 2);
     Ok(())
 }
