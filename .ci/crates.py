@@ -102,11 +102,21 @@ def page(crates):
     program = {crate.name for crate in of_program(crates)}
     out = ['# Crates', '',
            '<!-- made from docs/crates.list by ./dev crates: change that file, and run it again -->', '',
-           f'There are {len(crates)} crates; the program stands on {len(program)} of them, itself included. Lower crates come first in each '
-           'group. Every crate',
-           'is one layer. The layer above calls its public functions and relies on their contracts alone; proofs may also cite its lemmas',
-           '(`CONTRIBUTING.md`). "Stands on" leaves out `kds_base` and `kds_defs`, on which nearly every crate stands, and names the crates of',
-           'the toolchain too. The order in which they are proved is that of `crates.txt`.', '']
+           f'There are {len(crates)} crates; the program stands on {len(program)} of them, which include its own crate. In each group lower crates '
+           'come first. Every',
+           'crate is one layer. The layer above calls the public functions of the crate and relies on their contracts alone. Proofs may also cite the',
+           'lemmas of a lower crate (`CONTRIBUTING.md`). The column "Stands on" lists the crates that a crate uses, those of the toolchain included. It',
+           'leaves out `kds_base` and `kds_defs`, on which nearly every crate stands. The crates are proved in the order of `crates.txt`.', '',
+           'This page uses these words; the [glossary](glossary.md) has more:', '',
+           '- A *turn* is a command with its actor and its time, applied as a whole. A command is *lawful* if its arguments lie within the ranges of the',
+           '  API.',
+           '- A *history* is a list of turns, and a *journal* is the event log that a history leaves. Each line of a journal has one *entry*, an event.',
+           '- A value *stands for* a history, a journal or a list of events if it represents it. A function is *exact* if it does exactly what its',
+           '  definition says.',
+           '- A *law* is a theorem about the definitions, stated as the contract of an empty function.',
+           '- A *row* is an item of the lease table. A *tenure* is one worker\'s hold on a lease. A read of a tenure is *given* by the command that',
+           '  counts it as delivered, once the processor\'s call has returned.',
+           '- A *hall* is one machine that many threads share. A *pass* is the right to make turns in a hall under one actor number.', '']
     for group, members in groups.items():
         out += [f'## {group}', '', '| Crate | Does | Stands on | The layer above uses |', '|---|---|---|---|']
         for crate in members:

@@ -41,9 +41,14 @@ def put_and_look(at, number, shard):
     yield f'{at} api ListShards {{"StreamName":"s","ExclusiveStartShardId":"shardId-{shard:012}","MaxResults":5}}'
 
 
+def put_many_of_one(at, number, _):
+    yield f'{at} api PutRecords {{"StreamName":"s","Records":[{{"PartitionKey":"key-{number}","Data":"aGk="}}]}}'
+
+
 # A name, and the requests of a round: of the moment, the round's number and a closed shard.
 KINDS = [
     ('a put, the end of a closed shard, five shards behind it', put_and_look),
+    ('a PutRecords of one', put_many_of_one),
 ]
 
 

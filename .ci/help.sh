@@ -410,14 +410,14 @@ fake 0 "$(sed -n 's/^tunables=//p' help/programs)" 0 '' build env -u GLIBC_TUNAB
 fake 0 glibc.malloc.tcache_count=3 0 '' build env GLIBC_TUNABLES=glibc.malloc.tcache_count=3 KDS="$fakes/program" ./kds serve 4592 2
 
 # The proved one.
-begins=$'kds: proving 55 crates, and building the program: *\n'
+begins=$'kds: proving 54 crates, and building the program: *\n'
 refused=$'== kds_defs\nerror: not so\nrt: kds_defs NOT PROVED\n0 passed, 1 failed\nkds: a crate is not proved, or the program was not built; the whole log is *build.log\n'
 fake 1 '' 1 "$begins"'*'"$refused" refuse ./dev build
 fake 2 '' 1 "$begins"$'*kds: rt judged nothing: the disk is full; the whole log is *build.log\n' full-ci ./dev build
 stopped TERM hang-ci ./dev build
 stopped INT hang-ci ./dev build
 fake 1 '' 1 "$begins"$'*kds: a source changed meanwhile*\n' change ./dev build
-proves=$begins$'*kds: kds_base (1 of 55, kept), after 11 min\nkds: kds_defs (2 of 55), after 11 min\nkds: proved: crates/kds_cli/out/kds_cli\n'
+proves=$begins$'*kds: kds_base (1 of 54, kept), after 11 min\nkds: kds_defs (2 of 54), after 11 min\nkds: proved: crates/kds_cli/out/kds_cli\n'
 fake 0 '' 1 "$proves" build env SECONDS=660 ./dev build
 fake 0 ran 0 '' build ./kds -c 'echo ran'
 fake 0 "$version the proved program, crates/kds_cli/out/kds_cli" 0 '' build ./kds --version

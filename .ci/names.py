@@ -28,7 +28,7 @@ DEFINED = re.compile(r'^(?:(?:[a-z]+ )?pub (?:record |data )?|  (?:[a-z]+ pub |p
 FUNCTION = re.compile(r'^\s*pub fn (\w+)', re.M)
 MADE = re.compile(r'(<!-- begin (\S+(?: \w+)?) -->\n)(.*?)(<!-- end -->)', re.S)
 # how many lines of proofs and of definitions are wider than WIDTH: each number may only fall
-WIDTH, WIDE = 160, {'proofs': 2802, 'specs': 32}
+WIDTH, WIDE = 160, {'proofs': 2776, 'specs': 32}
 # Turns of phrase that have a word in the field, each with it. No page has one; what comments of the crates' code have is counted, and may only fall.
 TURNS = {
     'out of memory': r'\bwants? of memory\b',
@@ -40,13 +40,22 @@ TURNS = {
     'applies to, states': r'\b(?:is|are) said of\b',
 }
 TURNED = {
-    'out of memory': 58,
-    'the name of the number: `size` bytes': 92,
-    'one more of it': 10,
-    'returns ..': 13,
-    'if there is one, or the noun': 27,
-    'the noun again': 6,
+    'out of memory': 0,
+    'the name of the number: `size` bytes': 0,
+    'one more of it': 1,
+    'returns ..': 1,
+    'if there is one, or the noun': 0,
+    'the noun again': 1,
     'applies to, states': 0,
+}
+# The functions that more than three crates of the product have by one name: those of Rust, those that the specification names, and those that ask one
+# question at each layer. Any other name means one thing in three crates at most.
+SHARED = {
+    'new': 'of Rust', 'copy': 'of Rust, with an allocator', 'next': 'of Rust: what comes next', 'as_slice': 'of Rust', 'index_of': 'the index in a sorted list',
+    'read': 'of a source; of a tenure', 'take': 'a lease; a line (Taker)', 'make': 'a row; a processor (Maker)',
+    'put': 'a record; a row', 'split': 'a shard, and its range', 'apply': 'a turn (Machine)', 'absorb': 'the answer to what next gave', 'due': 'what must come next',
+    'ask': 'the command of a request, of a worker', 'advance': 'go on: a clock, a worker, an output', 'expired': 'a lease; a token; a shard',
+    'is_listed': 'of a shard, at each layer', 'position': 'of a shard, at each layer', 'shard': 'of a key, at each layer', 'lease_lines': 'laws on lines of leases',
 }
 # the most lines of a function, contract included, and the most characters of a line of a clause
 LINES, CLAUSE = 44, 200
@@ -211,8 +220,8 @@ def check_calling(tally, page):
     for name, found in shown.functions(shown.CRATE).items():
         tally.holds(f'<!-- begin .ci/shown.py {name} -->' in text, f'{page.relative_to(ROOT)}: it does not show {name} of docs/calling')
         tally.holds(name == 'request' or found[0] in shown.of_tests(name), f'docs/calling: {name} is not the function of the crates of tests')
-    proof = ROOT / 'crates/test_workers/proofs/hands/a_lease_is_handed_off/Invariants.antt'
-    same = proof.read_text().replace('Rattle.test_workers.proofs.hands.', 'Rattle.mine.proofs.') == shown.PROOF.read_text()
+    proof = ROOT / 'crates/test_workers/proofs/handoffs/a_lease_is_handed_off/Invariants.antt'
+    same = proof.read_text().replace('Rattle.test_workers.proofs.handoffs.', 'Rattle.mine.proofs.') == shown.PROOF.read_text()
     tally.holds(same, f'docs/calling: its proof is not {proof.relative_to(ROOT)}')
 
 
@@ -300,9 +309,10 @@ def check_decisions(tally, page):
     later = {(old, new) for old, decision in decided.items() for new in re.findall(r'\bsee (\d+)\)', decision)}
     earlier = {(old, new) for new, decision in decided.items() for said in re.findall(r'\(Goes on from ([^)]*)\.\)', decision) for old in re.findall(r'\d+', said)}
     tally.holds(later == earlier, f'{page.relative_to(ROOT)}: "(see N)" at a decision and "(Goes on from N.)" at the later one: {sorted(later ^ earlier)}')
-    for other in PAGES:
-        for number in re.findall(r'\bdecision (\d+)', other.read_text()):
-            tally.holds(int(number) in numbered, f'{other.relative_to(ROOT)}: there is no decision {number}')
+    citing = {str(other.relative_to(ROOT)): other.read_text() for other in PAGES} | {name: '\n'.join(lines) for name, lines in product().items()}
+    for name, words in citing.items():
+        for number in re.findall(r'\bdecision (\d+)', words):
+            tally.holds(int(number) in numbered, f'{name}: there is no decision {number}')
 
 
 def check_operations(tally):
@@ -427,6 +437,18 @@ def check_rules(tally):
             check_lengths(tally, where, lines)
             check_clauses(tally, where, lines)
             check_sentences(tally, where, lines)
+
+
+def check_shared(tally):
+    """A function's name that more than three crates of the product have is one of SHARED, and SHARED has no other."""
+    crates = {}
+    for path in ROOT.glob('crates/k*/src/**/*.rt'):
+        for name in re.findall(r'^\s*(?:pub(?:\(\w+\))? )?(?:const )?fn (\w+)', path.read_text(), re.M):
+            crates.setdefault(name, set()).add(path.relative_to(ROOT / 'crates').parts[0])
+    many = {name for name, found in crates.items() if len(found) > 3}
+    for name in sorted(many - set(SHARED)):
+        tally.holds(False, f'{len(crates[name])} crates have a function {name}: {", ".join(sorted(crates[name]))}')
+    tally.holds(not set(SHARED) - many, f'SHARED in .ci/names.py has names of three crates or fewer: {sorted(set(SHARED) - many)}')
 
 
 def check_width(tally):
@@ -570,6 +592,7 @@ def main():
     check_rules(tally)
     check_width(tally)
     check_turns(tally)
+    check_shared(tally)
     return tally.end()
 
 

@@ -312,6 +312,27 @@ class Places(unittest.TestCase):
         self.assertEqual([[status for status, _ in responses(it, 1)] for it in (closed, refused)], [[200], [405]])
         self.assert_served_within(3)
 
+    def test_a_closed_one_that_goes_on_sending(self):
+        """A client that was told `Connection: close`, and sends a byte every 0.3 seconds: what it sends is dropped for some seconds in all."""
+        self.serve(1)
+        connection, = self.clients(1)
+        connection.sendall(request('ListStreams', b'{}', close=True))
+        self.assertEqual([status for status, _ in responses(connection, 1)], [200])
+        ended = threading.Event()
+
+        def send():
+            with contextlib.suppress(OSError):
+                while not ended.wait(0.3):
+                    connection.sendall(b'x')
+
+        sending = threading.Thread(target=send)
+        sending.start()
+        try:
+            self.assert_served_within(IDLE)
+        finally:
+            ended.set()
+            sending.join()
+
     def test_no_thread_can_be_made(self):
         """Where the system has no room for a thread's stack, the thread that accepts serves, and then accepts again."""
         self.serve(3)
