@@ -1,4 +1,5 @@
-//! The types of plans, consumers and workers, and the definitions that their contracts cite (in `specs/`).
+//! The types of plans, consumers and workers. The contracts on plans, consumers and workers cite definitions, which are
+//! in `specs/`.
 #![tactic(auto)]
 
 pub mod consumer;

@@ -1,4 +1,6 @@
-//! Leases, notes on observed rows, and the steps of plans.
+//! The leases that a worker holds, the rows that it has observed, and the steps of its plans. A row is the item of a
+//! lease in the lease table, and each write of a row raises the row's counter. A tenure is one worker's hold on a
+//! lease.
 ghost use Rattle.std.specs.Prelude.{◌≡◌};
 ghost use Rattle.kcl_defs.specs.Plans.{renewed_held};
 
@@ -23,7 +25,7 @@ pub struct LeaseId {
 }
 
 impl Held {
-    /// Notes that the lease's row was written at the moment `now`, and that its counter is now `counter`.
+    /// Sets `counter` to the row's new counter, and `since` to `now`, the moment at which the row was written.
     pub fn renewed(&mut self, counter: u64, now: Moment)
         ensures { self.new ≡ renewed_held counter now self.old }
     {
@@ -32,7 +34,8 @@ impl Held {
     }
 }
 
-/// A note on an observed row: the row's key, its counter, and the moment at which this counter was first seen.
+/// What a worker remembers of a row that it observed: the row's key, its counter, and the moment at which this counter
+/// was first seen.
 #[derive(Clone, Copy, Debug, PartialEq, Eq)]
 pub struct Seen {
     pub key: ShardRef,
@@ -40,18 +43,18 @@ pub struct Seen {
     pub since: Moment,
 }
 
-/// One step of a sync plan: a write that brings the lease rows in line with the listed shards (Kinesis Client Library,
-/// ShardSyncer).
+/// One step of a sync plan: a write that makes the missing row of a listed shard, or removes the row of a shard that
+/// isn't listed (Kinesis Client Library, ShardSyncer).
 #[derive(Clone, Copy, Debug, PartialEq, Eq)]
 pub enum SyncStep {
-    /// Makes a row for this shard. The row begins at this origin.
+    /// Makes a row for this shard. Reading of the shard begins at this origin.
     Make(ShardRef, Origin),
-    /// Removes the row of this key, provided that the row still has the given counter.
+    /// Removes the row of this key if the row still has this counter.
     Cut(ShardRef, u64),
 }
 
-/// One step of a take plan: takes the row of `key`, provided that the row still has the counter `counter` (Kinesis
-/// Client Library, LeaseTaker).
+/// One step of a take plan: takes the row of `key` if the row still has the counter `counter` (Kinesis Client Library,
+/// LeaseTaker).
 #[derive(Clone, Copy, Debug, PartialEq, Eq)]
 pub struct TakeStep {
     pub key: ShardRef,

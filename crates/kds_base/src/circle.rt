@@ -1,8 +1,8 @@
-//! Indices in a circle.
+//! Indices in circular lists, where the first item follows the last one.
 ghost use Rattle.std.specs.Prelude.{◌≡◌};
 ghost use Rattle.kds_base.specs.Circle.{next_of};
 
-/// The index that follows `index` in a circle of `count` indices. After the last index comes 0.
+/// Returns the index after `index` in a circular list of `count` items: `index + 1`, or 0 if no item has that index.
 pub fn next_of(count: usize, index: usize) -> usize
     ensures { result ≡ next_of count index }
 {

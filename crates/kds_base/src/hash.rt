@@ -5,8 +5,8 @@ ghost use Rattle.kds_base.specs.Hashes.{key_hash};
 use crate::octets::Octets;
 use md5::{Digest, Md5};
 
-/// The hash key of a partition key: the 16 bytes of the key's MD5 digest, read as a number with the most significant
-/// byte first (Kinesis API Reference, PutRecord; RFC 1321).
+/// Returns the hash key of the partition key `key`: the 16 bytes of the MD5 digest of `key`, read as a big-endian
+/// number (Kinesis API Reference, PutRecord; RFC 1321).
 pub fn hash_of(key: &Octets) -> u128
     ensures { result ≡ key_hash key.now }
 {

@@ -1,11 +1,11 @@
-//! Lists of items.
+//! A growable list of items of any type.
 ghost use Rattle.std.specs.Prelude.{◌≡◌, ◌++◌, ◌∷◌, [], OnOk, OnErr};
 
 use crate::memory::Memory;
 use std::alloc::Global;
 use std::marker::Model;
 
-/// A list of items. Contracts see it as a mathematical list.
+/// A growable list of items. In contracts, its value is a mathematical list.
 #[derive(Drop)]
 pub struct Items<T> {
     items: Vec<T>,
@@ -20,7 +20,7 @@ impl<T> Model for Items<T> {
 }
 
 impl<T> Items<T> {
-    /// An empty list. It allocates no memory.
+    /// Returns an empty list. No memory is allocated.
     pub fn new(alloc: Global) -> Items<T>
         ensures { result ≡ [] }
     {
@@ -29,21 +29,21 @@ impl<T> Items<T> {
         }
     }
 
-    /// A list with the vector's items, which are moved and not copied.
+    /// Returns a list of the items in the vector `items`. The items are moved, not copied.
     pub fn from_vec(items: Vec<T>) -> Items<T>
         ensures { result ≡ items.items }
     {
         Items { items }
     }
 
-    /// The list's items, in order.
+    /// Returns the items of the list as a slice, in order.
     pub fn as_slice(&self) -> &[T]
         ensures { result.now ≡ self.now }
     {
         self.items.as_slice()
     }
 
-    /// A vector with the list's items, which are moved and not copied.
+    /// Returns the items of the list as a vector. The items are moved, not copied.
     pub fn into_vec(self) -> Vec<T>
         ensures { result.items ≡ self }
     {
@@ -52,7 +52,7 @@ impl<T> Items<T> {
 }
 
 impl<T: Drop> Items<T> {
-    /// Adds an item at the end. After `Memory` the list is unchanged.
+    /// Adds `item` at the end. If memory runs out, the list is unchanged.
     pub fn push(&mut self, item: T) -> Result<(), Memory>
         ensures ok { OnOk result (self.new ≡ self.old ++ item ∷ []) }
         ensures err { OnErr result (self.new ≡ self.old) }

@@ -4,16 +4,17 @@ ghost use Rattle.kds_base.specs.Checkpoints.{is_end};
 
 use crate::numbers::{Seq, ShardNo, StreamNo};
 
-/// A shard, given by the number of its stream and its own number. It is the key of the shard's lease (Kinesis Client
-/// Library, lease key).
+/// Names a shard by the number of its stream and by the shard's own number within the stream. The two numbers are the
+/// key of the shard's lease (Kinesis Client Library, lease key).
 #[derive(Clone, Copy, Debug, PartialEq, Eq)]
 pub struct ShardRef {
     pub stream: StreamNo,
     pub shard: ShardNo,
 }
 
-/// How far a shard has been processed: not at all, up to and including the record with this number, or completely
-/// (Kinesis Client Library, checkpoint).
+/// A checkpoint: how far a shard has been processed (Kinesis Client Library, checkpoint). `TrimHorizon`: no record has
+/// been processed. `At`: the records up to and including this sequence number have been processed. `ShardEnd`: the
+/// whole shard has been processed.
 #[derive(Clone, Copy, Debug, PartialEq, Eq)]
 pub enum Checkpoint {
     TrimHorizon,
@@ -22,7 +23,7 @@ pub enum Checkpoint {
 }
 
 impl Checkpoint {
-    /// Whether the checkpoint says that the whole shard has been processed.
+    /// Whether the checkpoint is the shard's end, which means that the whole shard has been processed.
     pub fn is_end(self) -> bool
         ensures { result ≡ is_end self }
     {

@@ -1,12 +1,13 @@
-//! Moments, in milliseconds.
+//! Points in time, in milliseconds.
 ghost use Rattle.std.specs.Prelude.{◌≡◌, ◌<◌, ◌^◌, max, SomeIff};
 
 use std::marker::Model;
 
-/// The least number of milliseconds that is too great for a moment.
+/// The least number of milliseconds that is too great for a moment: 2^62.
 pub const MOMENT_END: u64 = 1 << 62;
 
-/// A moment as a number of milliseconds, which is below `MOMENT_END`. Contracts see the number.
+/// A point in time: a number of milliseconds since moment 0, which is the start of the time scale. The number is below
+/// `MOMENT_END`. In contracts, a moment is this number.
 #[derive(Clone, Copy, Debug, PartialEq, Eq, PartialOrd, Ord)]
 pub struct Moment {
     ms: u64,
@@ -25,7 +26,7 @@ impl Model for Moment {
 }
 
 impl Moment {
-    /// The moment `ms` milliseconds after moment 0. `None` exactly if `ms` is `MOMENT_END` or more.
+    /// Returns the moment that is `ms` milliseconds after moment 0, or `None` if `ms` is `MOMENT_END` or more.
     pub fn new(ms: u64) -> Option<Moment>
         ensures { SomeIff result (ms < 2 ^ 62) ms }
     {
@@ -36,21 +37,21 @@ impl Moment {
         }
     }
 
-    /// Moment 0, at which a clock begins.
+    /// Returns moment 0, the initial value of a clock.
     pub fn start() -> Moment
         ensures { result ≡ 0 }
     {
         Moment { ms: 0 }
     }
 
-    /// The later of the two moments.
+    /// Returns the later of the two moments.
     pub fn later(self, other: Moment) -> Moment
         ensures { result ≡ max self other }
     {
         if self.ms < other.ms { other } else { self }
     }
 
-    /// The moment's number of milliseconds.
+    /// Returns the moment's number of milliseconds, which is below `MOMENT_END`.
     pub fn ms(self) -> u64
         ensures value { result ≡ self }
         ensures range { self < 2 ^ 62 }

@@ -17,7 +17,8 @@ use std::marker::Model;
 /// The greatest number of bytes in a stream's name.
 pub const NAME_BYTES: usize = 128;
 
-/// A stream's name: 1 to 128 characters, each a letter, a digit, `_`, `.` or `-`. Contracts see the name's bytes.
+/// A stream's name: 1 to 128 characters, each an ASCII letter, an ASCII digit, `_`, `.` or `-` (Kinesis API Reference,
+/// CreateStream, StreamName). In contracts, a name is the list of its bytes.
 #[derive(Drop)]
 pub struct Name {
     text: Octets,
@@ -53,7 +54,7 @@ fn names(text: &[u8]) -> bool
 }
 
 impl Name {
-    /// The name with this text, or `None` if the text isn't a valid name.
+    /// Returns the name with the text `text`, or `None` if `text` isn't a valid stream name.
     pub fn read(alloc: Global, text: &[u8]) -> Result<Option<Name>, Memory>
         ensures { IfOk result (λ o. o ≡ name_of text.now) }
     {
@@ -65,7 +66,7 @@ impl Name {
         }
     }
 
-    /// The name's bytes.
+    /// Returns the bytes of the name.
     pub fn bytes(&self) -> &[u8]
         ensures value { result.now ≡ self.now }
         ensures name { is_name self.now ≡ true }
@@ -73,7 +74,7 @@ impl Name {
         self.text.as_slice()
     }
 
-    /// An equal copy of the name.
+    /// Returns a copy of the name.
     pub fn copy(&self, alloc: Global) -> Result<Name, Memory>
         ensures { IfOk result (λ n. n ≡ self.now) }
     {

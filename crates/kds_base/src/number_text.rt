@@ -1,4 +1,5 @@
-//! Numbers as decimal text. Each number has exactly one text, and writing it makes no temporary allocation.
+//! Reads and writes numbers as decimal text. For each number, `read_u64` and `read_u128` accept exactly one text: the
+//! text that `write_u64` and `write_u128` write for this number. Writing a number makes no temporary allocation.
 ghost use Rattle.std.specs.Prelude.{◌≡◌, ◌++◌, ◌+◌, ◌-◌, ◌*◌, ◌<◌, ◌≤◌, ◌^◌, ◌==◌, ◌&&◌, ℕ, length, nat_lt, slice_index, true, decimal, OnOk, OnErr, IfSome, IfNone};
 ghost use Rattle.std.specs.Char.{is_ascii_digit};
 ghost use Rattle.kds_base.specs.NumberText.{digits_of, number_of};
@@ -15,10 +16,11 @@ fn has_needless_zero(text: &[u8]) -> bool
     text.len() > 1 && text[0] == b'0'
 }
 
-/// Appending a digit to a number below this bound never overflows a u64.
+/// 2^64 / 10, rounded down. Appending a digit to a decimal number below this bound never overflows a `u64`.
 const ROOM_FOR_A_DIGIT: u64 = 1_844_674_407_370_955_161;
 
-/// `number` with the ASCII digit `digit` appended. `None` exactly if the result is 2^64 or more.
+/// Returns `number` with the decimal digit `digit`, an ASCII byte, appended. If the result would be 2^64 or more,
+/// returns `None` instead.
 fn with_digit(number: u64, digit: u8) -> Option<u64>
     requires { is_ascii_digit digit ≡ true }
     ensures some { IfSome result (λ more. more ≡ number * 10 + (digit - 48)) }
@@ -33,8 +35,8 @@ fn with_digit(number: u64, digit: u8) -> Option<u64>
     }
 }
 
-/// The number that the decimal digits of a text spell; leading zeros are allowed. `None` exactly if the text is empty,
-/// if one of its bytes isn't a digit, or if the number is 2^64 or more.
+/// Reads a text of decimal digits as a number. Leading zeros are allowed. Returns `None` in three cases only: the text
+/// is empty, a byte of the text isn't a digit, or the number is 2^64 or more.
 pub fn read_digits(text: &[u8]) -> Option<u64>
     ensures { result ≡ digits_of 64 text.now }
 {
@@ -51,8 +53,8 @@ pub fn read_digits(text: &[u8]) -> Option<u64>
     Some(number)
 }
 
-/// The number that a text of decimal digits without needless leading zeros spells. `None` for every other text, and if
-/// the number is 2^64 or more.
+/// Reads a text of decimal digits as a number. Returns `None` in four cases only: the text is empty, a byte of the text
+/// isn't a digit, the text begins with `0` and has more than one digit, or the number is 2^64 or more.
 pub fn read_u64(text: &[u8]) -> Option<u64>
     ensures { result ≡ number_of 64 text.now }
 {
@@ -63,7 +65,7 @@ pub fn read_u64(text: &[u8]) -> Option<u64>
     }
 }
 
-/// Appends the number `n` to `to` as decimal text. After `Memory`, `to` is unchanged.
+/// Appends `n` to `to` as decimal text. If memory runs out, `to` is unchanged.
 pub fn write_u64(_alloc: Global, n: u64, to: &mut Octets) -> Result<(), Memory>
     ensures ok { OnOk result (to.new ≡ to.old ++ decimal n) }
     ensures err { OnErr result (to.new ≡ to.old) }
@@ -72,16 +74,18 @@ pub fn write_u64(_alloc: Global, n: u64, to: &mut Octets) -> Result<(), Memory>
     to.extend(digits.format(n).as_bytes())
 }
 
-/// The number of digits in a block: 19, the greatest number of digits for which every number fits in a u64.
+/// The number of digits in a block. `read_wide` reads a long text block by block. Every number of 19 digits fits in a
+/// `u64`, but not every number of 20 digits does.
 const BLOCK_DIGITS: usize = 19;
 
-/// The least number that has more digits than a block: 10 to the power of `BLOCK_DIGITS`.
+/// 10 to the power of `BLOCK_DIGITS`: the least number that has more digits than a block.
 const BLOCK_END: u128 = 10_000_000_000_000_000_000;
 
-/// The most digits that a number below 2^128 can have.
+/// The greatest number of digits that a number below 2^128 can have, without leading zeros.
 const MOST_DIGITS: usize = 39;
 
-/// `number` with the 19 digits of `block` appended. `None` exactly if the result is 2^128 or more.
+/// Returns `number * 10^19 + block`, which is `number` with the 19 digits of `block` appended. If the result would be
+/// 2^128 or more, returns `None` instead.
 fn with_block(number: u128, block: u64) -> Option<u128>
     ensures some { IfSome result (λ more. more ≡ number * 10 ^ 19 + block) }
     ensures small { IfSome result (λ more. more < 2 ^ 128) }
@@ -92,9 +96,9 @@ fn with_block(number: u128, block: u64) -> Option<u128>
         .checked_add(u128::from(block))
 }
 
-/// The number that the decimal digits of a text spell; leading zeros are allowed. `None` exactly if the text is empty,
-/// if one of its bytes isn't a digit, or if the number is 2^128 or more. The digits are read in blocks, because
-/// arithmetic on 128 bits costs many times as much as on 64 bits.
+/// Reads a text of decimal digits as a number. Leading zeros are allowed. Returns `None` in three cases only: the text
+/// is empty, a byte of the text isn't a digit, or the number is 2^128 or more. The function reads the digits in blocks
+/// of at most 19, because arithmetic on 128 bits costs many times as much as arithmetic on 64 bits.
 fn read_wide(text: &[u8]) -> Option<u128>
     ensures { result ≡ digits_of 128 text.now }
 {
@@ -110,8 +114,8 @@ fn read_wide(text: &[u8]) -> Option<u128>
     with_block(number, block)
 }
 
-/// The number that a text of decimal digits without needless leading zeros spells. `None` for every other text, and if
-/// the number is 2^128 or more.
+/// Reads a text of decimal digits as a number. Returns `None` in four cases only: the text is empty, a byte of the text
+/// isn't a digit, the text begins with `0` and has more than one digit, or the number is 2^128 or more.
 pub fn read_u128(text: &[u8]) -> Option<u128>
     ensures { result ≡ number_of 128 text.now }
 {
@@ -125,7 +129,7 @@ pub fn read_u128(text: &[u8]) -> Option<u128>
     }
 }
 
-/// Appends the number `n` to `to` as decimal text. After `Memory`, `to` is unchanged.
+/// Appends `n` to `to` as decimal text. If memory runs out, `to` is unchanged.
 pub fn write_u128(_alloc: Global, n: u128, to: &mut Octets) -> Result<(), Memory>
     ensures ok { OnOk result (to.new ≡ to.old ++ decimal n) }
     ensures err { OnErr result (to.new ≡ to.old) }

@@ -1,9 +1,10 @@
-//! A type for each kind of number. Contracts see the number itself.
+//! A type for each kind of number: sequence numbers, and the numbers of streams, shards, tenures and workers. In
+//! contracts, a value of such a type is the number itself.
 
 use std::marker::Model;
 
-/// The sequence number of a record, a split or a merge. Each stream counts its sequence numbers from 1 (Kinesis API
-/// Reference, SequenceNumber).
+/// The sequence number of a record, a split or a merge. The records, splits and merges of a stream are numbered
+/// together, from 1 on (Kinesis API Reference, SequenceNumber).
 #[derive(Clone, Copy, Debug, PartialEq, Eq, PartialOrd, Ord)]
 pub struct Seq(pub u64);
 
@@ -45,7 +46,9 @@ impl Model for ShardNo {
     ghost inverse = { λ n. record { 0 = n } };
 }
 
-/// The number of a tenure of a lease. Tenures are numbered from 1, in the order in which they began.
+/// The number of a tenure. A tenure is one worker's hold on a lease, from the moment at which the worker takes the
+/// lease until the lease is freed or taken again. The tenures of all leases are numbered together, from 1, in the order
+/// in which they begin.
 #[derive(Clone, Copy, Debug, PartialEq, Eq, PartialOrd, Ord)]
 pub struct TenureNo(pub u64);
 
@@ -59,7 +62,7 @@ impl Model for TenureNo {
     ghost inverse = { λ n. record { 0 = n } };
 }
 
-/// The number of a worker, counted from 1 (Kinesis Client Library, worker identifier).
+/// The number that names a worker (Kinesis Client Library, worker identifier). It is at least 1.
 #[derive(Clone, Copy, Debug, PartialEq, Eq, PartialOrd, Ord)]
 pub struct WorkerNo(pub u32);
 

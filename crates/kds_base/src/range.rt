@@ -7,10 +7,11 @@ use crate::memory::Memory;
 use std::alloc::Global;
 use std::marker::Model;
 
-/// The greatest hash key.
+/// The greatest hash key, 2^128 - 1.
 const LAST_KEY: u128 = u128::MAX;
 
-/// A range of hash keys, both ends included (Kinesis API Reference, HashKeyRange). Contracts see the two ends.
+/// A range of hash keys from `start` to `end`, both included (Kinesis API Reference, HashKeyRange). In contracts, its
+/// value has the same two ends, and `start` is at most `end`.
 #[derive(Clone, Copy, Debug, PartialEq, Eq)]
 pub struct Range {
     pub start: u128,
@@ -31,7 +32,7 @@ impl Model for Range {
 }
 
 impl Range {
-    /// The range from `start` to `end`. `None` exactly if `start > end`.
+    /// Returns the range from `start` to `end`, or `None` if `start > end`.
     pub fn new(start: u128, end: u128) -> Option<Range>
         ensures { SomeIff result (start ≤ end) (record { start = start; end = end }) }
     {
@@ -49,8 +50,9 @@ impl Range {
         self.start <= key && key <= self.end
     }
 
-    /// The two parts of the range: the keys below `at`, and the keys from `at` on. `Some` exactly if
-    /// `start < at <= end` (Kinesis API Reference, SplitShard, NewStartingHashKey).
+    /// Splits the range into two parts: the keys below `at`, and the keys from `at` on. Both parts must be non-empty:
+    /// returns `Some` if `start < at <= end`, and otherwise `None` (Kinesis API Reference, SplitShard,
+    /// NewStartingHashKey).
     pub fn split(&self, at: u128) -> Option<(Range, Range)>
         ensures { result ≡ parts self.now at }
     {
@@ -76,8 +78,8 @@ impl Range {
         self.end < other.start && other.start - self.end == 1
     }
 
-    /// The union of two adjacent ranges. `None` exactly if neither range starts right after the other ends (Kinesis
-    /// API Reference, MergeShards).
+    /// Returns the union of the two ranges if they are adjacent, that is, if one of them starts right after the other
+    /// ends. Otherwise returns `None` (Kinesis API Reference, MergeShards).
     pub fn join(&self, other: &Range) -> Option<Range>
         ensures { result ≡ union self.now other.now }
     {
@@ -96,8 +98,9 @@ impl Range {
         }
     }
 
-    /// The ranges of a new stream of `n` shards. The range with index `i`, counted from 0, starts at
-    /// `i * floor(2^128 / n)`, and the last range ends at the greatest key.
+    /// Returns the ranges of hash keys for the `n` shards of a new stream. The range with index `i`, counted from 0,
+    /// starts at `i * floor(2^128 / n)`. The last range ends at the greatest key, and each other range ends right
+    /// before the next one starts.
     pub fn uniform(alloc: Global, n: u32) -> Result<Items<Range>, Memory>
         requires { 1 ≤ n }
         ensures { IfOk result (λ ranges. ranges ≡ uniform n) }
@@ -112,17 +115,18 @@ impl Range {
     }
 }
 
-/// The start of the range with index `i` among `n` uniform ranges.
+/// Returns the first key of the range with index `i`, counted from 0, among `n` uniform ranges.
 fn uniform_start(i: u32, n: u32) -> u128
     requires { i < n }
     ensures { result ≡ i * (2 ^ 128 / n) }
 {
     let (i, n) = (u128::from(i), u128::from(n));
-    // The quotient is one less than the width of a range, `2^128 / n`, because 2^128 doesn't fit in a u128.
+    // The width of a range is `2^128 / n`, rounded down. Since 2^128 doesn't fit in a u128, the quotient below is one
+    // less than this width. The final `+ i` makes up for this difference.
     i * ((u128::MAX - (n - 1)) / n) + i
 }
 
-/// The end of the range with index `i` among `n` uniform ranges.
+/// Returns the last key of the range with index `i`, counted from 0, among `n` uniform ranges.
 fn uniform_end(i: u32, n: u32) -> u128
     requires { i < n }
     ensures { result ≡ (if i + 1 == n then last_key else (i + 1) * (2 ^ 128 / n) - 1) }

@@ -1,4 +1,5 @@
-//! Copies of commands and turns. The copies share the bytes of names, keys and payloads.
+//! Copies of commands and turns. A turn is a command with its sender and its time. A copy can share the bytes of names,
+//! keys and payloads with the original.
 ghost use Rattle.std.specs.Prelude.{◌≡◌, true, false, IfOk};
 ghost use Rattle.kds_defs.specs.Kinds.{is_change, is_counted, is_query, is_service};
 
@@ -7,7 +8,7 @@ use kds_base::{Items, Memory, Name};
 use std::alloc::Global;
 
 impl NewItem {
-    /// An equal copy of the item.
+    /// Returns a copy of the item.
     pub fn copy(&self, alloc: Global) -> Result<NewItem, Memory>
         ensures { IfOk result (λ i. i ≡ self.now) }
     {
@@ -21,7 +22,7 @@ impl NewItem {
     }
 }
 
-/// Equal copies of the items, in the same order.
+/// Returns copies of the items, in the same order.
 fn copy_items(alloc: Global, items: &[NewItem]) -> Result<Items<NewItem>, Memory>
     ensures { IfOk result (λ c. c ≡ items.now) }
 {
@@ -33,7 +34,7 @@ fn copy_items(alloc: Global, items: &[NewItem]) -> Result<Items<NewItem>, Memory
     Ok(copies)
 }
 
-/// An equal copy of the name, or `None` if `name` is `None`.
+/// Returns a copy of the name, or `None` if `name` is `None`.
 fn copy_name(alloc: Global, name: &Option<Name>) -> Result<Option<Name>, Memory>
     ensures { IfOk result (λ c. c ≡ name.now) }
 {
@@ -46,7 +47,7 @@ fn copy_name(alloc: Global, name: &Option<Name>) -> Result<Option<Name>, Memory>
     }
 }
 
-/// An equal copy of a command that changes streams, shards or records.
+/// Returns a copy of `what`, a command that changes streams, shards or records.
 fn copy_change(alloc: Global, what: &Command) -> Result<Command, Memory>
     requires { is_change what.now ≡ true }
     ensures { IfOk result (λ c. c ≡ what.now) }
@@ -92,7 +93,7 @@ fn copy_change(alloc: Global, what: &Command) -> Result<Command, Memory>
     }
 }
 
-/// An equal copy of a command that reads streams, shards or records.
+/// Returns a copy of `what`, a command that reads streams, shards or records.
 fn copy_query(alloc: Global, what: &Command) -> Result<Command, Memory>
     requires { is_query what.now ≡ true }
     ensures { IfOk result (λ c. c ≡ what.now) }
@@ -130,7 +131,7 @@ fn copy_query(alloc: Global, what: &Command) -> Result<Command, Memory>
     }
 }
 
-/// An equal copy of a command for the lease table. It allocates no memory.
+/// Returns a copy of `what`, a command for the lease table. No memory is allocated.
 fn copy_lease(what: &Command) -> Command
     requires { is_service what.now ≡ false }
     ensures { result ≡ what.now }
@@ -163,7 +164,8 @@ fn copy_lease(what: &Command) -> Command
     }
 }
 
-/// An equal copy of a command that names a tenure, and a counter or a position. It allocates no memory.
+/// Returns a copy of `what`, a command that names a tenure (a worker's hold on a lease) together with a counter or a
+/// position: Renew, Free, Read or Mark. No memory is allocated.
 fn copy_counted(what: &Command) -> Command
     requires { is_counted what.now ≡ true }
     ensures { result ≡ what.now }
@@ -206,7 +208,7 @@ fn copy_counted(what: &Command) -> Command
 }
 
 impl Command {
-    /// An equal copy of the command.
+    /// Returns a copy of the command.
     pub fn copy(&self, alloc: Global) -> Result<Command, Memory>
         ensures { IfOk result (λ c. c ≡ self.now) }
     {
@@ -221,7 +223,7 @@ impl Command {
 }
 
 impl Turn {
-    /// An equal copy of the turn.
+    /// Returns a copy of the turn.
     pub fn copy(&self, alloc: Global) -> Result<Turn, Memory>
         ensures { IfOk result (λ t. t ≡ self.now) }
     {

@@ -1,4 +1,4 @@
-//! Laws that hold for every answer. Each law is the contract of a function without parameters.
+//! Laws on the answers to commands. A law is a theorem, stated as the contract of a function without parameters.
 ghost use Rattle.std.specs.Prelude.{◌≡◌, Bool, List, true, false};
 ghost use Rattle.kds_defs.specs.declared.command.Turn.{Turn};
 ghost use Rattle.kds_defs.specs.declared.reply.Refusal.{Refusal};
@@ -18,8 +18,10 @@ pub fn lease_answers()
     ensures { (h : List Turn) (turn : Turn) → is_service turn.what ≡ false → is_lease_answer (answer h turn) ≡ true }
 {}
 
-/// If the test of a refusal holds, the result is this refusal; otherwise the rest of the definition decides. For an
-/// accepted command no refusal's test holds, and the command has exactly one list of journal lines.
+/// States how a chain of conditions decides on a command. Each link of the chain has the form `refuse r if b else d`.
+/// If the condition `b` holds, the link refuses the command with `r`. Otherwise the rest of the chain, `d`, decides. If
+/// the link accepts the command, `b` is false, and `d` accepts the command too, with the same lines of the journal (the
+/// event log) and the same reply. If two acceptances are equal, their lists of lines are equal.
 pub fn refusal_chain()
     ensures refused { (r : Refusal) (b : Bool) (d : Decision) → b ≡ true → (refuse r if b else d) ≡ Refused r }
     ensures passed { (r : Refusal) (b : Bool) (d : Decision) → b ≡ false → (refuse r if b else d) ≡ d }

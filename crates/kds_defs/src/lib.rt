@@ -1,5 +1,6 @@
-//! The commands, replies, refusals and journal entries of the machine, the definitions that contracts cite (in
-//! `specs/`), and the contract of a machine.
+//! The commands, replies and refusals of the machine, the entries of its journal (event log), and the contract of a
+//! machine. The machine is the deterministic state machine that answers all commands. The definitions that contracts
+//! cite are in `specs/`.
 #![tactic(auto)]
 
 pub mod command;

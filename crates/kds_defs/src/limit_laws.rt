@@ -1,5 +1,7 @@
-//! The limits of the service, in numbers. Each law is the contract of a function without parameters. The definitions
-//! name each limit by a constant of the code, so a changed constant contradicts a law here.
+//! Laws that state the values of the limits. A law is a theorem, stated as the contract of a function without
+//! parameters. The definitions in `specs/` refer to each limit by the name of its constant in the code, so these
+//! definitions don't show a limit's value. The laws state the values, so a changed constant contradicts a law in this
+//! file.
 ghost use Rattle.std.specs.Prelude.{◌≡◌};
 ghost use Rattle.kds_defs.specs.declared.limits.TheConstants.{LIVE_STREAMS, OPEN_SHARDS, LEAST_SHARDS, MOST_SHARDS, KEY_CHARACTERS, RECORD_BYTES, MANY_ITEMS, MANY_BYTES};
 ghost use Rattle.kds_defs.specs.declared.limits.TheConstants.{TOKEN_LIFE, FIRST_HOURS, LEAST_HOURS, MOST_HOURS, HOUR, BATCH_BYTES, MOST, PENDING_READS};
@@ -7,7 +9,8 @@ ghost use Rattle.kds_defs.specs.declared.limits.TheConstants.{SECOND, SECOND_REC
 ghost use Rattle.kds_defs.specs.declared.limits.TheConstants.{RECORDS_LIMIT, SHARDS_LIMIT, DESCRIBED_LIMIT, NAMES_LIMIT, MOST_SECONDS};
 ghost use Rattle.kds_defs.specs.declared.limits.TheConstants.{API_ACTOR, MOST_ACTOR, OPERATION_BYTES, LINE_BYTES, INPUT_BYTES};
 
-/// The limits on streams, shards and records (Kinesis API Reference, the operations; Service quotas).
+/// States the limits on streams, shards, records, batches, tokens and retention (Kinesis API Reference, the operations;
+/// Service quotas).
 pub fn service_limits()
     ensures streams { LIVE_STREAMS ≡ 64 }
     ensures open_shards { OPEN_SHARDS ≡ 500 }
@@ -26,16 +29,16 @@ pub fn service_limits()
     ensures most { MOST ≡ 10000 }
 {}
 
-/// How much a shard accepts within a second if its limits are enforced (Kinesis Data Streams Developer Guide, Quotas
-/// and Limits).
+/// States how many records and bytes a shard accepts within a second if the limits on its throughput are enforced
+/// (Kinesis Data Streams Developer Guide, Quotas and Limits).
 pub fn rate_limits()
     ensures second { SECOND ≡ 1000 }
     ensures records { SECOND_RECORDS ≡ 1000 }
     ensures bytes { SECOND_BYTES ≡ 1048576 }
 {}
 
-/// The default values of absent members of a request, and the greatest moment that a request may name (Kinesis API
-/// Reference, the operations).
+/// States how many items a request without a limit gets at most, and the greatest time, in seconds, that a request may
+/// name (Kinesis API Reference, the operations).
 pub fn request_limits()
     ensures records { RECORDS_LIMIT ≡ 10000 }
     ensures shards { SHARDS_LIMIT ≡ 1000 }
@@ -44,12 +47,15 @@ pub fn request_limits()
     ensures seconds { MOST_SECONDS ≡ 4611686018427387 }
 {}
 
-/// The limit on a tenure: at most eight reads may wait for their delivery.
+/// States that a tenure (one worker's hold on a lease) may have at most eight undelivered reads. A read counts as
+/// delivered once the command Give has reported that the read's batch was processed.
 pub fn lease_limits()
     ensures { PENDING_READS ≡ 8 }
 {}
 
-/// The limits on schedules.
+/// States the limits on schedules, which are recorded workloads: the greatest actor number, and the greatest lengths of
+/// an operation's name, of a line and of the whole input. It also states the actor number of the requests to the stream
+/// service.
 pub fn schedule_limits()
     ensures api { API_ACTOR ≡ 0 }
     ensures actors { MOST_ACTOR ≡ 999 }

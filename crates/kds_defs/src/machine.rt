@@ -1,4 +1,5 @@
-//! The contract of a machine.
+//! The contract of a machine: a deterministic state machine that answers turns. A turn is a command with its sender and
+//! its time.
 ghost use Rattle.std.specs.Prelude.{◌≡◌, List, ◌∷◌, true, false, IfOk, IsOk, OnErr};
 ghost use Rattle.kds_defs.specs.declared.command.Turn.{Turn};
 ghost use Rattle.kds_defs.specs.Histories.{answer};
@@ -13,34 +14,34 @@ use kds_base::Memory;
 /// The answer to a turn: a reply or a refusal.
 pub type Answer = Result<Reply, Refusal>;
 
-/// Drops an answer that isn't needed any more. A function that drops its answer through this call has a shorter
-/// proof.
+/// Drops an answer that isn't needed any more. A function that drops an answer by this call has a shorter proof.
 pub fn let_go(_answer: Answer) {}
 
 /// A machine that answers turns, one after another.
 pub trait Machine {
-    /// The machine stands for this history, the newest turn first: it has answered these turns and no others.
+    /// Whether the machine represents ("stands for") a history, which is a list of turns with the newest first. The
+    /// machine does so if it has answered exactly these turns.
     ghost stands_for: { Self → List Turn → Type 0 };
 
-    /// Applies one turn as a whole. The error `Memory` means that memory ran out.
+    /// Applies `turn` atomically, and returns its answer. The error `Memory` means that memory ran out.
     fn apply(&mut self, turn: Turn) -> Result<Answer, Memory>
         requires { IsLawful turn }
 
-        // If the machine stands for a history, it answers as the definitions do after this history, and then stands
-        // for the history with the new turn added.
+        // If the machine represented a history before the call, the answer is the one that the definition `answer`
+        // gives for the turn after this history. The machine then represents the history with the turn added.
         ensures answered { (h : List Turn) → stands_for self.old h → IfOk result (λ a. (a ≡ answer h turn) × stands_for self.new (turn ∷ h)) }
 
-        // After `Memory` the machine stands for the same history as before.
+        // If memory runs out, the machine represents the same history as before.
         ensures kept { (h : List Turn) → stands_for self.old h → OnErr result (stands_for self.new h) }
 
-        // Every answer to a command for the stream service is one of the service's replies or refusals, whatever the
-        // history.
+        // Whatever the history, a command for the stream service gets one of the service's replies or refusals.
         ensures own { is_service turn.what ≡ true → IfOk result (λ a. is_service_answer a ≡ true) }
 
-        // Every answer to a command for the lease table is one of the lease table's replies or refusals, whatever the
-        // history.
+        // Whatever the history, a command for the lease table gets one of the lease table's replies or refusals.
         ensures leased { is_service turn.what ≡ false → IfOk result (λ a. is_lease_answer a ≡ true) }
 
-        // A command that only changes an existing row or tenure allocates no memory, so it never returns `Memory`.
+        // The commands Renew, Free, OpenShard, Give, Mark and CutLease never return `Memory`. They allocate no memory,
+        // because they only change or remove an existing row of the lease table, or an existing tenure (a worker's hold
+        // on a row).
         ensures sure { NeedsNoMemory turn.what → IsOk result };
 }

@@ -6,8 +6,8 @@ ghost use Rattle.kds_defs.specs.Records.{place_after};
 use crate::reply::Stored;
 use kds_base::Seq;
 
-/// The position after `batch`, which was read at `position`: the number of the last record plus one, or `position` if
-/// the batch is empty.
+/// Returns the position after `batch`, which was read at `position`. This is the sequence number of the last record
+/// plus one, or `position` if the batch is empty. Each sequence number must be below the greatest `u64`.
 pub fn place_after(position: u64, batch: &[Stored]) -> u64
     requires { AllByRecursion (λ r. r.seq < 2 ^ 64 - 1) batch.now }
     ensures { result ≡ place_after position (map (λ r. r.seq) batch.now) }
@@ -21,8 +21,9 @@ pub fn place_after(position: u64, batch: &[Stored]) -> u64
     }
 }
 
-/// The position after a batch that was read at `position`: the last of its sequence numbers plus one, or `position` if
-/// there are no numbers.
+/// Returns the position after a batch that was read at `position` and whose records have the sequence numbers
+/// `numbers`. This is the last number plus one, or `position` if `numbers` is empty. Each number must be below the
+/// greatest `u64`.
 pub fn place_after_numbers(position: u64, numbers: &[Seq]) -> u64
     requires { AllByRecursion (λ n. n < 2 ^ 64 - 1) numbers.now }
     ensures { result ≡ place_after position numbers.now }

@@ -1,4 +1,7 @@
-//! The machine's replies and refusals.
+//! The machine's replies and refusals. A tenure is one worker's hold on a row of the lease table, until the row is
+//! freed or taken again. A read of a tenure counts as delivered once the command Give has reported that the read's
+//! batch was processed. A shard is listed until it has been closed for the retention period. After that, the shard is
+//! expired.
 use crate::command::Origin;
 use crate::entry::Entry;
 use kds_base::{
@@ -19,11 +22,11 @@ pub struct Place {
 pub enum Outcome {
     /// The record was stored at this place.
     Stored(Place),
-    /// The record was throttled: it exceeds what this shard still accepts within the second.
+    /// The record was throttled: it exceeds what this shard still accepts within the current second.
     Throttled(ShardNo),
 }
 
-/// A record as read from a shard (Kinesis API Reference, Record).
+/// A record as it is read from a shard (Kinesis API Reference, Record).
 #[derive(Drop)]
 pub struct Stored {
     pub seq: Seq,
@@ -32,7 +35,8 @@ pub struct Stored {
     pub payload: Octets,
 }
 
-/// A shard iterator: the position in a shard from which records are read, and when it was issued.
+/// A shard iterator: a shard, the position in it at which reading continues, and the time at which the iterator was
+/// issued.
 #[derive(Clone, Copy, Debug, PartialEq, Eq)]
 pub struct Iter {
     pub stream: StreamNo,
@@ -41,7 +45,8 @@ pub struct Iter {
     pub issued: Moment,
 }
 
-/// A listing token: the shard after which the listing continues, and when the token was issued.
+/// The token of a ListShards listing: the stream, the shard after which the listing continues, and the time at which
+/// the token was issued.
 #[derive(Clone, Copy, Debug, PartialEq, Eq)]
 pub struct Page {
     pub stream: StreamNo,
@@ -49,7 +54,8 @@ pub struct Page {
     pub issued: Moment,
 }
 
-/// A shard as replies show it (Kinesis API Reference, Shard). Contracts see the fields.
+/// A shard as it appears in replies (Kinesis API Reference, Shard). In contracts, a shard is represented by a value
+/// with the same fields.
 #[derive(Clone, Copy, Debug, PartialEq, Eq)]
 pub struct Shard {
     pub no: ShardNo,
@@ -72,20 +78,23 @@ impl Model for Shard {
     ghost inverse = { λ x. record { no = x.no; range = x.range; parent = x.parent; adjacent = x.adjacent; start = x.start; end = x.end } };
 }
 
-/// A row of the lease table (Kinesis Client Library, lease). Contracts see the fields.
+/// A row of the lease table (Kinesis Client Library, lease). In contracts, a row is represented by a value with the
+/// same fields.
 #[derive(Clone, Copy, Debug, PartialEq, Eq)]
 pub struct Row {
     pub key: ShardRef,
     /// The worker that owns the row, if any.
     pub owner: Option<WorkerNo>,
-    /// How many times the row was taken, renewed, freed or marked, in total.
+    /// How many times, in total, the row was taken, renewed or freed, or its checkpoint was set.
     pub counter: u64,
     pub checkpoint: Checkpoint,
     /// How many times the row was taken from another owner since its checkpoint was last set.
     pub switches: u64,
-    /// The tenure that holds the row, or 0 if the row is free.
+    /// The number of the tenure that holds the row, or 0 if the row is free. A tenure is one worker's hold on a row.
     pub tenure: TenureNo,
-    /// Where the shard's records begin: its starting sequence number, or the position given by the row's origin.
+    /// The sequence number at which reading of the shard begins. If the row's origin is the trim horizon, this is the
+    /// shard's starting sequence number. Otherwise the origin is LATEST or a moment, and this is the position that the
+    /// origin meant when the row was made.
     pub floor: Seq,
     pub parent: Option<ShardNo>,
     pub adjacent: Option<ShardNo>,
@@ -135,7 +144,7 @@ pub struct About {
 pub enum Reply {
     /// The command was carried out; the reply has no body.
     Done,
-    /// ListStreams: the names, and whether more names follow.
+    /// ListStreams: the stream names, and whether more names follow.
     Streams {
         names: Items<Name>,
         more: bool,
@@ -155,8 +164,8 @@ pub enum Reply {
     Put(Place),
     /// PutRecords: the result for each record, in order.
     PutMany(Items<Outcome>),
-    /// UpdateShardCount: the number of open shards before the scaling, the wanted number, and the merges and splits in
-    /// order.
+    /// UpdateShardCount: the stream's name, the number of open shards before the scaling, the wanted number of open
+    /// shards, and the journal's entries for the merges and splits, in order.
     Scaled {
         name: Name,
         before: u32,
@@ -165,8 +174,8 @@ pub enum Reply {
     },
     /// GetShardIterator: the new iterator.
     Iterator(Iter),
-    /// GetRecords: the records, the next iterator, the reader's lag in milliseconds (MillisBehindLatest), and at the
-    /// end of a closed shard its children.
+    /// GetRecords: the records, the next iterator, and the reader's lag in milliseconds (MillisBehindLatest). If the
+    /// read reached the end of a closed shard, the next iterator is `None`, and `children` contains the child shards.
     Records {
         batch: Items<Stored>,
         next: Option<Iter>,
@@ -183,9 +192,10 @@ pub enum Reply {
         shards: Items<ShardRef>,
         rows: Items<Row>,
     },
-    /// MakeLease: where reading of the shard begins.
+    /// MakeLease: the origin at which reading of the shard begins.
     Leased(Origin),
-    /// Take: the new tenure, the row's new counter, and the checkpoint at which the tenure's reading begins.
+    /// Take: the number of the new tenure, the row's new counter, and the checkpoint at which the tenure's reading
+    /// begins.
     Taken {
         tenure: TenureNo,
         counter: u64,
@@ -193,13 +203,14 @@ pub enum Reply {
     },
     /// Renew, Free, Mark: the row's new counter.
     Counter(u64),
-    /// Read: the records, the tenure's reach (the position after them), and whether the shard ends there.
+    /// Read: the records, the tenure's reach (the position after these records), and whether the shard ends there.
     Read {
         batch: Items<Stored>,
         reach: u64,
         end: bool,
     },
-    /// Give: the greatest sequence number that was delivered plus one, if any record was delivered.
+    /// Give: the position after the last record that was delivered in the tenure (the record's sequence number plus
+    /// one). If no record was delivered, it is the position at which the tenure began.
     Given {
         delivered: u64,
     },
@@ -208,43 +219,43 @@ pub enum Reply {
 /// Why a command is refused.
 #[derive(Clone, Copy, Debug, PartialEq, Eq)]
 pub enum Refusal {
-    /// No live stream has this name or number.
+    /// No stream with this name or number exists.
     NoStream,
-    /// A live stream already has this name.
+    /// A stream with this name already exists.
     StreamThere,
-    /// The shard isn't listed: it was never made, or it has expired.
+    /// The shard isn't listed: it was never made, or it expired once it had been closed for the retention period.
     NoShard,
     /// The shard is closed.
     ShardClosed,
-    /// The two shards aren't adjacent: neither shard's range starts right after the other's ends.
+    /// The two shards aren't adjacent: neither shard's range starts right after the end of the other shard's range.
     NotAdjacent,
     /// The split key would leave one part of the range empty.
     BadSplit,
-    /// The sequence number doesn't belong to the shard.
+    /// The sequence number is outside the range of the shard's sequence numbers.
     BadNumber,
     /// An increase asks for fewer hours than the present retention, or a decrease asks for more.
     BadRetention,
-    /// The iterator is too old.
+    /// The shard iterator was issued more than `TOKEN_LIFE` milliseconds ago.
     Expired,
-    /// The listing's token is too old.
+    /// The token of the listing was issued more than `TOKEN_LIFE` milliseconds ago.
     PageExpired,
-    /// The limit on streams or the limit on shards is reached.
+    /// The command would exceed the limit on streams or the limit on open shards.
     Full,
-    /// No number is left: no sequence or shard number of the stream, no number for a stream or a tenure, or no value
-    /// for the counter of a row.
+    /// The command needs a number of a kind of which none is left: a sequence number or a shard number of the stream, a
+    /// stream number, a tenure number, or a value of the row's counter.
     Spent,
-    /// The record exceeds what this shard still accepts within the second.
+    /// The record exceeds what this shard still accepts within the current second.
     Throttled(ShardNo),
     /// The lease table has no row with this key.
     NoLease,
     /// No tenure has this number.
     NoTenure,
-    /// The tenure was begun by another actor.
+    /// Another actor began the tenure.
     NotYours,
-    /// The tenure no longer holds its row. The given number is that of the tenure that holds the row now, or 0 if the
-    /// row is free.
+    /// The tenure doesn't hold its row any more. The tenure with this number holds the row now. If the number is 0, no
+    /// tenure holds the row.
     Lost(TenureNo),
-    /// The row's counter isn't the expected one, but this number.
+    /// The row's counter is this number, and not the one that the command names.
     Moved(u64),
     /// The row's checkpoint is already the shard's end.
     Ended,
@@ -254,7 +265,8 @@ pub enum Refusal {
     Below(Seq),
     /// The checkpoint can't be set to the shard's end: the last delivered read didn't reach that end.
     NotAtEnd,
-    /// This parent of the shard is listed, and it has no row whose checkpoint is the parent's end.
+    /// This parent of the shard is listed and hasn't been processed to its end: the lease table has no row of the
+    /// parent whose checkpoint is the parent's end.
     ParentsOpen(ShardRef),
     /// The tenure hasn't been opened.
     NotOpened,
@@ -262,9 +274,10 @@ pub enum Refusal {
     OpenedBefore,
     /// The tenure has no undelivered read.
     NothingPending,
-    /// Too many reads of the tenure wait for their delivery.
+    /// The tenure already has `PENDING_READS` undelivered reads, the most that it may have.
     TooManyPending,
-    /// The wanted position isn't the tenure's reach, which is this number.
+    /// The position in the command isn't the tenure's reach, which is the position after its last read. The reach is
+    /// this number.
     OutOfPlace(u64),
     /// The shard isn't listed.
     ShardGone,

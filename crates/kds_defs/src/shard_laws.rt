@@ -1,4 +1,4 @@
-//! Laws that hold for every list of shards. Each law is the contract of a function without parameters.
+//! Laws on lists of shards. A law is a theorem, stated as the contract of a function without parameters.
 ghost use Rattle.std.specs.Prelude.{◌≡◌, ◌≢◌, ◌≤◌, ◌+◌, ◌++◌, ℕ, List, length, map, slice_get};
 ghost use Rattle.std.specs.List.{filter};
 ghost use Rattle.kds_base.specs.Span.{Span, uniform};
@@ -6,8 +6,9 @@ ghost use Rattle.kds_defs.specs.Safe.{times_covered};
 ghost use Rattle.kds_defs.specs.Shards.{Closing, ShardState, first_shards, is_open, merged_shards, split_shards, with_closed};
 ghost use Rattle.kds_defs.specs.Tiled.{AreMergeable, AreNumbered, IsSplittable, IsTiled, open_times};
 
-/// Shards are numbered in the order of the list. This holds for the first shards of a stream, and it still holds if a
-/// shard is closed or shards are added.
+/// States which lists of shards have consecutive numbers, in the order of the list. The list of a stream's first shards
+/// has them. The numbers stay consecutive if a shard is closed, or if shards with the next numbers are added at the
+/// end. Closing a shard changes neither the length of the list nor any other shard.
 pub fn numbered_shards()
     ensures first { (n start : ℕ) (ranges : List Span) → AreNumbered n (first_shards n start ranges) }
     ensures closed { (n shard : ℕ) (closing : Closing) (xs : List ShardState) → AreNumbered n xs → AreNumbered n (with_closed shard closing xs) }
@@ -17,8 +18,10 @@ pub fn numbered_shards()
         → slice_get (with_closed shard closing xs) other ≡ slice_get xs other }
 {}
 
-/// The ranges of the open shards partition the hash keys. This holds for the first shards of a stream, and it still
-/// holds if one shard is split, or if two shards with adjacent ranges are merged.
+/// States when the ranges of the open shards partition the hash keys, so that each key lies in exactly one range. The
+/// first shards of a stream do so. The open shards continue to do so if an open shard is split, or if two open shards
+/// with adjacent ranges are merged. The definitions `times_covered` and `open_times` agree: for each key, both give the
+/// number of open shards whose ranges contain the key.
 pub fn tiled_shards()
     ensures first { (count start : ℕ) → 1 ≤ count → count ≤ 500 → IsTiled (first_shards 0 start (uniform count)) }
     ensures split { (xs : List ShardState) (shard at start : ℕ) (closing : Closing) → IsSplittable xs shard at → IsTiled xs

@@ -1,4 +1,4 @@
-//! The throughput of one shard within a second.
+//! Counts the records and bytes that one shard accepts within a second.
 ghost use Rattle.std.specs.Prelude.{◌≡◌, ◌≤◌, ◌∷◌, [], not, List, length};
 ghost use Rattle.kds_defs.specs.Rates.{SizedPut, bytes_of, is_same_second, is_throttled, is_too_much, window};
 ghost use Rattle.kds_rate.specs.Windows.{StandsFor, stopped};
@@ -7,8 +7,9 @@ use kds_base::Moment;
 use kds_defs::limits::{SECOND, SECOND_BYTES, SECOND_RECORDS};
 use std::marker::Model;
 
-/// The records and bytes that a shard accepted within the second of its latest put. Contracts see the two sums, which
-/// saturate at `u64::MAX`, and relate a window to the lists of puts that lead to it.
+/// How many records and bytes a shard accepted in the same second (of time) as its latest put. Both numbers saturate at
+/// `u64::MAX`. In contracts, the value of a window has the same fields, and `StandsFor` says which lists of puts it
+/// represents.
 #[derive(Clone, Copy)]
 pub struct Window {
     latest: Moment,
@@ -27,7 +28,7 @@ impl Model for Window {
 }
 
 impl Window {
-    /// A window without puts.
+    /// Returns the window of a shard without puts.
     pub fn new() -> Window
         ensures puts { StandsFor result [] }
         ensures latest { result.latest ≡ 0 }
@@ -39,8 +40,9 @@ impl Window {
         }
     }
 
-    /// Whether the shard accepts at `clock` a record whose payload and key together have `bytes` bytes (Kinesis API
-    /// Reference, ProvisionedThroughputExceededException). The first record of a second is always accepted.
+    /// Whether, at the time `clock`, the shard accepts a record whose payload and partition key together have `bytes`
+    /// bytes (Kinesis API Reference, ProvisionedThroughputExceededException). The first record in each second is always
+    /// accepted. `clock` must not be before the latest put.
     pub fn admits(&self, clock: Moment, bytes: u64) -> bool
         requires { self.now.latest ≤ clock }
         ensures { (puts : List SizedPut) → StandsFor self.now puts → result ≡ not (is_throttled puts clock bytes) }
@@ -49,7 +51,8 @@ impl Window {
         !is_too_much(&taken, bytes)
     }
 
-    /// Counts a put whose payload and key together have `bytes` bytes.
+    /// Counts the put of a record at the time `clock`. The record's payload and partition key together have `bytes`
+    /// bytes. `clock` must not be before the latest put.
     pub fn count(&mut self, clock: Moment, bytes: u64)
         requires { self.old.latest ≤ clock }
         ensures puts { (puts : List SizedPut) → StandsFor self.old puts → StandsFor self.new (record { clock = clock; bytes = bytes } ∷ puts) }
@@ -61,7 +64,8 @@ impl Window {
         self.bytes = taken.bytes.saturating_add(bytes);
     }
 
-    /// The number of records and bytes that the shard accepted within the second that contains `clock`.
+    /// Returns how many records and bytes the shard accepted in the same second (of time) as `clock`. `clock` must not
+    /// be before the latest put.
     fn taken(&self, clock: Moment) -> Taken
         requires { self.now.latest ≤ clock }
         ensures records { (puts : List SizedPut) → StandsFor self.now puts → result.records ≡ stopped (length (window clock puts)) }
@@ -81,21 +85,22 @@ impl Window {
     }
 }
 
-/// A number of records, and the bytes that they have together.
+/// A number of records, and the number of bytes that their payloads and partition keys have together.
 #[derive(Clone, Copy)]
 struct Taken {
     records: u64,
     bytes: u64,
 }
 
-/// Whether both moments lie in the same second.
+/// Whether both moments lie in the same second of the clock.
 fn is_same_second(one: Moment, other: Moment) -> bool
     ensures { result ≡ is_same_second one other }
 {
     one.ms() / SECOND == other.ms() / SECOND
 }
 
-/// Whether a record of `bytes` bytes exceeds the limits of a second in which the shard already accepted `taken`.
+/// Whether a record of `bytes` bytes exceeds what a shard accepts in the present second. `taken` is what the shard has
+/// already accepted within this second.
 fn is_too_much(taken: &Taken, bytes: u64) -> bool
     ensures { result ≡ is_too_much taken.now.records taken.now.bytes bytes }
 {
