@@ -1,4 +1,5 @@
-//! Binary searches in the records of a log, which are in the order of their numbers and arrivals.
+//! Binary searches in the records of a log. The records are in order: from record to record the sequence number rises,
+//! and the arrival time doesn't fall.
 ghost use Rattle.std.specs.Prelude.{◌≡◌, ◌≤◌, drop, length, map, []};
 ghost use Rattle.std.specs.VecDeque.{deque_capacity};
 ghost use Rattle.kds_defs.specs.Records.{left_among, logged};
@@ -9,9 +10,10 @@ use kds_base::Seq;
 use kds_defs::Stored;
 use std::collections::VecDeque;
 
-/// The index of the first record that arrived at or after `floor` and whose number is at least `position`, or the
-/// number of records if there is no such record. The records are in order, so every later record meets both conditions
-/// too.
+/// Returns the index of the first record that arrived at or after `floor` (in milliseconds) and has a sequence number
+/// of at least `position`. If there is no such record, returns the number of records. Precondition: the records are in
+/// the order of their sequence numbers and of their arrival times. Therefore all records after the found record meet
+/// both conditions too.
 pub fn first_index(records: &VecDeque<Stored>, floor: u64, position: u64) -> usize
     requires { AreInOrder (map logged records.now.items) }
     ensures left { left_among floor position (map logged records.now.items) ≡ map logged (drop result records.now.items) }
@@ -25,7 +27,9 @@ pub fn first_index(records: &VecDeque<Stored>, floor: u64, position: u64) -> usi
     }
 }
 
-/// The number of the first record that arrived at or after `floor`. Precondition: the records are in order.
+/// Returns the sequence number of the first record that arrived at or after `floor` (in milliseconds), or `None` if
+/// there is no such record. Precondition: the records are in the order of their sequence numbers and of their arrival
+/// times.
 pub fn first_since(records: &VecDeque<Stored>, floor: u64) -> Option<Seq>
     requires { AreInOrder (map logged records.now.items) }
     ensures { result ≡ first_number (left_among floor 0 (map logged records.now.items)) }
@@ -37,8 +41,8 @@ pub fn first_since(records: &VecDeque<Stored>, floor: u64) -> Option<Seq>
     }
 }
 
-/// Frees unneeded memory. An empty list keeps no memory. Other lists keep at most four times the memory that they use;
-/// no clause of the contract states this.
+/// Frees memory that the records don't need. An empty queue keeps no memory. Any other queue keeps at most four times
+/// the memory that its records use; the contract doesn't state this bound.
 fn shrink(records: &mut VecDeque<Stored>)
     ensures same { records.new.items ≡ records.old.items }
     ensures freed { records.old.items ≡ [] → deque_capacity records.new ≡ 0 }
@@ -49,8 +53,8 @@ fn shrink(records: &mut VecDeque<Stored>)
     }
 }
 
-/// Removes exactly the records that arrived before `floor`. Precondition: the records are in order. An empty list
-/// keeps no memory afterwards.
+/// Removes exactly the records that arrived before `floor` (in milliseconds). Precondition: the records are in the
+/// order of their sequence numbers and of their arrival times. If no record is left, the queue keeps no memory.
 pub fn drop_below(records: &mut VecDeque<Stored>, floor: u64)
     requires { AreInOrder (map logged records.old.items) }
     ensures left { map logged records.new.items ≡ left_among floor 0 (map logged records.old.items) }

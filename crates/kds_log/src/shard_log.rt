@@ -15,9 +15,10 @@ use std::alloc::Global;
 use std::collections::VecDeque;
 use std::marker::Model;
 
-/// The kept records of a shard, in the order of their numbers. A record that arrived at or before the cut counts as
-/// trimmed, even while the log still keeps it. Contracts see the kept records, the greatest number ever appended, and
-/// the number of further records for which memory is reserved.
+/// The log of a shard: the records that are still kept, in the order of their sequence numbers. A record that arrived
+/// at or before the trim horizon counts as trimmed, even while the log still keeps it. Contracts see three values: the
+/// kept records, the greatest sequence number ever appended, and the number of further records for which memory is
+/// reserved.
 #[derive(Drop)]
 pub struct ShardLog {
     records: VecDeque<Stored>,
@@ -41,8 +42,8 @@ impl Model for ShardLog {
 }
 
 impl ShardLog {
-    /// The empty log of a shard. It doesn't depend on the shard's starting number, which is at most the number of each
-    /// record to come.
+    /// Returns the empty log of a new shard. `_start` is the shard's starting sequence number, which is at most the
+    /// sequence number of each future record. The empty log doesn't depend on `_start`.
     pub fn new(alloc: Global, _start: Seq) -> ShardLog
         ensures { log_of result ≡ record { kept = []; last = None } }
     {
@@ -53,9 +54,9 @@ impl ShardLog {
         }
     }
 
-    /// Appends a record. Precondition: the record's number is greater than every number appended before, and the
-    /// record arrived no earlier than any kept record. After `Memory` the log is as before. The reservation of memory
-    /// is given up in any case.
+    /// Appends a record. Precondition: the sequence number of the record is greater than every sequence number appended
+    /// before, and the record arrived no earlier than any kept record. If memory runs out, the log is unchanged. In
+    /// either case, all reservations of memory are given up.
     pub fn append(&mut self, item: Stored) -> Result<(), Memory>
         requires number { IfSome self.old.last (λ n. n < item.seq) }
         requires arrival { AllByRecursion (λ r. r.arrival ≤ item.arrival) self.old.kept }
@@ -73,8 +74,8 @@ impl ShardLog {
         }
     }
 
-    /// Reserves memory for one further record, in addition to earlier reservations. The log is as before, even after
-    /// `Memory`.
+    /// Reserves memory for one further record, in addition to earlier reservations. The records in the log are
+    /// unchanged, even if memory runs out.
     pub fn reserve_one(&mut self) -> Result<(), Memory>
         ensures same { log_of self.new ≡ log_of self.old }
         ensures room { OnOk result (self.new.room ≡ self.old.room + 1) }
@@ -85,7 +86,7 @@ impl ShardLog {
         Ok(())
     }
 
-    /// Gives up the reservation of memory. The records are as before.
+    /// Gives up all reservations of memory. The records in the log are unchanged.
     pub fn release(&mut self)
         ensures same { log_of self.new ≡ log_of self.old }
         ensures none { self.new.room ≡ 0 }
@@ -93,7 +94,9 @@ impl ShardLog {
         self.reserved = 0;
     }
 
-    /// Appends a record as `append` does, but in reserved memory, so that memory can't run out.
+    /// Appends a record as `append` does, but in memory that `reserve_one` reserved, so memory can't run out.
+    /// Preconditions: memory is reserved for at least one record, and the precondition of `append` is met. One
+    /// reservation is used up.
     pub fn append_reserved(&mut self, item: Stored)
         requires room { 1 ≤ self.old.room }
         requires number { IfSome self.old.last (λ n. n < item.seq) }
@@ -106,8 +109,8 @@ impl ShardLog {
         self.reserved -= 1;
     }
 
-    /// Removes exactly the records that arrived at or before the cut. The reservation is given up, and an empty log
-    /// keeps no memory.
+    /// Removes exactly the records that arrived at or before the trim horizon `cut`. All reservations of memory are
+    /// given up. If no record is left, the log keeps no memory.
     pub fn trim(&mut self, cut: Moment)
         ensures none { self.new.room ≡ 0 }
         ensures value { log_of self.new ≡ record { kept = left_among (floor_of (Some cut)) 0 self.old.kept; last = self.old.last } }
@@ -116,9 +119,11 @@ impl ShardLog {
         drop_below(&mut self.records, floor_of(Some(cut)));
     }
 
-    /// The longest run of untrimmed records from `position` on that has at most `limit` records, and whose payloads
-    /// and keys together have at most `BATCH_BYTES` bytes (Kinesis API Reference, GetRecords). It isn't empty if
-    /// `limit` is at least 1 and the first untrimmed record from `position` on fits in `BATCH_BYTES`.
+    /// Returns the batch of a read at the sequence number `position` (Kinesis API Reference, GetRecords). `cut` is the
+    /// trim horizon. The batch is the longest run of untrimmed records from `position` on that stays within two limits:
+    /// it has at most `limit` records, and their payloads and partition keys together have at most `BATCH_BYTES` bytes.
+    /// The batch isn't empty if `limit` is at least 1, there is an untrimmed record from `position` on, and the first
+    /// such record has at most `BATCH_BYTES` bytes.
     pub fn batch(
         &self,
         alloc: Global,
@@ -134,8 +139,8 @@ impl ShardLog {
         batch_from(alloc, &self.records, start, limit)
     }
 
-    /// The arrival time of the first untrimmed record whose number is at least `position`, or `None` if there is no
-    /// such record.
+    /// Returns the arrival time of the first untrimmed record whose sequence number is at least `position`, or `None`
+    /// if there is no such record. `cut` is the trim horizon.
     pub fn first_left(&self, cut: Option<Moment>, position: u64) -> Option<Moment>
         ensures value { result ≡ first_arrival (left_among (floor_of cut) position self.now.kept) }
         ensures orderly { IsOrderly (log_of self.now) }
@@ -147,8 +152,8 @@ impl ShardLog {
         }
     }
 
-    /// The least number of the untrimmed records that arrived at or after `moment`, or `None` if there is no such
-    /// record (Kinesis API Reference, GetShardIterator, AT_TIMESTAMP).
+    /// Returns the least sequence number of the untrimmed records that arrived at or after `moment`, or `None` if there
+    /// is no such record (Kinesis API Reference, GetShardIterator, AT_TIMESTAMP). `cut` is the trim horizon.
     pub fn at_time(&self, cut: Option<Moment>, moment: Moment) -> Option<Seq>
         ensures least { IsLeast (numbers_of (since moment (left_among (floor_of cut) 0 self.now.kept))) result }
         ensures value { result ≡ first_number (since moment (left_among (floor_of cut) 0 self.now.kept)) }
@@ -157,8 +162,8 @@ impl ShardLog {
         first_since(&self.records, floor_of(cut).max(moment.ms()))
     }
 
-    /// The greatest number that was ever appended, even if its record has been trimmed. `None` before the first
-    /// record.
+    /// Returns the greatest sequence number that was ever appended, even if its record has been trimmed. Returns `None`
+    /// if no record was ever appended.
     pub fn last(&self) -> Option<Seq>
         ensures value { result ≡ self.now.last }
         ensures orderly { IsOrderly (log_of self.now) }

@@ -1,4 +1,4 @@
-//! Creation and deletion of streams.
+//! Creates and deletes streams.
 ghost use Rattle.std.specs.Prelude.{◌≡◌, ℕ, IfOk, OnErr};
 ghost use Rattle.indexmap.specs.IndexMap.{values};
 ghost use Rattle.kds_defs.specs.declared.command.Command.TheVariants as command;
@@ -13,8 +13,9 @@ use kds_defs::{Answer, Refusal, Reply};
 use kds_stream::Stream;
 use std::alloc::Global;
 
-/// CreateStream: adds the new stream at the end. It gets the number that follows the last number ever given to a
-/// stream (Kinesis API Reference, CreateStream).
+/// Creates a stream with `shards` shards, and adds it after the other streams (Kinesis API Reference, CreateStream).
+/// `made` is the greatest stream number so far, including deleted streams. The new stream gets the next number, and
+/// `made` is raised to this number.
 pub fn create(
     alloc: Global,
     streams: &mut Streams,
@@ -49,7 +50,7 @@ pub fn create(
     Ok(Ok(Reply::Done))
 }
 
-/// DeleteStream: removes a stream. The other streams keep their order (Kinesis API Reference, DeleteStream).
+/// Deletes the stream with this name (Kinesis API Reference, DeleteStream). The other streams keep their order.
 pub fn delete(streams: &mut Streams, clock: Moment, name: &Name) -> Answer
     requires { ArePlaced clock streams.old.entries }
     ensures leads { LeadsTo clock (values streams.old) (values streams.new) (command.Delete name.now) result }

@@ -1,4 +1,5 @@
-//! Laws: a command for one stream or for a lease doesn't change the other streams.
+//! Laws about the journal, the event log of all streams and leases: a command for one stream or for a lease doesn't
+//! change the other streams.
 ghost use Rattle.std.specs.Prelude.{◌≡◌, ◌∷◌, [], ℕ, List, None};
 ghost use Rattle.kds_defs.specs.Journal.{Journal, Line};
 ghost use Rattle.kds_defs.specs.Subjects.{stream_of};
@@ -7,10 +8,12 @@ ghost use Rattle.kds_service.specs.Shown.{ServiceValue, ShowsAll, StaysShown, St
 
 use kds_stream::other_lines;
 
-/// Suppose that the streams of a service show a journal. They also show it with further lines about one stream, if
-/// this stream is replaced by a state that shows the longer journal. They also show it with the line that creates a
-/// stream, if the new stream is added at the end and shows the longer journal. They also show it with the line that
-/// deletes a stream, if this stream is removed. A service without streams shows the empty journal.
+/// Streams show a journal if they are in the state to which the lines of the journal lead. This law states which
+/// journal the streams of a service show after a command for one stream. Suppose that the streams show a journal, and
+/// that further lines about one stream are then added to this journal. If this stream is replaced by a stream that
+/// shows the longer journal, all streams show the longer journal. If the only further line creates a stream, and a
+/// stream that shows the longer journal is added at the end, all streams show the longer journal. If the only further
+/// line deletes a stream, the other streams show the longer journal. A service without streams shows the empty journal.
 pub fn others()
     ensures changed { (c b n i : ℕ) (vs : List StreamValue) (x v : StreamValue) (log : Journal) (lines : List Line)
         → ShowsAll (service c b n vs) log → StaysShown c b n vs log i x v lines }
@@ -23,8 +26,10 @@ pub fn others()
     other_lines();
 }
 
-/// If the streams of a service show a journal, they also show this journal with one further line, provided that the
-/// line is about a lease and was written at the service's clock.
+/// States that a journal line about a lease doesn't change the streams of a service. Streams show a journal if they are
+/// in the state to which the lines of the journal lead. Suppose that the streams of a service show a journal, and that
+/// a further line is about a lease and has the service's clock as its time. The streams then also show the journal with
+/// the further line.
 pub fn lease_lines()
     ensures { (w : ServiceValue) (log : Journal) (line : Line) → ShowsAll w log → line.clock ≡ w.clock → stream_of line.what ≡ None → ShowsAll w (line ∷ log) }
 {

@@ -1,4 +1,5 @@
-//! Shards by their keys. All streams stand at the same clock.
+//! Finds and reads shards by their keys. The key of a shard consists of the number of its stream and the number of the
+//! shard. The clocks of all streams are equal. A stream is live from its creation until its deletion.
 ghost use Rattle.std.specs.Prelude.{◌≡◌, ◌-◌, ◌^◌, ◌<◌, map, true, IfOk};
 ghost use Rattle.std.specs.List.{AllByRecursion};
 ghost use Rattle.std.specs.Option.{option_map};
@@ -16,7 +17,7 @@ use kds_defs::{Origin, Shard, Stored};
 use kds_stream::Stream;
 use std::alloc::Global;
 
-/// The stream with the number `no`, if it is live.
+/// Returns the stream with the number `no`, or `None` if this stream isn't live.
 #[tactic(auto, using(crate::proofs::KeyedShards::stream_found, crate::proofs::KeyedShards::none_found))]
 fn find(streams: &Streams, no: StreamNo) -> Option<&Stream>
     ensures { option_map (λ v. v.now) result ≡ stream_at (values streams.now) no }
@@ -25,7 +26,7 @@ fn find(streams: &Streams, no: StreamNo) -> Option<&Stream>
     Some(&streams[i])
 }
 
-/// Whether the shard with this key is listed.
+/// Whether the shard with this key is listed: its stream is live, and the shard was made and hasn't expired.
 pub fn is_listed(streams: &Streams, key: &ShardRef) -> bool
     ensures { result ≡ is_listed_in (values streams.now) key.now }
 {
@@ -35,7 +36,7 @@ pub fn is_listed(streams: &Streams, key: &ShardRef) -> bool
     }
 }
 
-/// The shard with this key. `None` if its stream isn't live or the shard was never made.
+/// Returns the shard with this key, or `None` if its stream isn't live or the shard was never made.
 pub fn shard<'a>(streams: &'a Streams, key: &ShardRef) -> Option<&'a Shard>
     ensures { option_map (λ x. x.now) result ≡ option_map shown (state_in (values streams.now) key.now) }
 {
@@ -43,7 +44,8 @@ pub fn shard<'a>(streams: &'a Streams, key: &ShardRef) -> Option<&'a Shard>
     stream.tree().shard(key.shard)
 }
 
-/// The keys of the listed shards of all streams, in order.
+/// Returns the keys of the listed (unexpired) shards of all streams, sorted by stream number, and within a stream by
+/// shard number.
 pub fn listed(alloc: Global, streams: &Streams) -> Result<Items<ShardRef>, Memory>
     ensures { IfOk result (λ keys. keys ≡ listed_keys (values streams.now)) }
 {
@@ -54,7 +56,8 @@ pub fn listed(alloc: Global, streams: &Streams) -> Result<Items<ShardRef>, Memor
     Ok(keys)
 }
 
-/// The position at which reading of a listed shard begins for the origin `from`.
+/// Returns the position at which the reading of a listed (unexpired) shard begins, as a sequence number. `from` selects
+/// TRIM_HORIZON, LATEST, or a time.
 pub fn position(streams: &Streams, key: &ShardRef, from: Origin) -> u64
     requires { is_listed_in (values streams.now) key.now ≡ true }
     ensures { InJournalsOf (values streams.now) (λ log c. result ≡ origin_position log c key.now from) }
@@ -65,7 +68,8 @@ pub fn position(streams: &Streams, key: &ShardRef, from: Origin) -> u64
     }
 }
 
-/// The batch of a listed shard at a position, and whether the shard ends after this batch.
+/// Reads a listed (unexpired) shard at `position`, and returns the batch of at most `limit` records. The returned
+/// `bool` says whether the shard ends after this batch.
 pub fn read(
     alloc: Global,
     streams: &Streams,

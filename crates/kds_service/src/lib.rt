@@ -1,4 +1,5 @@
-//! The stream service: the streams by name, and the limits that hold for all streams together.
+//! The stream service: all live streams by name, and the limits that apply to all streams together. A stream is live
+//! from its creation until its deletion.
 #![tactic(auto)]
 
 mod clocks;

@@ -1,4 +1,4 @@
-//! Lists the names of the streams.
+//! Lists the names of the streams (ListStreams).
 ghost use Rattle.std.specs.Prelude.{◌≡◌, IfOk, filter, map, take};
 ghost use Rattle.indexmap.specs.IndexMap.{values};
 ghost use Rattle.kds_defs.specs.declared.command.Command.TheVariants as command;
@@ -11,14 +11,14 @@ use kds_base::{Items, Memory, Moment, Name};
 use kds_defs::{Answer, Reply};
 use std::alloc::Global;
 
-/// Whether the name `a` comes before the name `b` in the order of their bytes.
+/// Whether the name `a` comes before the name `b` if names are compared byte by byte.
 fn is_before(a: &Name, b: &Name) -> bool
     ensures { result ≡ name_before a.now b.now }
 {
     a.bytes().cmp(b.bytes()).is_lt()
 }
 
-/// The names of all streams, in the order of their bytes.
+/// Returns the names of all streams, sorted byte by byte.
 fn in_order(alloc: Global, streams: &Streams) -> Result<Vec<&Name>, Memory>
     ensures { IfOk result (λ names. map (λ n. n.now) names.items ≡ names_in_order (names_of (values streams.now))) }
 {
@@ -30,7 +30,8 @@ fn in_order(alloc: Global, streams: &Streams) -> Result<Vec<&Name>, Memory>
     Ok(names)
 }
 
-/// Whether a listing that begins after the name `after` contains `name`: `name` is greater, or `after` is `None`.
+/// Whether a listing that begins after the name `after` contains `name`: `after` is `None`, or `name` comes later than
+/// `after` when names are compared byte by byte.
 fn is_after(after: &Option<Name>, name: &Name) -> bool
     ensures { result ≡ is_after_name after.now name.now }
 {
@@ -40,7 +41,8 @@ fn is_after(after: &Option<Name>, name: &Name) -> bool
     }
 }
 
-/// At most `limit` names, beginning after the name `after`, and whether more names follow.
+/// Returns those of `names` that come after the name `after`, but at most the first `limit` of them. The returned
+/// `bool` says whether more such names follow.
 fn first_after(
     alloc: Global,
     names: &[&Name],
@@ -63,7 +65,8 @@ fn first_after(
     Ok((first, false))
 }
 
-/// ListStreams: a page of the names of the streams (Kinesis API Reference, ListStreams).
+/// Returns a page of the names of the streams (Kinesis API Reference, ListStreams). The page begins after the name
+/// `after`, and has at most `limit` names.
 pub fn streams(
     alloc: Global,
     streams: &Streams,

@@ -1,4 +1,5 @@
-//! Finds the stream for a command, and the number of shards that may be open in this stream.
+//! Finds the stream for a command, and the number of shards that may be open in this stream. A token is a shard
+//! iterator or a NextToken. A stream is live from its creation until its deletion.
 ghost use Rattle.std.specs.Prelude.{◌≡◌, ◌<◌, ◌-◌, IfSome, length, true};
 ghost use Rattle.indexmap.specs.IndexMap.{keys, values};
 ghost use Rattle.kds_defs.specs.declared.limits.TheConstants.{OPEN_SHARDS};
@@ -12,8 +13,8 @@ use kds_defs::limits::OPEN_SHARDS;
 use kds_defs::{Command, Refusal};
 use kds_token::{iter_expired, page_expired};
 
-/// The refusal of a command whose token is too old; `None` for every other command (Kinesis API Reference, GetRecords,
-/// ExpiredIteratorException; ListShards, ExpiredNextTokenException).
+/// Returns the refusal of a command whose token (shard iterator or NextToken) is too old, and `None` for every other
+/// command (Kinesis API Reference, GetRecords, ExpiredIteratorException; ListShards, ExpiredNextTokenException).
 pub fn expired(what: &Command, clock: Moment) -> Option<Refusal>
     ensures { result ≡ expiry clock what.now }
 {
@@ -24,7 +25,8 @@ pub fn expired(what: &Command, clock: Moment) -> Option<Refusal>
     }
 }
 
-/// The number of the stream to which the command's token belongs, or `None` if the command has no token.
+/// Returns the number of the stream to which the command's token (shard iterator or NextToken) belongs, or `None` if
+/// the command has no token.
 fn token_stream(what: &Command) -> Option<StreamNo>
     ensures { result ≡ token_of what.now }
 {
@@ -35,7 +37,8 @@ fn token_stream(what: &Command) -> Option<StreamNo>
     }
 }
 
-/// The index of the stream that the command names or to which its token belongs, if this stream is live.
+/// Returns the index of the stream that the command names or to which the command's token belongs, or `None` if this
+/// stream isn't live.
 pub fn find(streams: &Streams, what: &Command) -> Option<usize>
     requires { keys streams.now ≡ names_of (values streams.now) }
     ensures value { result ≡ place_for (values streams.now) what.now }
@@ -50,8 +53,9 @@ pub fn find(streams: &Streams, what: &Command) -> Option<usize>
     }
 }
 
-/// The number of shards that may be open in the stream with the number `no`, given the open shards of the other
-/// streams. For a command that doesn't need this number the result is `OPEN_SHARDS`.
+/// Returns the greatest number of shards that may be open in the stream with the number `no`, given the open shards of
+/// the other streams. Only SplitShard and UpdateShardCount need this number. For every other command the result is
+/// `OPEN_SHARDS`.
 pub fn open_limit_for(streams: &Streams, no: StreamNo, what: &Command) -> u64
     ensures { asks_for_room what.now ≡ true → result ≡ OPEN_SHARDS - open_beside (values streams.now) no }
 {

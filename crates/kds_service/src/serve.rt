@@ -1,4 +1,5 @@
-//! Serves one command. All streams stand at the same clock.
+//! Serves one command for the stream service. The clocks of all streams are equal. A stream is live from its creation
+//! until its deletion.
 ghost use Rattle.std.specs.Prelude.{◌≡◌, ℕ, true, IfOk, OnErr};
 ghost use Rattle.indexmap.specs.IndexMap.{values};
 ghost use Rattle.kds_defs.specs.Kinds.{is_service};
@@ -16,7 +17,8 @@ use kds_base::{Memory, Moment};
 use kds_defs::{Answer, Command, Refusal};
 use std::alloc::Global;
 
-/// Serves a command for the stream service at the moment `clock`, at which all streams stand.
+/// Serves a command for the stream service at the time `clock`, which must be the clock of every stream. `made` is the
+/// number of streams that were ever created.
 pub fn serve(
     alloc: Global,
     streams: &mut Streams,
@@ -40,8 +42,9 @@ pub fn serve(
     }
 }
 
-/// Serves a command for one existing stream. A command with a token that is too old is refused before its stream is
-/// looked up. Any other command is refused with `NoStream` if its stream isn't live.
+/// Serves a command for one existing stream. If the command's token (shard iterator or NextToken) is too old, the
+/// command is refused before its stream is looked up. Otherwise the command is refused with `NoStream` if its stream
+/// isn't live.
 fn serve_one(
     alloc: Global,
     streams: &mut Streams,

@@ -1,4 +1,6 @@
-//! The stream service and its operations.
+//! The stream service and its operations. The clock is the greatest time of all commands so far. A record is trimmed
+//! once it is older than its stream's retention period. A shard is listed until it has been closed for the retention
+//! period.
 ghost use Rattle.std.specs.Prelude.{◌≡◌, ◌≤◌, ◌-◌, ◌^◌, ◌<◌, ℕ, [], map, true, IfOk, OnErr};
 ghost use Rattle.std.specs.List.{AllByRecursion};
 ghost use Rattle.std.specs.Option.{option_map};
@@ -26,15 +28,16 @@ use kds_defs::{Answer, Command, Origin, Shard, Stored};
 use std::alloc::Global;
 use std::marker::Model;
 
-/// The stream service: its clock, the number of streams ever made, and the live streams by name, in the order of their
-/// numbers. The clock of each stream always equals the service's clock.
+/// The stream service: its clock, the number of streams that were ever created, and the live streams. A stream is live
+/// from its creation until its deletion. The live streams can be found by name, and are in the order of their numbers.
+/// The clock of each stream always equals the service's clock.
 #[derive(Drop)]
 pub struct Service {
     clock: Moment,
     clock_before: Moment,
     made: u64,
     streams: Streams,
-    /// The index of the stream whose trimmed records are dropped next.
+    /// The index of the stream from which `settle` removes trimmed records next.
     turn: usize,
 }
 
@@ -51,7 +54,7 @@ impl Model for Service {
 }
 
 impl Service {
-    /// A service without streams, at moment 0. It allocates its memory from `alloc`.
+    /// Returns a service with the clock 0 and without streams. The service allocates its memory from `alloc`.
     pub fn new(alloc: Global) -> Service
         ensures value { result ≡ service 0 0 0 [] }
         ensures shows { ShowsAll result [] }
@@ -66,7 +69,7 @@ impl Service {
         }
     }
 
-    /// Raises the clock of the service and of every stream to `clock`. It drops no records yet.
+    /// Raises the clock of the service and of every stream to `clock`. The newly trimmed records aren't removed yet.
     pub fn advance(&mut self, clock: Moment)
         requires { self.old.clock ≤ clock }
         ensures value { self.new ≡ record self.old { clock = clock; clock_before = self.old.clock; streams = map (advanced clock) self.old.streams } }
@@ -79,8 +82,8 @@ impl Service {
         self.clock = clock;
     }
 
-    /// Sets the clock of the service, and the clock and the cut of every stream, back to their values before the last
-    /// `advance`. Precondition: since then nothing was changed and no records were dropped.
+    /// Sets the clock of the service, and the clock and the trim horizon of every stream, back to their values before
+    /// the last `advance`. Precondition: since that `advance`, nothing was changed and `settle` wasn't called.
     pub fn retreat(&mut self)
         requires { CanGoBack self.old }
         ensures { self.new ≡ gone_back self.old }
@@ -89,8 +92,9 @@ impl Service {
         self.clock = self.clock_before;
     }
 
-    /// Drops the trimmed records of the next stream's next shard, in rotation; no answer depends on this. One shard is
-    /// handled in a call, so the cost of a call doesn't grow with the number of streams or shards.
+    /// Removes the trimmed records of one shard: the next shard of the next stream, both in rotation. No reply to a
+    /// client depends on whether trimmed records are removed. A call handles only one shard, so its cost doesn't grow
+    /// with the number of streams or shards.
     pub fn settle(&mut self)
         ensures clock { self.new.clock ≡ self.old.clock }
         ensures dropped { self.new ≡ settled_in_turn self.old }
@@ -103,8 +107,8 @@ impl Service {
         self.clock_before = self.clock;
     }
 
-    /// Serves a command for the stream service at the service's clock. `Memory` means that memory ran out; the service
-    /// is then as before (Kinesis API Reference, the operations of the commands).
+    /// Serves a command for the stream service at the service's clock (Kinesis API Reference, the operations of the
+    /// commands). If memory runs out, the service is unchanged.
     pub fn serve(&mut self, what: Command) -> Result<Answer, Memory>
         requires lawful { IsLawfulCommand what }
         requires own { is_service what ≡ true }
@@ -117,7 +121,7 @@ impl Service {
         serve(alloc, &mut self.streams, &mut self.made, self.clock, what)
     }
 
-    /// Whether the shard with this key is listed: it was made, it hasn't expired, and its stream is live.
+    /// Whether the shard with this key is listed: its stream is live, and the shard was made and hasn't expired.
     pub fn is_listed(&self, key: ShardRef) -> bool
         ensures value { result ≡ is_listed_in self.now.streams key }
         ensures shown { (log : Journal) → ShowsAll self.now log → result ≡ is_listed_key log self.now.clock key }
@@ -125,24 +129,26 @@ impl Service {
         lease_keys::is_listed(&self.streams, &key)
     }
 
-    /// The shard with this key. `None` exactly if its stream isn't live or the shard was never made.
+    /// Returns the shard with this key, or `None` if and only if its stream isn't live or the shard was never made.
     pub fn shard(&self, key: ShardRef) -> Option<&Shard>
         ensures { (log : Journal) → ShowsAll self.now log → option_map (λ x. x.now) result ≡ option_map shown (live_shard log key) }
     {
         lease_keys::shard(&self.streams, &key)
     }
 
-    /// The keys of the listed shards of all streams, in order.
+    /// Returns the keys of the listed (unexpired) shards of all streams, sorted by stream number, and within a stream
+    /// by shard number.
     pub fn listed(&self) -> Result<Items<ShardRef>, Memory>
         ensures { (log : Journal) → ShowsAll self.now log → IfOk result (λ keys. keys ≡ listed_in log self.now.clock (live_streams log)) }
     {
         lease_keys::listed(*self.streams.allocator(), &self.streams)
     }
 
-    /// The position at which reading of a listed shard begins for the origin `from`. It is 0 for the trim horizon, and
-    /// the next number of the shard's stream for LATEST. For a moment it is the number of the first untrimmed record
-    /// that arrived at or after the moment, or the next number if there is no such record (Kinesis API Reference,
-    /// GetShardIterator, ShardIteratorType).
+    /// Returns the position at which the reading of a listed (unexpired) shard begins, as a sequence number (Kinesis
+    /// API Reference, GetShardIterator, ShardIteratorType). If `from` is TRIM_HORIZON, the position is 0. If `from` is
+    /// LATEST, the position is the next sequence number of the shard's stream. If `from` is a time, the position is the
+    /// sequence number of the first untrimmed record that arrived at or after this time, or the stream's next sequence
+    /// number if there is no such record.
     pub fn position(&self, key: ShardRef, from: Origin) -> u64
         requires { is_listed_in self.now.streams key ≡ true }
         ensures { (log : Journal) → ShowsAll self.now log → result ≡ origin_position log self.now.clock key from }
@@ -150,8 +156,9 @@ impl Service {
         lease_keys::position(&self.streams, &key, from)
     }
 
-    /// The batch of a listed shard at a position, and whether the shard ends after this batch: it is closed, and no
-    /// record is left.
+    /// Reads a listed (unexpired) shard at `position`, and returns the batch of at most `limit` records. The returned
+    /// `bool` says whether the shard ends after this batch: the shard is closed, and it has no untrimmed record after
+    /// the batch.
     pub fn read(
         &self,
         key: ShardRef,

@@ -1,4 +1,5 @@
-//! The streams of the service by name, and the limits on their number and their shards.
+//! The live streams of the service by name, and the limits on the number of streams and of open shards. A stream is
+//! live from its creation until its deletion.
 ghost use Rattle.std.specs.Prelude.{◌≡◌, ◌+◌, ◌-◌, ◌<◌, IfSome, length, nat_le};
 ghost use Rattle.kds_defs.specs.declared.limits.TheConstants.{OPEN_SHARDS};
 ghost use Rattle.indexmap.specs.IndexMap.{keys, values};
@@ -10,10 +11,10 @@ use kds_base::{Name, StreamNo};
 use kds_defs::limits::{LIVE_STREAMS, OPEN_SHARDS};
 use kds_stream::Stream;
 
-/// The live streams by name, in the order of their numbers.
+/// The live streams, which can be found by name and are in the order of their numbers.
 pub type Streams = IndexMap<Name, Stream>;
 
-/// The index of the stream with this name, if it is live.
+/// Returns the index of the stream with this name, or `None` if no live stream has this name.
 pub fn index_by_name(streams: &Streams, name: &Name) -> Option<usize>
     requires { keys streams.now ≡ names_of (values streams.now) }
     ensures value { result ≡ place_of (values streams.now) name.now }
@@ -22,7 +23,8 @@ pub fn index_by_name(streams: &Streams, name: &Name) -> Option<usize>
     streams.get_index_of(name)
 }
 
-/// The index of the stream with this number, if it is live. The search looks at each stream; there are at most 64.
+/// Returns the index of the stream with this number, or `None` if no live stream has this number. The search is linear,
+/// and there are at most 64 streams.
 pub fn index_by_number(streams: &Streams, no: StreamNo) -> Option<usize>
     ensures value { result ≡ place_at (values streams.now) no }
     ensures within { IfSome result (λ i. i < length (values streams.now)) }
@@ -35,7 +37,8 @@ pub fn index_by_number(streams: &Streams, no: StreamNo) -> Option<usize>
     None
 }
 
-/// Whether `more` further shards may be open.
+/// Whether further shards may be opened. `more` is the number of these shards. At most `OPEN_SHARDS` shards may be open
+/// in all streams together.
 pub fn may_open(streams: &Streams, more: u64) -> bool
     ensures { result ≡ nat_le (open_total (values streams.now) + more) OPEN_SHARDS }
 {
@@ -53,7 +56,7 @@ pub fn may_open(streams: &Streams, more: u64) -> bool
     true
 }
 
-/// The number of open shards of `stream`, or 0 if its number is `no`.
+/// Returns the number of open shards of `stream`, or 0 if `no` is the number of `stream`.
 fn open_unless(stream: &Stream, no: StreamNo) -> u64
     ensures { result ≡ open_unless stream.now no }
 {
@@ -64,8 +67,8 @@ fn open_unless(stream: &Stream, no: StreamNo) -> u64
     }
 }
 
-/// The number of shards that may be open in the stream with the number `no`, given the open shards of all other
-/// streams.
+/// Returns the greatest number of shards that may be open in the stream with the number `no`: `OPEN_SHARDS` minus the
+/// number of open shards of all other streams.
 pub fn open_limit(streams: &Streams, no: StreamNo) -> u64
     ensures { result ≡ OPEN_SHARDS - open_beside (values streams.now) no }
 {
@@ -77,7 +80,7 @@ pub fn open_limit(streams: &Streams, no: StreamNo) -> u64
     left
 }
 
-/// Whether a new stream of `shards` shards would exceed the limit on streams or the limit on open shards.
+/// Whether a new stream with `shards` shards would exceed the limit on live streams or the limit on open shards.
 pub fn is_full(streams: &Streams, shards: u64) -> bool
     ensures { result ≡ is_full (values streams.now) shards }
 {

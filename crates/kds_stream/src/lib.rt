@@ -1,4 +1,4 @@
-//! One stream: its shards, their records, its numbers, and the trimming of its records.
+//! One stream: its shards, their records, its sequence numbers, its clock, and the trimming of its records.
 #![tactic(auto)]
 
 mod laws;

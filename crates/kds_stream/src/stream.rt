@@ -1,4 +1,4 @@
-//! A stream, and what it holds.
+//! The state of one stream, its creation, and access to its fields.
 ghost use Rattle.std.specs.Prelude.{◌≡◌, ◌∷◌, ℕ, length, IfOk};
 ghost use Rattle.std.specs.List.{filter};
 ghost use Rattle.kds_defs.specs.declared.entry.Entry.TheVariants as entry;
@@ -30,8 +30,9 @@ use kds_tree::ShardTree;
 use std::alloc::Global;
 use std::marker::Model;
 
-/// One stream: its shards, a log and a throughput window for each shard, its numbers and its clock. Contracts see
-/// these values, and state which journals the stream shows.
+/// One stream: its shards, a log and a throughput window for each shard, its next sequence number, its clock and its
+/// trim horizon (`cut`). Contracts can refer to these values. Contracts also state which journals (event logs) the
+/// stream shows (represents): the journals whose lines lead to this state of the stream.
 #[derive(Drop)]
 pub struct Stream {
     no: StreamNo,
@@ -40,16 +41,16 @@ pub struct Stream {
     hours: u32,
     tree: ShardTree,
     logs: Vec<ShardLog>,
-    /// For each shard, how much it accepted within the second.
+    /// For each shard, the number of records and bytes that it accepted in the same second (of time) as its latest put.
     windows: Vec<Window>,
-    /// Whether the limits on the throughput of shards are on.
+    /// Whether the limits on the throughput of the stream's shards are on.
     enforced: bool,
     next: Seq,
     clock: Moment,
     cut: Option<Moment>,
     clock_before: Moment,
     cut_before: Option<Moment>,
-    /// The index of the log whose trimmed records are dropped next.
+    /// The index of the log from which `settle` removes the trimmed (expired) records next.
     turn: usize,
 }
 
@@ -65,7 +66,8 @@ impl Model for Stream {
 }
 
 impl Stream {
-    /// A new stream, created at the moment `made` (Kinesis API Reference, CreateStream).
+    /// Returns a new stream, created at the time `made`, with `shards` open shards (Kinesis API Reference,
+    /// CreateStream).
     pub fn new(
         alloc: Global,
         no: StreamNo,
@@ -101,35 +103,36 @@ impl Stream {
         })
     }
 
-    /// The stream's number.
+    /// Returns the number of the stream.
     pub fn no(&self) -> StreamNo
         ensures { result ≡ self.now.no }
     {
         self.no
     }
 
-    /// The stream's name.
+    /// Returns the name of the stream.
     pub fn name(&self) -> &Name
         ensures { result.now ≡ self.now.name }
     {
         &self.name
     }
 
-    /// The stream's shards.
+    /// Returns the shards of the stream.
     pub fn tree(&self) -> &ShardTree
         ensures { result.now.shards ≡ self.now.tree }
     {
         &self.tree
     }
 
-    /// The cut: the moment at or before which each record is trimmed. `None` if the cut would lie before moment 0.
+    /// Returns the trim horizon as a time. Each record that arrived at or before this time is trimmed. Returns `None`
+    /// if the trim horizon would lie before time 0.
     pub fn cut(&self) -> Option<Moment>
         ensures { result ≡ self.now.cut }
     {
         self.cut
     }
 
-    /// The number of the stream's open shards.
+    /// Returns the number of open shards of the stream.
     pub fn open_count(&self) -> u32
         ensures { result ≡ length (filter is_open self.now.tree) }
     {

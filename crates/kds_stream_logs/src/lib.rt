@@ -1,5 +1,6 @@
-//! The state of a stream's shards besides their ranges: logs and throughput windows. Also reads of a shard, the
-//! routing of records to the logs, and the steps of a scaling.
+//! The logs and the throughput windows of a stream's shards. A log has the records of one shard. A window counts the
+//! records and bytes that one shard accepted within a second. The crate also has functions that read from one shard,
+//! route records to the logs, and carry out the splits and merges of a scaling (UpdateShardCount).
 #![tactic(auto)]
 
 mod logs;

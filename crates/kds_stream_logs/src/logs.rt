@@ -1,4 +1,4 @@
-//! The logs of a stream's shards.
+//! The logs of a stream's shards. Each log has the records of one shard.
 ghost use Rattle.std.specs.Prelude.{◌≡◌, ◌<◌, length, map, replicate, IfOk, OnOk, OnErr, Some};
 ghost use Rattle.std.specs.List.{AllByRecursion};
 ghost use Rattle.kds_defs.specs.Records.{logged};
@@ -11,7 +11,7 @@ use kds_defs::Stored;
 use kds_log::ShardLog;
 use std::alloc::Global;
 
-/// Empty logs for the `n` shards of a new stream, whose sequence numbers begin with 1.
+/// Returns an empty log for each of the `n` shards of a new stream. The sequence numbers of the stream begin with 1.
 pub fn new_logs(alloc: Global, n: u32) -> Result<Vec<ShardLog>, Memory>
     ensures { IfOk result (λ logs. map log_of logs.items ≡ replicate n empty_log) }
 {
@@ -22,8 +22,9 @@ pub fn new_logs(alloc: Global, n: u32) -> Result<Vec<ShardLog>, Memory>
     Ok(logs)
 }
 
-/// Appends a record to the log at the index `i`. Precondition: the record's number is greater than all numbers in the
-/// logs of the stream, and the record arrived no earlier than any record in these logs.
+/// Appends a record to the log at the index `i`. Preconditions: the sequence number of the record is greater than that
+/// of every record that was appended to the stream's logs before, and no record in these logs arrived later than this
+/// record. If memory runs out, the logs are unchanged.
 fn append_at(logs: &mut [ShardLog], i: usize, item: Stored) -> Result<(), Memory>
     requires within { i < length logs.old }
     requires number { AllByRecursion (IsBelow item.seq) (map log_of logs.old) }
@@ -34,7 +35,8 @@ fn append_at(logs: &mut [ShardLog], i: usize, item: Stored) -> Result<(), Memory
     logs[i].append(item)
 }
 
-/// Drops the trimmed records of the log at the index `i`, if this log exists.
+/// Removes from the log at the index `i` the records that arrived at or before the trim horizon `cut`. Does nothing if
+/// there is no log at this index.
 pub fn settle_at(logs: &mut [ShardLog], i: usize, cut: &Option<Moment>)
     ensures { map log_of logs.new ≡ settled_at (floor_of cut.now) i (map log_of logs.old) }
 {
@@ -46,7 +48,8 @@ pub fn settle_at(logs: &mut [ShardLog], i: usize, cut: &Option<Moment>)
     }
 }
 
-/// Appends a record as `append_at` does, and then drops the trimmed records of the same log.
+/// Appends a record as `append_at` does. Then removes from the same log the records that arrived at or before the trim
+/// horizon `cut`.
 pub fn put_at(
     logs: &mut [ShardLog],
     i: usize,

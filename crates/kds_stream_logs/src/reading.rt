@@ -1,4 +1,5 @@
-//! Reading of one shard.
+//! Finds the position at which the reading of a shard begins, and reads a batch of records at a position. A position is
+//! the least sequence number that the next read can return.
 ghost use Rattle.std.specs.Prelude.{◌≡◌, ◌&&◌, is_some, ◌-◌, ◌^◌, ◌<◌, ◌≤◌, map, if◌then◌else◌, IfOk, Some, None, true};
 ghost use Rattle.std.specs.List.{AllByRecursion};
 ghost use Rattle.kds_defs.specs.Listings.{is_good_after, is_good_at, is_good_start, last_no};
@@ -15,8 +16,9 @@ use kds_defs::{Origin, Shard, Start, Stored, place_after};
 use kds_log::ShardLog;
 use std::alloc::Global;
 
-/// Whether reading of the shard may begin at the number `q`: it is one of the shard's numbers, or, while the shard is
-/// open, the stream's next number `next`.
+/// Whether the reading of the shard may begin at the sequence number `q`. The number must be at least the shard's
+/// starting sequence number. If the shard is closed, the number must be at most the shard's ending sequence number. If
+/// the shard is open, the number must be at most the stream's next sequence number `next`.
 fn is_good_at(q: Seq, next: Seq, shard: &Shard) -> bool
     ensures { (x : ShardState) → shard.now ≡ shown x → result ≡ is_good_at x.start next q x.closing }
 {
@@ -27,7 +29,9 @@ fn is_good_at(q: Seq, next: Seq, shard: &Shard) -> bool
         }
 }
 
-/// Whether reading of the shard may begin after the number `q`: it is one of the shard's numbers.
+/// Whether the reading of the shard may begin after the sequence number `q`. The number must be at least the shard's
+/// starting sequence number. If the shard is closed, the number must be at most the shard's ending sequence number. If
+/// the shard is open, the number must be below the stream's next sequence number `next`.
 fn is_good_after(q: Seq, next: Seq, shard: &Shard) -> bool
     ensures below { IsUnder next shard.now.end → result ≡ true → q < next }
     ensures value { (x : ShardState) → shard.now ≡ shown x → result ≡ is_good_after x.start next q x.closing }
@@ -39,8 +43,8 @@ fn is_good_after(q: Seq, next: Seq, shard: &Shard) -> bool
         }
 }
 
-/// The number of the first untrimmed record in the log that arrived at or after `moment`, or `next` if there is no
-/// such record.
+/// Returns the sequence number of the first untrimmed record in the log that arrived at or after `moment`, or the
+/// stream's next sequence number `next` if there is no such record. `cut` is the trim horizon.
 fn first_since(log: &ShardLog, cut: Option<Moment>, moment: Moment, next: Seq) -> u64
     ensures { result ≡ first_at (left_among (floor_of cut) 0 log.now.kept) moment next }
 {
@@ -50,8 +54,9 @@ fn first_since(log: &ShardLog, cut: Option<Moment>, moment: Moment, next: Seq) -
     }
 }
 
-/// The position at which reading of a shard begins for the origin `from`. `next` is the stream's next number. `log` is
-/// the shard's log, in which the records up to `cut` are trimmed.
+/// Returns the position at which the reading of a shard begins, as a sequence number. `from` selects TRIM_HORIZON
+/// (position 0), LATEST, or a time. `next` is the stream's next sequence number. `log` is the shard's log, and `cut` is
+/// the trim horizon.
 pub fn origin_position(from: Origin, next: Seq, log: &ShardLog, cut: Option<Moment>) -> u64
     ensures { result ≡ position_from next (left_among (floor_of cut) 0 log.now.kept) (iterator_start from) }
 {
@@ -62,9 +67,10 @@ pub fn origin_position(from: Origin, next: Seq, log: &ShardLog, cut: Option<Mome
     }
 }
 
-/// The position at which reading of a shard begins for `from`. `None` exactly if `from` names a sequence number that
-/// doesn't belong to the shard. `next` is the stream's next number. `log` is the shard's log, in which the records up
-/// to the cut are trimmed.
+/// Returns the position of a new shard iterator, as a sequence number. `from` has the type of the iterator
+/// (ShardIteratorType), and the sequence number or time that belongs to this type, if any. Returns `None` if and only
+/// if `from` has a sequence number and `is_good_at` or `is_good_after` rejects this number. `next` is the stream's next
+/// sequence number. `log` is the shard's log, and `cut` is the trim horizon.
 pub fn position(
     from: Start,
     next: Seq,
@@ -92,7 +98,8 @@ pub fn position(
     }
 }
 
-/// The batch that a read of the log at `position` returns, and the position after this batch.
+/// Reads the log at `position`. Returns the batch of at most `limit` untrimmed records, and the position at which the
+/// next read begins. `cut` is the trim horizon.
 pub fn batch_at(
     log: &ShardLog,
     alloc: Global,
@@ -110,14 +117,15 @@ pub fn batch_at(
     Ok((batch, place))
 }
 
-/// Whether reading has reached the end of the shard: the shard is closed, and no record is left to read.
+/// Whether a reader has reached the end of the shard: the shard is closed, and no record is left to read.
 pub fn is_end(shard: &Shard, none_left: bool) -> bool
     ensures { result ≡ (is_some shard.now.end && none_left) }
 {
     shard.end.is_some() && none_left
 }
 
-/// How many milliseconds before `clock` the first remaining record arrived, or 0 if no record remains.
+/// Returns the lag of a reader in milliseconds (MillisBehindLatest): how long before `clock` the first unread record
+/// arrived. `first_left` is the arrival time of this record. If it is `None`, no record is unread, and the lag is 0.
 pub fn millis_behind(clock: Moment, first_left: Option<Moment>) -> u64
     ensures { result ≡ behind_by clock first_left }
 {
@@ -127,7 +135,7 @@ pub fn millis_behind(clock: Moment, first_left: Option<Moment>) -> u64
     }
 }
 
-/// The number of the last shard in a page of a listing, or 0 if the page is empty.
+/// Returns the number of the last shard in `shards`, or 0 if `shards` is empty. `shards` is a page of ListShards.
 pub fn last_no(shards: &[Shard]) -> ShardNo
     ensures { result ≡ last_no shards.now }
 {

@@ -1,4 +1,6 @@
-//! Routing of records to the logs of their shards.
+//! Routes the records of a PutRecords request to the logs of their shards. An item is a record of the request. The
+//! place of a stored record is its shard and its sequence number. The throughput window of a shard counts the records
+//! and bytes that the shard accepted within a second.
 ghost use Rattle.std.specs.Prelude.{◌≡◌, ◌+◌, ◌^◌, ◌<◌, ◌≤◌, ◌∷◌, ◌++◌, ◌&&◌, [], true, false, ℕ, List, length, map, IfNone, IfOk, IfSome, OnErr, OnOk};
 ghost use Rattle.std.specs.List.{AllByRecursion, count_by};
 ghost use Rattle.kds_defs.specs.Lawful.{item_bytes};
@@ -20,22 +22,24 @@ use kds_tree::ShardTree;
 use std::alloc::Global;
 use std::collections::VecDeque;
 
-/// A record, together with the open shard whose range contains its hash key.
+/// A record, and the number of the open shard whose range contains the record's hash key.
 #[derive(Drop)]
 pub struct Routed {
     pub shard: ShardNo,
     pub item: Stored,
 }
 
-/// The number of bytes that the item's payload and key have together.
+/// Returns the number of bytes of the item's payload and partition key together.
 pub fn item_bytes(item: &NewItem) -> u64
     ensures { result ≡ item_bytes item.now }
 {
     item.payload.as_slice().len() as u64 + item.key.as_slice().len() as u64
 }
 
-/// Where the items of one put request go: the records of the accepted items with their places, the outcome of each
-/// item, the next number, and the earlier values of the windows that were changed.
+/// The result of routing the items of one PutRecords request. `routed` has the records of the accepted items, and
+/// `places` has the shard and sequence number of each of these records. `outcomes` has the outcome of each item,
+/// accepted or not. `next` is the stream's next sequence number. `saved` has the values that the throughput windows of
+/// the items' shards had before the items were counted.
 #[derive(Drop)]
 pub struct Routes {
     pub routed: VecDeque<Routed>,
@@ -46,7 +50,8 @@ pub struct Routes {
 }
 
 impl Routes {
-    /// The routes before the first item, with capacity for `count` items.
+    /// Returns routes to which no item was added yet, with capacity for `count` items. `next` is the stream's next
+    /// sequence number.
     fn new(alloc: Global, next: u64, count: usize) -> Result<Routes, Memory>
         ensures routed { IfOk result (λ r. r.routed.items ≡ []) }
         ensures places { IfOk result (λ r. r.places ≡ []) }
@@ -63,7 +68,7 @@ impl Routes {
         })
     }
 
-    /// Saves the window of a shard, so that it can be restored later.
+    /// Saves the current value of a shard's window, so that `restore_windows` can restore it.
     fn save(&mut self, windows: &[Window], shard: ShardNo) -> Result<(), Memory>
         requires { shard < length windows.now }
         ensures routed { self.new.routed.items ≡ self.old.routed.items }
@@ -79,7 +84,7 @@ impl Routes {
         Ok(())
     }
 
-    /// Adds an outcome for an item that is throttled by the limits of its shard.
+    /// Adds the outcome `Throttled` for an item that its shard doesn't accept.
     fn hold_back(&mut self, shard: ShardNo) -> Result<(), Memory>
         ensures routed { self.new.routed.items ≡ self.old.routed.items }
         ensures places { self.new.places ≡ self.old.places }
@@ -90,8 +95,8 @@ impl Routes {
         self.outcomes.push(Outcome::Throttled(shard))
     }
 
-    /// Adds the record of an item that its shard accepts. The record has the next number and arrives at `clock`. The
-    /// item's key and payload are moved and not copied.
+    /// Adds the record of an item that its shard accepts. The record gets the next sequence number, and `clock` is its
+    /// arrival time. The key and the payload of the item are moved into the record, and not copied.
     fn store(&mut self, shard: ShardNo, item: NewItem, clock: Moment) -> Result<(), Memory>
         requires { self.old.next + 1 < 2 ^ 64 }
         ensures routed { OnOk result (self.new.routed.items ≡ self.old.routed.items ++ stored_item shard clock self.old.next item ∷ []) }
@@ -115,8 +120,9 @@ impl Routes {
     }
 }
 
-/// Whether the limits are on and the shard doesn't accept, at `clock`, a record whose payload and key together have
-/// `bytes` bytes. If the shard accepts the record, its window counts it.
+/// Checks a record against the throughput limits of its shard, at the time `clock`. The payload and partition key of
+/// the record together have `bytes` bytes. Returns `true` if the limits are on and the shard doesn't accept the record.
+/// Otherwise counts the record in the shard's window, and returns `false`.
 fn holds_back(
     windows: &mut [Window],
     enforced: bool,
@@ -140,8 +146,9 @@ fn holds_back(
     false
 }
 
-/// Routes one item: adds its record, or the outcome that its shard throttles it. Returns `false` if the shard would
-/// accept the item but the stream's numbers are used up.
+/// Routes one item. If the item's shard accepts the item, its record is added to `routes`. If the shard throttles the
+/// item, only the outcome `Throttled` is added. Returns `false` if the shard would accept the item, but the stream has
+/// no sequence number left for it.
 fn route_one(
     routes: &mut Routes,
     tree: &ShardTree,
@@ -175,9 +182,10 @@ fn route_one(
     Ok(true)
 }
 
-/// Routes items in order. The first accepted item gets the number `first`. Each item is checked and counted after the
-/// items before it. `None` exactly if the stream's numbers don't suffice. After `None` and after `Memory` the windows
-/// are as before; otherwise `restore_windows` can restore them.
+/// Routes the items of a PutRecords request in order. Each accepted item is counted against its shard's limits before
+/// the next item is checked. The accepted items get consecutive sequence numbers, beginning with `first`. Returns
+/// `None` if and only if the stream has too few sequence numbers left. If the result is `None` or memory runs out, the
+/// windows are unchanged. Otherwise `restore_windows` can restore the earlier values of the windows.
 pub fn route_all(
     alloc: Global,
     tree: &ShardTree,
@@ -215,7 +223,7 @@ pub fn route_all(
     Ok(Some(routes))
 }
 
-/// Gives up the reservations in the logs of all these places. The records in the logs are as before.
+/// Releases all memory that is reserved in the log of each shard in `places`. The records in the logs are unchanged.
 fn release_all(logs: &mut [ShardLog], places: &[Place])
     requires { AllByRecursion (λ p. p.shard < length logs.old) places.now }
     ensures { map log_of logs.new ≡ map log_of logs.old }
@@ -226,7 +234,8 @@ fn release_all(logs: &mut [ShardLog], places: &[Place])
     }
 }
 
-/// Reserves memory for a record at each of these places. The records in the logs are as before, even after `Memory`.
+/// For each place in `places`, reserves memory for one record in the log of the place's shard. The records in the logs
+/// are unchanged, even if memory runs out.
 fn reserve_all(logs: &mut [ShardLog], places: &[Place]) -> Result<(), Memory>
     requires { AllByRecursion (λ p. p.shard < length logs.old) places.now }
     ensures same { map log_of logs.new ≡ map log_of logs.old }
@@ -239,7 +248,7 @@ fn reserve_all(logs: &mut [ShardLog], places: &[Place]) -> Result<(), Memory>
     Ok(())
 }
 
-/// Appends each record to the log of its shard. Memory for the records is already reserved.
+/// Appends each record to the log of its shard. Precondition: memory for the records is reserved in the logs.
 fn append_all(logs: &mut [ShardLog], mut routed: VecDeque<Routed>)
     requires { CanTakeAll logs.old routed.items }
     ensures { map log_of logs.new ≡ with_each routed.items (map log_of logs.old) }
@@ -250,7 +259,7 @@ fn append_all(logs: &mut [ShardLog], mut routed: VecDeque<Routed>)
     }
 }
 
-/// Drops the trimmed records in the logs of all these places.
+/// Removes from the log of each shard in `places` the records that arrived at or before the trim horizon `cut`.
 fn settle_each(logs: &mut [ShardLog], places: &[Place], cut: &Option<Moment>)
     ensures { map log_of logs.new ≡ settled_each (floor_of cut.now) places.now (map log_of logs.old) }
 {
@@ -260,8 +269,9 @@ fn settle_each(logs: &mut [ShardLog], places: &[Place], cut: &Option<Moment>)
     }
 }
 
-/// Appends each record to the log of its shard, and drops the trimmed records of these logs. All memory is allocated
-/// before the first record is appended. After `Memory` the logs are as before.
+/// Appends each record to the log of its shard. Then removes from these logs the records that arrived at or before the
+/// trim horizon `cut`. All memory is allocated before the first record is appended. If memory runs out, the records in
+/// the logs are unchanged.
 pub fn put_all(
     logs: &mut [ShardLog],
     routed: VecDeque<Routed>,

@@ -1,4 +1,5 @@
-//! The merges and splits of a scaling.
+//! Carries out the steps of a scaling (UpdateShardCount). Each step is a merge or a split. The journal is the event log
+//! of the server, and an entry is one event.
 ghost use Rattle.std.specs.Prelude.{OnOk, ◌≡◌, ◌+◌, ◌-◌, ◌*◌, ◌^◌, ◌<◌, ◌≤◌, ◌++◌, ◌∷◌, ◌||◌, [], true, false, ℕ, List, length, map, nat_lt, replicate, vec_capacity, vec_len};
 ghost use Rattle.kds_defs.specs.ScaleCommands.{made_by};
 ghost use Rattle.kds_defs.specs.Scaling.{LeadTo, MayStep, after_step, is_start, with_start, without};
@@ -14,7 +15,7 @@ use kds_rate::Window;
 use kds_tree::ShardTree;
 use std::alloc::Global;
 
-/// The number of shards that the steps make: one for each merge, two for each split.
+/// Returns the number of new shards that the steps make: one for each merge, and two for each split.
 pub fn made_by(steps: &[ScaleStep]) -> u32
     requires { length steps.now ≤ 2 ^ 30 }
     ensures { result ≡ made_by steps.now }
@@ -29,16 +30,18 @@ pub fn made_by(steps: &[ScaleStep]) -> u32
     made
 }
 
-/// Whether too few numbers are left for `steps` steps that make `made` shards, if the stream's next sequence number is
-/// `next` and it has `shards` shards.
+/// Whether a stream has too few sequence numbers or shard numbers left for a scaling. `steps` is the number of steps.
+/// Each step uses one sequence number. `made` is the number of new shards. `next` is the stream's next sequence number.
+/// `shards` is the number of shards that the stream has ever had.
 pub fn is_spent(next: u64, steps: u64, shards: u64, made: u64) -> bool
     ensures { result ≡ (nat_lt last_number (next + steps) || nat_lt last_number (shards + made)) }
 {
     next.checked_add(steps).is_none() || shards.checked_add(made).is_none()
 }
 
-/// Merges the shard that ends right before the key `start` with the shard that starts at this key. Memory for the
-/// child is already reserved.
+/// Merges two adjacent open shards, and returns the journal entry of the merge. The range of the first shard ends right
+/// before the hash key `start`, and the range of the second shard starts at this key. Precondition: two such open
+/// shards exist, and memory for their child is reserved.
 fn take_merge(tree: &mut ShardTree, no: StreamNo, start: u128, seq: Seq, clock: Moment) -> Entry
     requires above { 0 < start }
     requires there { is_start (starts_in tree.old.shards) start ≡ true }
@@ -52,7 +55,7 @@ fn take_merge(tree: &mut ShardTree, no: StreamNo, start: u128, seq: Seq, clock: 
     let child = ShardNo(tree.len());
     let shard = tree.home(start - 1);
     let other = tree.home(start);
-    // The merge isn't refused, and its memory is already reserved.
+    // The result isn't needed: the precondition rules out that the merge is refused or that memory runs out.
     let _child = tree.merge(shard, other, seq, clock);
     Entry::Merged {
         stream: no,
@@ -63,7 +66,8 @@ fn take_merge(tree: &mut ShardTree, no: StreamNo, start: u128, seq: Seq, clock: 
     }
 }
 
-/// Splits the shard whose range contains the key `start` at this key. Memory for the children is already reserved.
+/// Splits the open shard whose range contains the hash key `start` at this key, and returns the journal entry of the
+/// split. Precondition: no open shard's range starts at `start`, and memory for the two children is reserved.
 fn take_split(tree: &mut ShardTree, no: StreamNo, start: u128, seq: Seq, clock: Moment) -> Entry
     requires absent { is_start (starts_in tree.old.shards) start ≡ false }
     requires room { 2 ≤ tree.old.spare }
@@ -76,7 +80,7 @@ fn take_split(tree: &mut ShardTree, no: StreamNo, start: u128, seq: Seq, clock: 
     let low = ShardNo(tree.len());
     let high = ShardNo(tree.len() + 1);
     let shard = tree.home(start);
-    // The split isn't refused, and its memory is already reserved.
+    // The result isn't needed: the precondition rules out that the split is refused or that memory runs out.
     let _children = tree.split(shard, start, seq, clock);
     Entry::Split {
         stream: no,
@@ -88,7 +92,8 @@ fn take_split(tree: &mut ShardTree, no: StreamNo, start: u128, seq: Seq, clock: 
     }
 }
 
-/// Takes one step of a scaling. Precondition: the step isn't refused. Memory for it is already reserved.
+/// Carries out one step of a scaling, and returns the journal entry of this step. Precondition: the step won't be
+/// refused, and memory for the shards that it makes is reserved.
 fn take_step(tree: &mut ShardTree, no: StreamNo, step: ScaleStep, seq: Seq, clock: Moment) -> Entry
     requires may { MayStep step (starts_in tree.old.shards) }
     requires room { made_by (step ∷ []) ≤ tree.old.spare }
@@ -104,8 +109,9 @@ fn take_step(tree: &mut ShardTree, no: StreamNo, step: ScaleStep, seq: Seq, cloc
     }
 }
 
-/// Takes the steps in order, and adds their journal entries. The first step has the sequence number `first`. All
-/// memory is already reserved.
+/// Carries out the steps of a scaling in order, and appends a journal entry for each step to `entries`. The first step
+/// gets the sequence number `first`, and each later step gets the next one. Precondition: no step will be refused, and
+/// memory for all new shards and entries is reserved.
 pub fn take_steps(
     tree: &mut ShardTree,
     no: StreamNo,
@@ -130,8 +136,8 @@ pub fn take_steps(
     }
 }
 
-/// Reserves memory for `made` further shards, and for their logs and windows. The existing shards, logs and windows
-/// are unchanged, even after `Memory`.
+/// Reserves memory for further shards, and for their logs and windows. `made` is the number of these shards. The
+/// existing shards, logs and windows are unchanged, even if memory runs out.
 pub fn reserve_shards(
     tree: &mut ShardTree,
     logs: &mut Vec<ShardLog>,
@@ -151,7 +157,9 @@ pub fn reserve_shards(
     Ok(())
 }
 
-/// Adds the logs and windows of `made` new shards. Memory for them is already reserved.
+/// Adds an empty log and an empty window for each new shard. A window counts what its shard accepts within a second.
+/// `made` is the number of new shards, and `start` is their starting sequence number. Precondition: memory for the logs
+/// and windows is reserved.
 pub fn add_shards(
     alloc: Global,
     logs: &mut Vec<ShardLog>,

@@ -1,4 +1,5 @@
-//! The throughput windows of a stream's shards.
+//! The throughput windows of a stream's shards. The window of a shard counts the records and bytes that the shard
+//! accepted in the same second (of time) as its latest put.
 ghost use Rattle.std.specs.Prelude.{◌≡◌, ◌<◌, ◌==◌, ℕ, length, not, IfOk, List};
 ghost use Rattle.std.specs.List.{AllByRecursion};
 ghost use Rattle.kds_defs.specs.Rates.{SizedPut, is_throttled};
@@ -9,7 +10,7 @@ use kds_base::{Memory, Moment, ShardNo};
 use kds_rate::Window;
 use std::alloc::Global;
 
-/// The windows for the `n` shards of a new stream, without puts.
+/// Returns a window for each of the `n` shards of a new stream. These windows have counted no record yet.
 pub fn new_windows(alloc: Global, n: u32) -> Result<Vec<Window>, Memory>
     ensures many { IfOk result (λ windows. length windows.items ≡ n) }
     ensures unused { IfOk result (λ windows. AllByRecursion IsUnused windows.items) }
@@ -21,7 +22,8 @@ pub fn new_windows(alloc: Global, n: u32) -> Result<Vec<Window>, Memory>
     Ok(windows)
 }
 
-/// Whether the shard at the index `i` accepts, at `clock`, a record whose payload and key together have `bytes` bytes.
+/// Whether the throughput limits let the shard at the index `i` accept a record at the time `clock`. The payload and
+/// partition key of the record together have `bytes` bytes.
 pub fn admits_at(windows: &[Window], i: usize, clock: Moment, bytes: u64) -> bool
     requires within { i < length windows.now }
     requires counted { AllByRecursion (IsCounted clock) windows.now }
@@ -30,7 +32,8 @@ pub fn admits_at(windows: &[Window], i: usize, clock: Moment, bytes: u64) -> boo
     windows[i].admits(clock, bytes)
 }
 
-/// Counts, in the window at the index `i`, a put whose payload and key together have `bytes` bytes.
+/// Counts a put at the time `clock` in the window at the index `i`. The payload and partition key of the put together
+/// have `bytes` bytes.
 pub fn count_at(windows: &mut [Window], i: usize, clock: Moment, bytes: u64)
     requires within { i < length windows.old }
     requires counted { AllByRecursion (IsCounted clock) windows.old }
@@ -41,14 +44,16 @@ pub fn count_at(windows: &mut [Window], i: usize, clock: Moment, bytes: u64)
     windows[i].count(clock, bytes);
 }
 
-/// The value that the window of a shard had before a batch counted a record in it.
+/// A copy of a shard's window, saved before a record of a PutRecords request is counted in the window. A window counts
+/// the records and bytes that a shard accepts within a second.
 #[derive(Drop)]
 pub struct SavedWindow {
     pub shard: ShardNo,
     pub window: Window,
 }
 
-/// Restores the saved values of the windows, beginning with the value that was saved last.
+/// Restores the windows to their saved values. If a window was saved several times, its values are restored from the
+/// last to the first, so the window ends with the value that was saved first.
 pub fn restore_windows(windows: &mut [Window], mut saved: Vec<SavedWindow>)
     ensures { windows.new ≡ restored saved.items windows.old }
 {

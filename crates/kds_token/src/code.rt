@@ -1,4 +1,4 @@
-//! Bytes in standard base64 with padding.
+//! Encodes and decodes bytes in standard base64 with padding.
 ghost use Rattle.std.specs.Prelude.{◌≡◌, option_map, IfOk};
 ghost use Rattle.base64.specs.Engines.{standard};
 ghost use Rattle.base64.specs.GeneralPurpose.{decoded_of, encode_of};
@@ -8,7 +8,7 @@ use base64::engine::general_purpose::STANDARD;
 use kds_base::{Memory, Octets};
 use std::alloc::Global;
 
-/// The base64 text of `bytes`, with padding (RFC 4648, section 4).
+/// Returns the base64 text of `bytes`, with padding (RFC 4648, section 4).
 pub fn encoded(alloc: Global, bytes: &[u8]) -> Result<Octets, Memory>
     ensures { IfOk result (λ o. o ≡ encode_of standard bytes.now) }
 {
@@ -16,8 +16,8 @@ pub fn encoded(alloc: Global, bytes: &[u8]) -> Result<Octets, Memory>
     Ok(Octets::unshared(text.into_bytes()))
 }
 
-/// The bytes that a base64 text stands for, as a vector (RFC 4648, section 4). `None` exactly if the text isn't valid
-/// base64.
+/// Decodes a base64 text, and returns its bytes as a vector (RFC 4648, section 4). Returns `None` if and only if the
+/// text isn't valid base64.
 pub fn bytes_of(alloc: Global, text: &[u8]) -> Result<Option<Vec<u8>>, Memory>
     ensures { IfOk result (λ o. option_map (λ v. v.items) o ≡ decoded_of standard text.now) }
 {
@@ -28,7 +28,8 @@ pub fn bytes_of(alloc: Global, text: &[u8]) -> Result<Option<Vec<u8>>, Memory>
     }
 }
 
-/// The bytes that a base64 text stands for (RFC 4648, section 4). `None` exactly if the text isn't valid base64.
+/// Decodes a base64 text, and returns its bytes (RFC 4648, section 4). Returns `None` if and only if the text isn't
+/// valid base64.
 pub fn decoded(alloc: Global, text: &[u8]) -> Result<Option<Octets>, Memory>
     ensures { IfOk result (λ o. o ≡ decoded_of standard text.now) }
 {

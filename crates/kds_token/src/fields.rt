@@ -1,4 +1,4 @@
-//! The fields of a token, which are separated by colons.
+//! Writes and parses the fields of a token. Colons separate the fields.
 ghost use Rattle.std.specs.Prelude.{◌≡◌, ◌≤◌, ◌+◌, ◌++◌, decimal, option_map};
 ghost use Rattle.arrayvec.specs.ArrayString.{array_string_len};
 ghost use Rattle.kds_token.specs.Fields.{field, moment_of};
@@ -8,7 +8,8 @@ use itoa::Buffer;
 use kds_base::{Moment, read_u64};
 use memchr::memchr;
 
-/// The part of the text before its first colon, and the part after it. `None` if the text has no colon.
+/// Splits the text at its first colon, and returns the parts before and after this colon. Returns `None` if the text
+/// has no colon.
 pub fn split_at_colon(text: &[u8]) -> Option<(&[u8], &[u8])>
     ensures { option_map (λ p. (p.0.now, p.1.now)) result ≡ field text.now }
 {
@@ -32,7 +33,8 @@ pub fn put_number(text: &mut ArrayString<96>, n: u64)
     text.push_str(digits.format(n));
 }
 
-/// The moment that the text gives as a decimal number of milliseconds. `None` if the text isn't such a number.
+/// Parses a moment: a number of milliseconds below 2^62, in decimal, without needless leading zeros. Returns `None` for
+/// every other text.
 pub fn moment(text: &[u8]) -> Option<Moment>
     ensures { result ≡ moment_of text.now }
 {

@@ -1,4 +1,4 @@
-//! Writing and reading the ids of shards, without allocating memory.
+//! Writes and parses the ids of shards, without allocating memory.
 ghost use Rattle.std.specs.Prelude.{◌≡◌, ◌<◌, ◌≤◌, ◌-◌, ◌+◌, ◌++◌, ◌^◌, ℕ, List, Some, codes, length, replicate};
 ghost use Rattle.arrayvec.specs.ArrayString.{array_string_len};
 ghost use Rattle.kds_token.specs.Ids.{shard_id as id_text, id_of};
@@ -7,13 +7,14 @@ use arrayvec::ArrayString;
 use itoa::Buffer;
 use kds_base::{ShardNo, read_digits};
 
-/// The text before the number in a shard's id.
+/// The prefix of every shard id. The number of the shard comes after this prefix.
 const PREFIX: &[u8] = b"shardId-";
 
-/// The least number of digits in a shard's id; a shorter number is padded with zeros.
+/// The least number of digits after the prefix of a shard id. A shard number with fewer digits is padded with zeros.
 const DIGITS: usize = 12;
 
-/// The text before a shard number of `digits` digits: `shardId-` and the zeros that pad the number.
+/// Returns the part of a shard id that comes before the digits of the shard's number, if this number has `digits`
+/// digits. This part is `shardId-`, followed by the zeros that pad the number.
 fn before(digits: usize) -> ArrayString<28>
     requires { digits ≤ 20 }
     ensures bytes { result.bytes ≡ codes "shardId-" ++ replicate (12 - digits) 48 }
@@ -29,8 +30,8 @@ fn before(digits: usize) -> ArrayString<28>
     id
 }
 
-/// The id of a shard: `shardId-` and the shard's number, padded with zeros to twelve digits (Kinesis API Reference,
-/// Shard, ShardId).
+/// Returns the id of a shard: `shardId-`, followed by the shard's number, which is padded with zeros to twelve digits
+/// (Kinesis API Reference, Shard, ShardId).
 pub fn shard_id(shard: ShardNo) -> ArrayString<28>
     ensures { result.bytes ≡ id_text shard }
 {
@@ -41,7 +42,8 @@ pub fn shard_id(shard: ShardNo) -> ArrayString<28>
     id
 }
 
-/// The number that the digits after the prefix spell. If the text is a shard's id, it is the number of that shard.
+/// Returns the decimal number after the prefix in `text`. If `text` is a shard id, the result is the number of that
+/// shard. The result can be a number even if `text` isn't a shard id, for example because a padding zero is missing.
 fn number_of(text: &[u8]) -> Option<u64>
     ensures { (n : ℕ) → n < 2 ^ 64 → text.now ≡ id_text n → result ≡ Some n }
 {
@@ -49,7 +51,8 @@ fn number_of(text: &[u8]) -> Option<u64>
     read_digits(digits)
 }
 
-/// The number of the shard with this id. `None` exactly if the text isn't the text that `shard_id` writes for a shard.
+/// Parses a shard id, and returns the number of the shard. Returns `None` if and only if `text` isn't a text that
+/// `shard_id` writes.
 pub fn read_shard_id(text: &[u8]) -> Option<ShardNo>
     ensures { result ≡ id_of text.now }
 {
@@ -65,8 +68,8 @@ pub fn read_shard_id(text: &[u8]) -> Option<ShardNo>
     }
 }
 
-/// The id of a shard reads back as the shard's number, and every text that reads as a shard's number is the id of that
-/// shard.
+/// States that each shard has exactly one id. If the id of a shard is parsed, the result is the number of the shard. If
+/// parsing a text returns a number, the text is the id of the shard with this number.
 pub fn one_id()
     ensures reads { (n : ℕ) → n < 2 ^ 64 → id_of (id_text n) ≡ Some n }
     ensures spells { (text : List ℕ) (n : ℕ) → id_of text ≡ Some n → text ≡ id_text n }

@@ -1,4 +1,4 @@
-//! The tokens of shard iterators.
+//! Writes and parses the tokens of shard iterators. Such a token is the ShardIterator text that a client receives.
 ghost use Rattle.std.specs.Prelude.{◌≡◌, IfOk};
 ghost use Rattle.kds_token.specs.Tokens.{iter_text, iter_token, iter_from, iter_in, iter_of, ReadsAsIter};
 
@@ -9,7 +9,7 @@ use kds_base::{Memory, Octets, ShardNo, StreamNo, read_u64};
 use kds_defs::Iter;
 use std::alloc::Global;
 
-/// The first field of the token of a shard iterator.
+/// A token is a text of several fields, encoded in base64. This is the first field in the token of a shard iterator.
 const KIND: &[u8] = b"KI1";
 
 fn text_of(iter: &Iter) -> ArrayString<96>
@@ -27,7 +27,7 @@ fn text_of(iter: &Iter) -> ArrayString<96>
     text
 }
 
-/// The token of a shard iterator (Kinesis API Reference, GetShardIterator, ShardIterator).
+/// Returns the token of a shard iterator (Kinesis API Reference, GetShardIterator, ShardIterator).
 pub fn write_iter(alloc: Global, iter: &Iter) -> Result<Octets, Memory>
     ensures { IfOk result (λ t. t ≡ iter_token iter.now) }
 {
@@ -65,7 +65,7 @@ fn in_text(text: &[u8]) -> Option<Iter>
     }
 }
 
-/// The shard iterator that the token stands for. `None` exactly if the text isn't the token of a shard iterator.
+/// Parses the token of a shard iterator. Returns `None` if and only if `text` isn't the token of a shard iterator.
 pub fn read_iter(alloc: Global, text: &[u8]) -> Result<Option<Iter>, Memory>
     ensures exact { IfOk result (λ o. ReadsAsIter text.now o) }
     ensures value { IfOk result (λ o. o ≡ iter_of text.now) }

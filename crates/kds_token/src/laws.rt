@@ -1,12 +1,15 @@
-//! Laws of the tokens.
+//! A law about the tokens of shard iterators and of positions in listings. A law is a theorem, stated as the contract
+//! of an empty function.
 ghost use Rattle.std.specs.Prelude.{◌≡◌, ◌≢◌, ℕ, List};
 ghost use Rattle.base64.specs.GeneralPurpose.{IsBytes};
 ghost use Rattle.kds_defs.specs.declared.reply.Iter.{Iter};
 ghost use Rattle.kds_defs.specs.declared.reply.Page.{Page};
 ghost use Rattle.kds_token.specs.Tokens.{iter_of, iter_token, page_of, page_token, IsIter, IsPage, ReadsAsIter, ReadsAsPage};
 
-/// Each token stands for exactly one shard iterator, or for exactly one position in a listing. If a text reads as an
-/// iterator or as a position, it is the token that is written for this iterator or position.
+/// States that each token belongs to exactly one shard iterator, or to exactly one position in a listing. Different
+/// iterators have different tokens, different positions have different tokens, and no iterator has the token of a
+/// position. A byte string is parsed as a certain iterator if and only if it is this iterator's token. It is parsed as
+/// a certain position if and only if it is this position's token.
 pub fn one_token()
     ensures iterators { (i j : Iter) → IsIter i → IsIter j → iter_token i ≡ iter_token j → i ≡ j }
     ensures pages { (p q : Page) → IsPage p → IsPage q → page_token p ≡ page_token q → p ≡ q }

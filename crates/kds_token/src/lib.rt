@@ -1,5 +1,5 @@
-//! Reading and writing of shard ids, and of the tokens of shard iterators and listings; how long tokens are valid; and
-//! the base64 in which tokens are written.
+//! Writes and parses shard ids and tokens. A token is the text of a shard iterator, or of a position in a listing of
+//! shards (NextToken). The crate also decides whether a token has expired, and decodes base64, the encoding of tokens.
 #![tactic(auto)]
 
 mod code;

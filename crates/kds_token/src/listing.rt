@@ -1,4 +1,4 @@
-//! The tokens of positions in a listing of shards.
+//! Writes and parses the tokens of positions in a listing of shards. Such a token is the NextToken text of ListShards.
 ghost use Rattle.std.specs.Prelude.{◌≡◌, IfOk};
 ghost use Rattle.kds_token.specs.Tokens.{page_text, page_token, page_from, page_in, page_of, ReadsAsPage};
 
@@ -9,7 +9,8 @@ use kds_base::{Memory, Octets, ShardNo, StreamNo, read_u64};
 use kds_defs::Page;
 use std::alloc::Global;
 
-/// The first field of the token of a listing.
+/// A token is a text of several fields, encoded in base64. This is the first field in the token of a position in a
+/// listing.
 const KIND: &[u8] = b"KT1";
 
 fn text_of(page: &Page) -> ArrayString<96>
@@ -25,7 +26,7 @@ fn text_of(page: &Page) -> ArrayString<96>
     text
 }
 
-/// The token of a position in a listing of shards (Kinesis API Reference, ListShards, NextToken).
+/// Returns the token of a position in a listing of shards (Kinesis API Reference, ListShards, NextToken).
 pub fn write_page(alloc: Global, page: &Page) -> Result<Octets, Memory>
     ensures { IfOk result (λ t. t ≡ page_token page.now) }
 {
@@ -60,8 +61,8 @@ fn in_text(text: &[u8]) -> Option<Page>
     }
 }
 
-/// The position in a listing of shards that the token stands for. `None` exactly if the text isn't the token of a
-/// listing.
+/// Parses the token of a position in a listing of shards. Returns `None` if and only if `text` isn't the token of such
+/// a position.
 pub fn read_page(alloc: Global, text: &[u8]) -> Result<Option<Page>, Memory>
     ensures exact { IfOk result (λ o. ReadsAsPage text.now o) }
     ensures value { IfOk result (λ o. o ≡ page_of text.now) }

@@ -1,5 +1,5 @@
-//! An index that finds the children of a shard. A shard has at most two children, which are adjacent in the list of
-//! shards (decision 118).
+//! Finds the children of a shard through an index, which has the number of each shard's first child. A shard has at
+//! most two children. Two children of the same shard are next to each other in the list of shards (decision 118).
 ghost use Rattle.std.specs.Prelude.{◌≡◌, ◌<◌, ◌≤◌, drop, length, map, replicate, slice_get, slice_set, take, vec_capacity, vec_len, IfOk, None, Some};
 ghost use Rattle.kds_defs.specs.Shards.{children_among, shown};
 ghost use Rattle.kds_tree.specs.Families.{AreFamilies, told_of};
@@ -9,15 +9,16 @@ use kds_base::{Items, Memory, ShardNo};
 use kds_defs::Shard;
 use std::alloc::Global;
 
-/// The index for `count` shards that have no children.
+/// Returns the index for `count` shards that have no children. The index has, for each shard, the number of its first
+/// child, if any.
 pub fn no_children(alloc: Global, count: usize) -> Result<Vec<Option<ShardNo>>, Memory>
     ensures { IfOk result (λ them. them.items ≡ replicate count None) }
 {
     Ok(Vec::from_elem(alloc, None, count)?)
 }
 
-/// At most two shards that include all children of shard `no`. They are found with `first_children`, the list of each
-/// shard's first child.
+/// Returns a slice of at most two shards that contains all children of shard `no`. The function finds the slice through
+/// `first_children`, which has the number of each shard's first child.
 pub fn family_of<'a>(
     shards: &'a [KeptShard],
     first_children: &[Option<ShardNo>],
@@ -32,7 +33,7 @@ pub fn family_of<'a>(
     }
 }
 
-/// The first child of shard `no`, or `None` if the shard doesn't exist or has no child.
+/// Returns the number of the first child of shard `no`, or `None` if shard `no` doesn't exist or has no child.
 fn first_child(first_children: &[Option<ShardNo>], no: ShardNo) -> Option<ShardNo>
     ensures { result ≡ told_of (slice_get first_children.now no) }
 {
@@ -42,7 +43,7 @@ fn first_child(first_children: &[Option<ShardNo>], no: ShardNo) -> Option<ShardN
     }
 }
 
-/// The shard with the number `first` and the shard after it, if they exist.
+/// Returns a slice of at most two shards: the shard with the number `first` and the shard after it, if they exist.
 fn pair_at(shards: &[KeptShard], first: ShardNo) -> &[KeptShard]
     ensures { result.now ≡ take 2 (drop first shards.now) }
 {
@@ -51,7 +52,8 @@ fn pair_at(shards: &[KeptShard], first: ShardNo) -> &[KeptShard]
     pair
 }
 
-/// The shards among `shards` whose parent or adjacent parent is shard `no`, as replies show them.
+/// Returns those of `shards` whose parent or adjacent parent is shard `no`. The result has the type `Shard`, in which
+/// replies to clients describe shards.
 pub fn children_in(alloc: Global, shards: &[KeptShard], no: ShardNo) -> Result<Items<Shard>, Memory>
     ensures { IfOk result (λ children. children ≡ map shown (children_among no shards.now)) }
 {
@@ -64,7 +66,7 @@ pub fn children_in(alloc: Global, shards: &[KeptShard], no: ShardNo) -> Result<I
     Ok(children)
 }
 
-/// Records `child` as the first child of the shards `shard` and `other`.
+/// Sets the first child of shard `shard`, and of shard `other`, to `child`.
 pub fn set_first_child(
     first_children: &mut Vec<Option<ShardNo>>,
     shard: ShardNo,

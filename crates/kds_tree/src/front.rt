@@ -1,4 +1,5 @@
-//! The expired shards at the front of a stream. A listing skips all of them at once (decision 119).
+//! The expired shards at the beginning of a stream's list of shards. A shard has expired if it was closed at or before
+//! the trim horizon. A listing of the shards skips all of these shards at once (decision 119).
 ghost use Rattle.std.specs.Prelude.{◌≡◌, ◌≤◌, true};
 ghost use Rattle.kds_defs.specs.Streams.{floor_of};
 ghost use Rattle.kds_tree.specs.Front.{AreExpired};
@@ -6,15 +7,15 @@ ghost use Rattle.kds_tree.specs.Front.{AreExpired};
 use crate::kept::KeptShard;
 use kds_base::Moment;
 
-/// The first `count` shards of a stream, which had all expired at `cut`. An expired shard stays expired, so a listing
-/// at this cut or a later one can begin after these shards.
+/// The first `count` shards of a stream, all of which had expired at the trim horizon `cut`. An expired shard stays
+/// expired. So a listing at this trim horizon or a later one can begin after these shards.
 #[derive(Clone, Copy, Drop)]
 pub struct ExpiredFront {
     pub count: usize,
     pub cut: Option<Moment>,
 }
 
-/// Whether `cut` is the same as `other` or later.
+/// Whether the trim horizon `cut` is equal to `other` or later than `other`. `None` is earlier than every time.
 fn is_no_earlier(cut: &Option<Moment>, other: &Option<Moment>) -> bool
     ensures { result ≡ true → floor_of other.now ≤ floor_of cut.now }
 {
@@ -25,7 +26,8 @@ fn is_no_earlier(cut: &Option<Moment>, other: &Option<Moment>) -> bool
     }
 }
 
-/// The number of shards at the front that a listing at `cut` skips.
+/// Returns the number of expired shards at the beginning of `shards` that a listing at the trim horizon `cut` skips.
+/// The result is 0 if `cut` is earlier than the trim horizon of `front`, and otherwise the count of `front`.
 pub fn passed_at(front: &ExpiredFront, shards: &[KeptShard], cut: &Option<Moment>) -> usize
     ensures { AreExpired (floor_of front.now.cut) front.now.count shards.now → AreExpired (floor_of cut.now) result shards.now }
 {
@@ -37,8 +39,8 @@ pub fn passed_at(front: &ExpiredFront, shards: &[KeptShard], cut: &Option<Moment
     }
 }
 
-/// The front after it has moved on to `cut`: it extends up to the first shard that hasn't expired at `cut`. If `cut`
-/// is earlier than the front's own cut, the front is unchanged.
+/// Returns `front` extended to the later trim horizon `cut`: the result has all shards before the first shard that
+/// hasn't expired at `cut`. If `cut` is earlier than the trim horizon of `front`, the result is equal to `front`.
 pub fn moved_on(front: &ExpiredFront, shards: &[KeptShard], cut: Option<Moment>) -> ExpiredFront
     ensures { AreExpired (floor_of front.now.cut) front.now.count shards.now → AreExpired (floor_of result.cut) result.count shards.now }
 {
@@ -52,8 +54,8 @@ pub fn moved_on(front: &ExpiredFront, shards: &[KeptShard], cut: Option<Moment>)
     ExpiredFront { count, cut }
 }
 
-/// The index of the first shard, from the index `start` on, that hasn't expired at the cut, or the number of shards if
-/// all have expired.
+/// Returns the index of the first shard, from the index `start` on, that hasn't expired at the trim horizon `cut`. If
+/// all shards from `start` on have expired, returns the number of shards.
 fn first_listed(shards: &[KeptShard], start: usize, cut: &Option<Moment>) -> usize
     ensures { AreExpired (floor_of cut.now) start shards.now → AreExpired (floor_of cut.now) result shards.now }
 {

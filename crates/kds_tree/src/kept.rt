@@ -1,4 +1,4 @@
-//! One shard of a stream, as the tree keeps it.
+//! One shard of a stream, as `ShardTree` keeps it.
 ghost use Rattle.std.specs.Prelude.{◌≡◌, ◌≤◌, not, length, Some, None};
 ghost use Rattle.kds_base.specs.Span.{covers};
 ghost use Rattle.kds_defs.specs.Shards.{is_open, is_child, is_closed_below, new_shard, shown, with_closed};
@@ -10,7 +10,8 @@ use kds_base::{Moment, Range, Seq, ShardNo};
 use kds_defs::Shard;
 use std::marker::Model;
 
-/// A shard, and the moment at which it was closed, if it is closed. Contracts see all its values.
+/// A shard, and the time at which it was closed, if it is closed. In contracts, the value of a `KeptShard` has the
+/// fields of the shard and this time.
 #[derive(Clone, Copy)]
 pub struct KeptShard {
     shard: Shard,
@@ -34,7 +35,7 @@ impl Model for KeptShard {
 }
 
 impl KeptShard {
-    /// A new open shard.
+    /// Returns a new open shard, whose starting sequence number is `start`.
     pub fn new(
         no: ShardNo,
         range: Range,
@@ -57,21 +58,21 @@ impl KeptShard {
         }
     }
 
-    /// The shard as replies show it.
+    /// Returns the shard as a `Shard`, the type in which replies to clients describe shards.
     pub fn shard(&self) -> &Shard
         ensures { result.now ≡ shown self.now }
     {
         &self.shard
     }
 
-    /// The shard's range of hash keys.
+    /// Returns the shard's range of hash keys.
     pub fn range(&self) -> Range
         ensures { result ≡ self.now.range }
     {
         self.shard.range
     }
 
-    /// The shard's number, and the hash key at which its range starts.
+    /// Returns the number of the shard, and the hash key at which its range starts.
     pub fn start(&self) -> OpenStart
         ensures { result ≡ start_of self.now self.now.no }
     {
@@ -81,7 +82,7 @@ impl KeptShard {
         }
     }
 
-    /// Whether the shard is open, so that it accepts records: it hasn't been split or merged.
+    /// Whether the shard is open. An open shard hasn't been split or merged, so it accepts records.
     pub fn is_open(&self) -> bool
         ensures { result ≡ is_open self.now }
     {
@@ -95,7 +96,7 @@ impl KeptShard {
         self.shard.parent == Some(no) || self.shard.adjacent == Some(no)
     }
 
-    /// Whether the shard has expired at the cut: it was closed at or before the cut.
+    /// Whether the shard has expired, which means that it was closed at or before the trim horizon `cut`.
     pub fn is_expired(&self, cut: &Option<Moment>) -> bool
         ensures { result ≡ is_closed_below (floor_of cut.now) self.now }
     {
@@ -105,7 +106,7 @@ impl KeptShard {
         }
     }
 
-    /// Closes the shard at `clock`, with the ending sequence number `seq`.
+    /// Closes the shard at the time `clock`, with the ending sequence number `seq`.
     pub fn close(&mut self, seq: Seq, clock: Moment)
         ensures { self.new ≡ record self.old { closing = Some (record { number = seq; clock = clock }) } }
     {

@@ -1,4 +1,4 @@
-//! The shards of a stream: creation, finding the shard of a hash key, listings, splits and merges.
+//! Creates the shards of a stream, finds the open shard for a hash key, and lists, splits and merges shards.
 ghost use Rattle.std.specs.Prelude.{◌≡◌, ◌+◌, ◌-◌, ◌^◌, ◌<◌, ◌≤◌, ℕ, drop, min, length, map, take, slice_get, Some, IsSome, IfOk, IfSome, OnOk, OnErr, IsOk};
 ghost use Rattle.std.specs.List.{AllByRecursion, filter};
 ghost use Rattle.std.specs.Option.{option_map};
@@ -22,17 +22,18 @@ use kds_defs::{Refusal, Shard};
 use std::alloc::Global;
 use std::marker::Model;
 
-/// The shards of one stream in the order of their numbers, from 0. Contracts see the values of each shard, and the
-/// number of further shards for which memory is reserved. The ranges of the open shards always partition the hash
-/// keys.
+/// All shards of one stream, in the order of their numbers, which begin with 0. The ranges of the open shards always
+/// partition the hash keys, so each hash key is in the range of exactly one open shard. In contracts, the value of a
+/// `ShardTree` has the fields of each shard, and the number of further shards for which memory is reserved.
 #[derive(Drop)]
 pub struct ShardTree {
     shards: Vec<KeptShard>,
-    /// The starts of the open shards, in rising order.
+    /// The starts of the open shards, in rising order. The start of a shard is the hash key at which its range starts.
     starts: Vec<OpenStart>,
-    /// The first child of each shard, if any, in the order of the shards' numbers (decision 118).
+    /// For each shard, the number of its first child, if the shard has children. The list is in the order of the
+    /// shards' numbers (decision 118).
     first_children: Vec<Option<ShardNo>>,
-    /// The expired shards at the front of the stream.
+    /// The expired shards at the beginning of `shards`. Listings skip these shards.
     front: ExpiredFront,
 }
 
@@ -56,7 +57,7 @@ impl Model for ShardTree {
 }
 
 impl ShardTree {
-    /// The shards of a new stream: `n` open shards with uniform ranges.
+    /// Returns the shards of a new stream: `n` open shards with uniform ranges of hash keys.
     pub fn new(alloc: Global, n: u32) -> Result<ShardTree, Memory>
         requires least { 1 ≤ n }
         requires most { n ≤ MOST_SHARDS }
@@ -80,7 +81,7 @@ impl ShardTree {
         })
     }
 
-    /// The number of shards that were ever made, including closed shards.
+    /// Returns the number of shards that the stream has ever had, including closed shards.
     pub fn len(&self) -> u64
         ensures value { result ≡ length self.now.shards }
         ensures numbered { AreNumbered 0 self.now.shards }
@@ -91,14 +92,14 @@ impl ShardTree {
         self.shards.len() as u64
     }
 
-    /// The number of open shards, or `u32::MAX` if there are more.
+    /// Returns the number of open shards, or `u32::MAX` if there are more.
     pub fn open_count(&self) -> u32
         ensures { result ≡ min (length (filter is_open self.now.shards)) (2 ^ 32 - 1) }
     {
         self.starts.len().min(u32::MAX as usize) as u32
     }
 
-    /// The shard with the number `no`. `None` exactly if it was never made.
+    /// Returns the shard with the number `no`, or `None` if the stream never had a shard with this number.
     pub fn shard(&self, no: ShardNo) -> Option<&Shard>
         ensures value { option_map (λ s. s.now) result ≡ option_map shown (slice_get self.now.shards no) }
         ensures numbered { IfSome result (λ s. s.now.no ≡ no) }
@@ -106,7 +107,7 @@ impl ShardTree {
         shown_at(&self.shards, no)
     }
 
-    /// The open shard whose range contains the hash key `hash`.
+    /// Returns the number of the open shard whose range contains the hash key `hash`. There is exactly one such shard.
     pub fn home(&self, hash: u128) -> ShardNo
         ensures value { result ≡ home_among (filter is_open self.now.shards) hash }
         ensures found { IsHome self.now.shards hash result }
@@ -115,7 +116,7 @@ impl ShardTree {
         home_of(&self.starts, hash)
     }
 
-    /// Whether the shard has expired at the cut: it was closed at or before the cut.
+    /// Whether shard `no` has expired, which means that it was closed at or before the trim horizon `cut`.
     pub fn expired(&self, no: ShardNo, cut: Option<Moment>) -> bool
         ensures { result ≡ was_expired (floor_of cut) (slice_get self.now.shards no) }
     {
@@ -125,8 +126,9 @@ impl ShardTree {
         }
     }
 
-    /// At most `limit` shards that haven't expired at the cut, in order and beginning after the shard `after`; and
-    /// whether more such shards follow (Kinesis API Reference, ListShards).
+    /// Returns a page of the shards that haven't expired at the trim horizon `cut`, in the order of their numbers
+    /// (Kinesis API Reference, ListShards). The page begins after the shard `after`, and has at most `limit` shards.
+    /// The returned `bool` says whether more unexpired shards follow the page.
     pub fn listed(
         &self,
         cut: Option<Moment>,
@@ -144,15 +146,16 @@ impl ShardTree {
         page_of(*self.shards.allocator(), shards, &cut, limit)
     }
 
-    /// Remembers how many shards at the front of the stream have expired at the cut, so that listings can skip them.
-    /// The shards themselves are unchanged.
+    /// Remembers how many shards at the beginning of the list have expired at the trim horizon `cut`, so that listings
+    /// can skip these shards. The shards themselves are unchanged.
     pub fn pass_expired(&mut self, cut: Option<Moment>)
         ensures { self.new ≡ self.old }
     {
         self.front = moved_on(&self.front, &self.shards, cut);
     }
 
-    /// The children of shard `no`, in order: the shards whose parent or adjacent parent is shard `no`.
+    /// Returns the children of shard `no`, in the order of their numbers. A child of shard `no` is a shard whose parent
+    /// or adjacent parent is shard `no`.
     pub fn children(&self, no: ShardNo) -> Result<Items<Shard>, Memory>
         ensures { IfOk result (λ shards. shards ≡ map shown (children_among no self.now.shards)) }
     {
@@ -160,7 +163,7 @@ impl ShardTree {
         children_in(*self.shards.allocator(), family, no)
     }
 
-    /// The hash keys at which the ranges of the open shards start, in rising order.
+    /// Returns the hash keys at which the ranges of the open shards start, in rising order.
     pub fn starts(&self) -> Result<Items<u128>, Memory>
         ensures value { IfOk result (λ starts. starts ≡ starts_among (filter is_open self.now.shards)) }
         ensures partition { scaling.AreStarts (starts_among (filter is_open self.now.shards)) }
@@ -168,7 +171,7 @@ impl ShardTree {
         keys_of(*self.shards.allocator(), &self.starts)
     }
 
-    /// Reserves memory for `shards` further shards. The existing shards are unchanged, even after `Memory`.
+    /// Reserves memory for `shards` further shards. The existing shards are unchanged, even if memory runs out.
     pub fn reserve(&mut self, shards: u32) -> Result<(), Memory>
         ensures same { self.new.shards ≡ self.old.shards }
         ensures spare { OnOk result (shards ≤ self.new.spare) }
@@ -180,7 +183,8 @@ impl ShardTree {
         Ok(())
     }
 
-    /// The ranges of the two children of a split, or the reason why the split is refused.
+    /// Returns the ranges that a split of `shard` at the hash key `at` would give to the two children, or the reason
+    /// why the split is refused.
     fn split_ranges(&self, shard: ShardNo, at: u128) -> Result<(Range, Range), Refusal>
         ensures { result ≡ answer_by (split_refusal self.now.shards shard at) (split_parts self.now.shards shard at) }
     {
@@ -191,17 +195,20 @@ impl ShardTree {
         }
     }
 
-    /// The reason why a split of the shard at the hash key `at` is refused, or `None` if it isn't: `NoShard` if the
-    /// shard was never made, `ShardClosed` if it is closed, `BadSplit` if one part of its range would be empty.
+    /// Returns the reason why a split of the shard at the hash key `at` would be refused, or `None` if it would be
+    /// accepted. The reason is `NoShard` if the stream never had this shard, `ShardClosed` if the shard is closed, and
+    /// `BadSplit` if one part of the shard's range would be empty.
     pub fn split_refusal(&self, shard: ShardNo, at: u128) -> Option<Refusal>
         ensures { result ≡ split_refusal self.now.shards shard at }
     {
         self.split_ranges(shard, at).err()
     }
 
-    /// Splits a shard at the hash key `at`. The shard is closed at `clock` with the sequence number `seq`, and its two
-    /// children are added at the end, the lower child first. `split_refusal` says when the split is refused. If memory
-    /// is reserved for two shards, `Memory` isn't returned (Kinesis API Reference, SplitShard).
+    /// Splits a shard at the hash key `at`, and returns the numbers of its two children (Kinesis API Reference,
+    /// SplitShard). The shard is closed at the time `clock`, with the ending sequence number `seq`. The children are
+    /// added at the end of the list, the child with the lower range first. The split is refused if `split_refusal`
+    /// returns a reason. If the split is refused or memory runs out, the shards are unchanged. Memory can't run out if
+    /// memory for two more shards is reserved.
     pub fn split(
         &mut self,
         shard: ShardNo,
@@ -240,7 +247,8 @@ impl ShardTree {
         Ok(Ok((low, high)))
     }
 
-    /// The range of the child of a merge, or the reason why the merge is refused.
+    /// Returns the range that a merge of `shard` and `other` would give to the child, or the reason why the merge is
+    /// refused.
     fn merged_range(&self, shard: ShardNo, other: ShardNo) -> Result<Range, Refusal>
         ensures { result ≡ answer_by (merge_refusal self.now.shards shard other)
             (joined (range_of (slice_get self.now.shards shard)) (range_of (slice_get self.now.shards other))) }
@@ -262,18 +270,20 @@ impl ShardTree {
         }
     }
 
-    /// The reason why a merge of the shards `shard` and `other` is refused, or `None` if it isn't: `NoShard` if either
-    /// was never made, `ShardClosed` if either is closed, `NotAdjacent` if neither shard's range starts right after
-    /// the other's ends.
+    /// Returns the reason why a merge of the shards `shard` and `other` would be refused, or `None` if it would be
+    /// accepted. The reason is `NoShard` if the stream never had one of the two shards, `ShardClosed` if one of them is
+    /// closed, and `NotAdjacent` if the ranges of the two shards aren't next to each other.
     pub fn merge_refusal(&self, shard: ShardNo, other: ShardNo) -> Option<Refusal>
         ensures { result ≡ merge_refusal self.now.shards shard other }
     {
         self.merged_range(shard, other).err()
     }
 
-    /// Merges two adjacent shards. Both are closed at `clock` with the sequence number `seq`, and their child is added
-    /// at the end; its parent is `shard`, its adjacent parent `other`. `merge_refusal` says when the merge is refused.
-    /// If memory is reserved for one shard, `Memory` isn't returned (Kinesis API Reference, MergeShards).
+    /// Merges two adjacent shards, and returns the number of their child (Kinesis API Reference, MergeShards). Both
+    /// shards are closed at the time `clock`, with the ending sequence number `seq`. The child is added at the end of
+    /// the list. Its parent is `shard`, and its adjacent parent is `other`. The merge is refused if `merge_refusal`
+    /// returns a reason. If the merge is refused or memory runs out, the shards are unchanged. Memory can't run out if
+    /// memory for one more shard is reserved.
     pub fn merge(
         &mut self,
         shard: ShardNo,
@@ -310,7 +320,7 @@ impl ShardTree {
     }
 }
 
-/// The starts of the open shards among `shards`, in rising order.
+/// Returns the starts of those of `shards` that are open, in rising order of their hash keys.
 fn open_starts(alloc: Global, shards: &[KeptShard]) -> Result<Vec<OpenStart>, Memory>
     ensures { AreNumbered 0 shards.now → IfOk result (λ starts. AreStarts starts.items shards.now) }
 {
@@ -324,7 +334,7 @@ fn open_starts(alloc: Global, shards: &[KeptShard]) -> Result<Vec<OpenStart>, Me
     Ok(starts)
 }
 
-/// The hash keys of the starts, in the same order.
+/// Returns the hash keys of `starts`, in the same order.
 fn keys_of(alloc: Global, starts: &[OpenStart]) -> Result<Items<u128>, Memory>
     ensures { IfOk result (λ keys. keys ≡ starting_keys starts.now) }
 {
@@ -335,8 +345,8 @@ fn keys_of(alloc: Global, starts: &[OpenStart]) -> Result<Items<u128>, Memory>
     Ok(keys)
 }
 
-/// The index of the shard that follows the shard with the number `after`, or 0 if `after` is `None`. A shard's number
-/// is its index.
+/// Returns the index of the shard that follows the shard `after`, or 0 if `after` is `None`. The index of each shard is
+/// its number. If no shard follows, returns the number of shards.
 fn start_behind(shards: &[KeptShard], after: Option<ShardNo>) -> usize
     ensures there { result ≤ length shards.now }
     ensures behind { AreNumbered 0 shards.now → drop result shards.now ≡ filter (is_after_shard after) shards.now }
@@ -348,7 +358,8 @@ fn start_behind(shards: &[KeptShard], after: Option<ShardNo>) -> usize
     }
 }
 
-/// At most `limit` shards that haven't expired at the cut, in order; and whether more such shards follow.
+/// Returns those of `shards` that haven't expired at the trim horizon `cut`. If there are more than `limit` such
+/// shards, only the first `limit` of them are returned. The returned `bool` says whether more unexpired shards follow.
 fn page_of(
     alloc: Global,
     shards: &[KeptShard],
@@ -370,7 +381,8 @@ fn page_of(
     Ok((listed, false))
 }
 
-/// The shard with the number `no`, as replies show it.
+/// Returns the shard with the number `no` as a `Shard`, the type in which replies to clients describe shards. The
+/// result is `None` if there is no such shard.
 fn shown_at(shards: &[KeptShard], no: ShardNo) -> Option<&Shard>
     ensures { option_map (λ s. s.now) result ≡ option_map shown (slice_get shards.now no) }
 {

@@ -1,4 +1,4 @@
-//! Descriptions of a stream as a whole.
+//! Describes a stream as a whole (DescribeStream and DescribeStreamSummary).
 ghost use Rattle.std.specs.Prelude.{◌≡◌, IfOk};
 ghost use Rattle.kds_defs.specs.Histories.{answer_of};
 ghost use Rattle.kds_defs.specs.Journal.{Journal};
@@ -12,7 +12,7 @@ use kds_defs::{About, Answer, Reply};
 use std::alloc::Global;
 
 impl Stream {
-    /// The stream's name, creation time and retention.
+    /// Returns the stream's name, its creation time, and its retention period in hours.
     fn about(&self, alloc: Global) -> Result<About, Memory>
         ensures { IfOk result (λ a. a ≡ record { name = self.now.name; made = self.now.made; hours = self.now.hours }) }
     {
@@ -24,8 +24,9 @@ impl Stream {
         })
     }
 
-    /// The description of the stream; at most `limit` of its listed shards, beginning after the shard `after`; and
-    /// whether more listed shards follow (Kinesis API Reference, DescribeStream).
+    /// Returns the description of the stream with a page of its listed (unexpired) shards (Kinesis API Reference,
+    /// DescribeStream). The page begins after the shard `after`, and has at most `limit` shards. The reply also says
+    /// whether more listed shards follow the page.
     pub fn describe(
         &self,
         alloc: Global,
@@ -44,7 +45,8 @@ impl Stream {
         }))
     }
 
-    /// The description of the stream, and its number of open shards (Kinesis API Reference, DescribeStreamSummary).
+    /// Returns the description of the stream, and the number of its open shards (Kinesis API Reference,
+    /// DescribeStreamSummary).
     pub fn summary(&self, alloc: Global) -> Result<Answer, Memory>
         ensures { (log : Journal) → Shows self.now log → IfOk result (λ a. a ≡ answer_of (summary log self.now.no)) }
     {

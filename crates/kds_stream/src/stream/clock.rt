@@ -1,4 +1,5 @@
-//! The clock of a stream, and the trimming of its records.
+//! The clock of a stream, and the trimming of its records. Records that arrived at or before the trim horizon are
+//! trimmed.
 ghost use Rattle.std.specs.Prelude.{◌≡◌, ◌≤◌};
 ghost use Rattle.kds_defs.specs.Journal.{Journal};
 ghost use Rattle.kds_stream.specs.Showing.{Shows};
@@ -9,8 +10,8 @@ use kds_base::{Moment, next_of};
 use kds_defs::limits::HOUR;
 use kds_stream_logs::settle_at;
 
-/// The cut at the moment `clock` for a retention of `hours` hours: the moment at or before which everything is
-/// trimmed.
+/// Returns the trim horizon at the time `clock` for a retention period of `hours` hours: the time `clock` minus this
+/// period. Returns `None` if the trim horizon would be before time 0.
 pub(super) fn cut_at(clock: Moment, hours: u32) -> Option<Moment>
     ensures { result ≡ cut_at clock hours }
 {
@@ -19,7 +20,7 @@ pub(super) fn cut_at(clock: Moment, hours: u32) -> Option<Moment>
     Moment::new(ms)
 }
 
-/// The later of two cuts.
+/// Returns the later of two trim horizons. `None` is earlier than every time.
 pub(super) fn later_cut(a: Option<Moment>, b: Option<Moment>) -> Option<Moment>
     ensures { result ≡ later_cut a b }
 {
@@ -31,7 +32,8 @@ pub(super) fn later_cut(a: Option<Moment>, b: Option<Moment>) -> Option<Moment>
 }
 
 impl Stream {
-    /// Raises the clock to `clock`, and moves the cut with it. It drops no records yet.
+    /// Raises the stream's clock to `clock`, and moves the trim horizon with it. The newly trimmed records aren't
+    /// removed from the logs yet.
     pub fn advance(&mut self, clock: Moment)
         requires { self.old.clock ≤ clock }
         ensures value { self.new ≡ record self.old {
@@ -48,8 +50,8 @@ impl Stream {
         self.cut = later_cut(self.cut, cut_at(clock, self.hours));
     }
 
-    /// Drops the trimmed records of the next log, in rotation; no answer depends on this. Each log has its turn once
-    /// in as many calls as there are logs.
+    /// Removes the trimmed records of one log. Each call handles the next log in rotation. If there are `n` logs, `n`
+    /// calls handle each log once. No reply to a client depends on whether trimmed records are removed.
     pub fn settle(&mut self)
         ensures fields { (self.new.no ≡ self.old.no) × (self.new.name ≡ self.old.name) × (self.new.clock ≡ self.old.clock) }
         ensures shows { (log : Journal) → Shows self.old log → Shows self.new log }
@@ -62,7 +64,8 @@ impl Stream {
         self.cut_before = self.cut;
     }
 
-    /// Sets the clock and the cut back to their values before the last `advance`, if nothing else has changed since.
+    /// Sets the clock and the trim horizon back to their values before the last `advance`. If the stream was changed or
+    /// `settle` was called since that `advance`, the clock and the trim horizon keep their present values.
     pub fn retreat(&mut self)
         ensures { self.new ≡ record self.old { clock = self.old.clock_before; cut = self.old.cut_before } }
     {

@@ -1,4 +1,4 @@
-//! The limits on the throughput of a stream's shards.
+//! The limits on the throughput of a stream's shards, which can be turned on and off.
 ghost use Rattle.std.specs.Prelude.{◌≡◌, ◌<◌, ◌&&◌, ℕ, List, Ok, length};
 ghost use Rattle.kds_defs.specs.PutCommands.{enforce};
 ghost use Rattle.kds_defs.specs.Rates.{SizedPut, is_throttled};
@@ -12,9 +12,9 @@ use kds_defs::{Answer, Reply};
 use kds_stream_logs::admits_at;
 
 impl Stream {
-    /// LocalEnforceLimits: turns the limits on the throughput of the stream's shards on or off. It is never refused.
-    /// This project defines the operation; the limits are those of the Kinesis Data Streams Developer Guide, Quotas
-    /// and Limits.
+    /// Turns the limits on the throughput of the stream's shards on or off (LocalEnforceLimits). The call is never
+    /// refused. The operation is an addition of this project to the Kinesis API. The limits are those of the Kinesis
+    /// Data Streams Developer Guide, Quotas and Limits.
     pub fn enforce(&mut self, on: bool) -> Answer
         ensures answered { Decides self.old self.new result (λ log by. enforce log self.old.clock by self.old.no on) }
         ensures fields { (self.new.no ≡ self.old.no) × (self.new.name ≡ self.old.name) × (self.new.clock ≡ self.old.clock) × (self.new.turn ≡ self.old.turn) }
@@ -28,8 +28,8 @@ impl Stream {
         Ok(Reply::Done)
     }
 
-    /// Whether the limits are on and the shard doesn't accept, at the stream's clock, a record whose payload and key
-    /// together have `bytes` bytes.
+    /// Whether the throughput limits are on and the shard doesn't accept a record at the time of the stream's clock.
+    /// The payload and partition key of the record together have `bytes` bytes.
     pub(super) fn holds_back(&self, shard: ShardNo, bytes: u64) -> bool
         requires { shard < length self.now.tree }
         ensures { (f : ℕ → List SizedPut) → StandFor f 0 self.now.windows → result ≡ (self.now.enforced && is_throttled (f shard) self.now.clock bytes) }

@@ -1,4 +1,4 @@
-//! Merges of a stream's shards.
+//! Merges two adjacent shards of a stream (MergeShards).
 ghost use Rattle.std.specs.Prelude.{◌≡◌, ◌≢◌, IfOk, IfNone, None, OnErr, OnOk};
 ghost use Rattle.kds_defs.specs.StreamCommands.{last_number, merge};
 ghost use Rattle.kds_stream.specs.Showing.{Decides, RefusesAs, merge_line};
@@ -12,7 +12,8 @@ use kds_log::ShardLog;
 use kds_rate::Window;
 
 impl Stream {
-    /// The reason why a merge of the shards `shard` and `other` is refused, or `None` if it isn't.
+    /// Returns the reason why a merge of the shards `shard` and `other` would be refused, or `None` if it would be
+    /// accepted.
     fn merge_refusal(&self, shard: ShardNo, other: ShardNo) -> Option<Refusal>
         ensures decided { RefusesAs self.now result (λ log c by s. merge_line log c by s shard other) (λ log c by s. merge log c by s shard other) }
         ensures merges { IfNone result (merge_refusal self.now.tree shard other ≡ None) }
@@ -31,10 +32,12 @@ impl Stream {
         None
     }
 
-    /// Merges two adjacent shards. Both are closed with the stream's next number, and their child is added at the end.
-    /// `NoShard` if either isn't listed, `ShardClosed` if either is closed, `NotAdjacent` if neither shard's range
-    /// starts right after the other's ends, `Spent` if the next number is the greatest `u64` (Kinesis API Reference,
-    /// MergeShards).
+    /// Merges two adjacent shards (Kinesis API Reference, MergeShards). Both shards are closed, with the stream's next
+    /// sequence number as their ending sequence number, and their child is added after the last shard. The merge is
+    /// refused with `NoShard` if one of the two shards was never made or has expired, and with `ShardClosed` if one of
+    /// them is closed. It is refused with `NotAdjacent` if the shards' ranges aren't adjacent, that is, if neither
+    /// range starts right after the other ends. It is refused with `Spent` if the stream's next sequence number is the
+    /// greatest `u64`. If the merge is refused or memory runs out, the stream is unchanged.
     pub fn merge(&mut self, shard: ShardNo, other: ShardNo) -> Result<Answer, Memory>
         ensures answered { IfOk result (λ a. Decides self.old self.new a (λ log by. merge log self.old.clock by self.old.no shard other)) }
         ensures fields { (self.new.no ≡ self.old.no) × (self.new.name ≡ self.old.name) × (self.new.clock ≡ self.old.clock) × (self.new.turn ≡ self.old.turn) }
@@ -49,7 +52,7 @@ impl Stream {
         let alloc = *self.logs.allocator();
         self.logs.reserve(1)?;
         self.windows.reserve(1)?;
-        // The tree accepts the merge: `merge_refusal` has already checked it.
+        // The tree accepts the merge, because `merge_refusal` found no reason to refuse it.
         let _child = self.tree.merge(shard, other, seq, self.clock)?;
         self.next = Seq(seq.0 + 1);
         self.logs.push_reserved(ShardLog::new(alloc, self.next));

@@ -1,4 +1,4 @@
-//! Puts of records into a stream.
+//! Puts records into a stream (PutRecord and PutRecords).
 ghost use Rattle.std.specs.Prelude.{◌≡◌, IfOk, OnErr, OnOk};
 ghost use Rattle.kds_defs.specs.Lawful.{AreItems, IsItem};
 ghost use Rattle.kds_defs.specs.PutCommands.{put, put_many};
@@ -12,10 +12,12 @@ use kds_stream_logs::{Routes, count_at, item_bytes, put_all, put_at, restore_win
 use std::collections::VecDeque;
 
 impl Stream {
-    /// PutRecord: the record is appended to the log of the open shard whose range contains its hash key. It has the
-    /// stream's next number, and arrives at the stream's clock. `Throttled` exactly if the limits are on and the
-    /// record exceeds what the shard still accepts within the second, `Spent` if the next number is the greatest `u64`
-    /// (Kinesis API Reference, PutRecord, ProvisionedThroughputExceededException).
+    /// Appends a record to the log of the open shard whose range contains the record's hash key (Kinesis API Reference,
+    /// PutRecord, ProvisionedThroughputExceededException). The record gets the stream's next sequence number, and the
+    /// stream's clock is its arrival time. The put is refused with `Throttled` if and only if the throughput limits are
+    /// on and the record exceeds what the shard still accepts within the current second. Otherwise it is refused with
+    /// `Spent` if the next sequence number is the greatest `u64`. If the put is refused or memory runs out, the stream
+    /// is unchanged.
     pub fn put(&mut self, item: NewItem) -> Result<Answer, Memory>
         requires { IsItem item }
         ensures answered { IfOk result (λ a. Decides self.old self.new a (λ log by. put log self.old.clock by self.old.no item)) }
@@ -47,11 +49,12 @@ impl Stream {
         Ok(Ok(Reply::Put(Place { shard, seq })))
     }
 
-    /// PutRecords: puts each record in order, as PutRecord does. Each record is checked and counted after the records
-    /// before it, and the accepted records have consecutive numbers. A record that its shard doesn't accept gets an
-    /// error as its result, and no number. All memory is allocated before the first record is stored. `Spent` exactly
-    /// if the next number plus the number of accepted records is above the greatest `u64` (Kinesis API Reference,
-    /// PutRecords).
+    /// Puts the records of one request in order, each as `put` does (Kinesis API Reference, PutRecords). Each accepted
+    /// record is counted against its shard's limits before the next record is checked. The accepted records get
+    /// consecutive sequence numbers. A record that its shard doesn't accept gets an error as its result, and no
+    /// sequence number. All memory is allocated before the first record is stored. The request is refused with `Spent`
+    /// if and only if the stream's next sequence number plus the number of accepted records is above the greatest
+    /// `u64`. If the request is refused or memory runs out, the stream is unchanged.
     pub fn put_many(&mut self, items: Items<NewItem>) -> Result<Answer, Memory>
         requires { AreItems items }
         ensures answered { IfOk result (λ a. Decides self.old self.new a (λ log by. put_many log self.old.clock by self.old.no items)) }

@@ -1,4 +1,5 @@
-//! Shard iterators, and reads of a stream's records and shards.
+//! Issues shard iterators, reads records, and lists the shards of a stream. A shard is listed if it was made and hasn't
+//! expired.
 ghost use Rattle.std.specs.Prelude.{◌≡◌, ◌++◌, ◌-◌, ◌^◌, ◌<◌, ℕ, map, slice_get, true, IfOk, IfSome, OnOk};
 ghost use Rattle.std.specs.List.{AllByRecursion};
 ghost use Rattle.std.specs.Option.{option_map};
@@ -24,7 +25,7 @@ use kds_token::{iter_expired, page_expired};
 use std::alloc::Global;
 
 impl Stream {
-    /// The shard with the number `no`, if it is listed.
+    /// Returns the shard with the number `no`, or `None` if this shard was never made or has expired.
     fn listed(&self, no: ShardNo) -> Option<Shard>
         ensures value { result ≡ option_map shown (listed_at (floor_of self.now.cut) (slice_get self.now.tree no)) }
         ensures under { IfSome result (λ x. IsUnder self.now.next x.end) }
@@ -35,14 +36,15 @@ impl Stream {
         self.tree.shard(no).copied()
     }
 
-    /// Whether the shard is listed: it was made, and it wasn't closed at or before the cut.
+    /// Whether shard `no` is listed: it was made, and it wasn't closed at or before the trim horizon.
     pub fn is_listed(&self, no: ShardNo) -> bool
         ensures { result ≡ is_listed_at (floor_of self.now.cut) (slice_get self.now.tree no) }
     {
         self.listed(no).is_some()
     }
 
-    /// Appends the keys of the stream's listed shards, in the order of their numbers.
+    /// Appends the keys of the stream's listed (unexpired) shards to `keys`, in the order of the shards' numbers. The
+    /// key of a shard consists of the number of its stream and the number of the shard.
     pub fn add_listed(&self, keys: &mut Items<ShardRef>) -> Result<(), Memory>
         ensures { OnOk result (keys.new ≡ keys.old ++ refs_of self.now.no (listed_among (floor_of self.now.cut) self.now.tree)) }
     {
@@ -57,9 +59,9 @@ impl Stream {
         Ok(())
     }
 
-    /// A shard iterator, issued at the stream's clock, for the position at which reading of the shard begins.
-    /// `NoShard` if the shard isn't listed, `BadNumber` if `from` names a sequence number that doesn't belong to the
-    /// shard (Kinesis API Reference, GetShardIterator).
+    /// Returns a shard iterator, issued at the stream's clock, for the position in the shard that `from` selects
+    /// (Kinesis API Reference, GetShardIterator). The call is refused with `NoShard` if the shard was never made or has
+    /// expired, and with `BadNumber` if `from` names a sequence number that doesn't belong to the shard.
     pub fn iterator(&self, shard: ShardNo, from: Start) -> Answer
         ensures { (log : Journal) → Shows self.now log → result ≡ answer_of (get_iterator log self.now.clock self.now.no shard from) }
     {
@@ -78,9 +80,11 @@ impl Stream {
         }
     }
 
-    /// At most `limit` records from the iterator's position on, and the next iterator, or, at the end of a closed
-    /// shard, its children instead. Precondition: the iterator belongs to this stream. `Expired` if the iterator is
-    /// too old, `NoShard` if its shard isn't listed (Kinesis API Reference, GetRecords).
+    /// Reads at most `limit` records from the iterator's position on (Kinesis API Reference, GetRecords). The reply has
+    /// the records, the reader's lag, and the next iterator. At the end of a closed shard, the reply has the children
+    /// of the shard instead of the next iterator. Precondition: the iterator belongs to this stream. The read is
+    /// refused with `Expired` if the iterator is too old, and with `NoShard` if the iterator's shard was never made or
+    /// has expired.
     pub fn records(&self, alloc: Global, iter: &Iter, limit: u32) -> Result<Answer, Memory>
         requires stream { iter.now.stream ≡ self.now.no }
         requires limit { IsLimit limit }
@@ -121,8 +125,9 @@ impl Stream {
         }))
     }
 
-    /// At most `limit` listed shards, beginning after the shard `after`, and a token if more listed shards follow
-    /// (Kinesis API Reference, ListShards).
+    /// Returns a page of the stream's listed (unexpired) shards (Kinesis API Reference, ListShards). The page begins
+    /// after the shard `after`, and has at most `limit` shards. The reply has a token for the next page if more listed
+    /// shards follow.
     pub fn shards(&self, after: Option<ShardNo>, limit: u32) -> Result<Answer, Memory>
         requires { IsLimit limit }
         ensures { (log : Journal) → Shows self.now log → IfOk result (λ a. a ≡ answer_of (list_shards log self.now.clock self.now.no after limit)) }
@@ -139,9 +144,9 @@ impl Stream {
         }))
     }
 
-    /// The next page of a listing of this stream's shards: at most `limit` shards from the position in the token
-    /// `page`. Precondition: the token belongs to this stream. `PageExpired` if the token is too old (Kinesis API
-    /// Reference, ListShards, NextToken).
+    /// Returns the next page of a listing of this stream's shards (Kinesis API Reference, ListShards, NextToken). The
+    /// page begins at the position in the token `page`, and has at most `limit` shards. Precondition: the token belongs
+    /// to this stream. The call is refused with `PageExpired` if the token is too old.
     pub fn more(&self, page: &Page, limit: u32) -> Result<Answer, Memory>
         requires stream { page.now.stream ≡ self.now.no }
         requires limit { IsLimit limit }
@@ -153,10 +158,11 @@ impl Stream {
         self.shards(Some(page.after), limit)
     }
 
-    /// The position at which reading of a listed shard begins for the origin `from`. It is 0 for the trim horizon, and
-    /// the stream's next number for LATEST. For a moment it is the number of the first untrimmed record that arrived
-    /// at or after the moment, or the next number if there is no such record (Kinesis API Reference, GetShardIterator,
-    /// ShardIteratorType).
+    /// Returns the position at which the reading of a listed (unexpired) shard begins, as a sequence number (Kinesis
+    /// API Reference, GetShardIterator, ShardIteratorType). If `from` is TRIM_HORIZON, the position is 0. If `from` is
+    /// LATEST, the position is the stream's next sequence number. If `from` is a time, the position is the sequence
+    /// number of the first untrimmed record that arrived at or after this time, or the stream's next sequence number if
+    /// there is no such record.
     pub fn position(&self, shard: ShardNo, from: Origin) -> u64
         requires { is_listed_at (floor_of self.now.cut) (slice_get self.now.tree shard) ≡ true }
         ensures { (log : Journal) → Shows self.now log → result ≡ origin_position log self.now.clock (ref self.now.no shard) from }
@@ -165,8 +171,9 @@ impl Stream {
         origin_position(from, self.next, log, self.cut)
     }
 
-    /// The batch of a listed shard at a position, and whether the shard ends after this batch: it is closed, and no
-    /// record is left.
+    /// Reads a listed (unexpired) shard at `position`, and returns the batch of at most `limit` records. The returned
+    /// `bool` says whether the shard ends after this batch: the shard is closed, and it has no untrimmed record after
+    /// the batch.
     pub fn read(
         &self,
         alloc: Global,

@@ -1,4 +1,4 @@
-//! The retention period of a stream.
+//! Changes the retention period of a stream.
 ghost use Rattle.std.specs.Prelude.{◌≡◌, nat_lt, if◌then◌else◌, OnErr, OnOk};
 ghost use Rattle.kds_defs.specs.Lawful.{IsRetention};
 ghost use Rattle.kds_defs.specs.StreamCommands.{keep};
@@ -9,8 +9,8 @@ use crate::stream::Stream;
 use crate::stream::clock::{cut_at, later_cut};
 use kds_defs::{Answer, Refusal, Reply};
 
-/// Whether a change to `hours` has the wrong direction: an increase to fewer hours than `present`, or a decrease to
-/// more hours.
+/// Whether a change of the retention period from `present` to `hours` hours goes in the wrong direction: an increase
+/// (`raise` is true) to fewer hours, or a decrease to more hours.
 fn is_wrong_way(hours: u32, present: u32, raise: bool) -> bool
     ensures { result ≡ (if raise then nat_lt hours present else nat_lt present hours) }
 {
@@ -22,9 +22,10 @@ fn is_wrong_way(hours: u32, present: u32, raise: bool) -> bool
 }
 
 impl Stream {
-    /// Sets the retention to `hours` hours. At the change itself, a record is trimmed if the old or the new retention
-    /// trims it. `BadRetention` exactly if an increase is to fewer hours than at present, or a decrease is to more
-    /// (Kinesis API Reference, IncreaseStreamRetentionPeriod, DecreaseStreamRetentionPeriod).
+    /// Sets the retention period to `hours` hours (Kinesis API Reference, IncreaseStreamRetentionPeriod,
+    /// DecreaseStreamRetentionPeriod). At the time of the change, a record is trimmed if the old or the new retention
+    /// period trims it. The change is refused with `BadRetention` if and only if it is an increase (`raise` is true) to
+    /// fewer hours than at present, or a decrease to more hours.
     pub fn keep(&mut self, hours: u32, raise: bool) -> Answer
         requires { IsRetention hours }
         ensures answered { Decides self.old self.new result (λ log by. keep log self.old.clock by self.old.no hours raise) }

@@ -1,4 +1,4 @@
-//! Scalings of a stream to uniform ranges.
+//! Scales a stream to a number of open shards with uniform ranges of hash keys (UpdateShardCount).
 ghost use Rattle.std.specs.Prelude.{◌≡◌, false, IfOk, Ok, OnErr, OnOk};
 ghost use Rattle.kds_defs.specs.Lawful.{IsShardCount};
 ghost use Rattle.kds_defs.specs.ScaleCommands.{made_by};
@@ -13,11 +13,12 @@ use kds_scale::plan;
 use kds_stream_logs::{add_shards, is_spent, made_by, reserve_shards, take_steps};
 
 impl Stream {
-    /// UpdateShardCount: first merges and then splits the open shards, until they have `target` uniform ranges. It
-    /// takes as few steps as possible. `room` is the greatest number of shards that may be open in this stream, given
-    /// the open shards of the other streams. All memory is allocated before the first step. `Full` exactly if `target`
-    /// is above `room`, `Spent` if a step would need a sequence number or a shard number above the greatest `u64`
-    /// (Kinesis API Reference, UpdateShardCount).
+    /// First merges and then splits open shards, until there are `target` open shards with uniform ranges of hash keys
+    /// (Kinesis API Reference, UpdateShardCount). The scaling takes as few steps as possible. `room` is the greatest
+    /// number of shards that may be open in this stream, given the open shards of the other streams. All memory is
+    /// allocated before the first step. The scaling is refused with `Full` if and only if `target` is above `room`.
+    /// Otherwise it is refused with `Spent` if the stream's next sequence number or its number of shards would be above
+    /// the greatest `u64` after the last step.
     pub fn scale(&mut self, target: u32, room: u64) -> Result<Answer, Memory>
         requires { IsShardCount target }
         ensures answered { IfOk result (λ a. Decides self.old self.new a (λ log by.
@@ -48,8 +49,9 @@ impl Stream {
         Ok(Ok(reply))
     }
 
-    /// Takes the steps of a scaling to `target` ranges. The steps make `made` shards in total. All memory is allocated
-    /// before the first step.
+    /// Takes the steps of a scaling to `target` uniform ranges, and returns the reply. `made` is the number of new
+    /// shards that the steps make. All memory is allocated before the first step. If memory runs out, the stream is
+    /// unchanged.
     fn carry_out(&mut self, steps: &[ScaleStep], made: u32, target: u32) -> Result<Reply, Memory>
         requires target { IsShardCount target }
         requires plan { IsPlan self.old target steps.now }

@@ -1,4 +1,4 @@
-//! One command of a stream.
+//! Serves one command for a stream.
 ghost use Rattle.std.specs.Prelude.{◌≡◌, ℕ, Some, true, IfOk, OnErr};
 ghost use Rattle.kds_defs.specs.Lawful.{IsLawfulCommand};
 ghost use Rattle.kds_stream.specs.Serving.{Serves, is_of_stream, token_of};
@@ -9,10 +9,10 @@ use kds_defs::{Answer, Command};
 use std::alloc::Global;
 
 impl Stream {
-    /// Serves a command that names this stream or has a token of it. `room` is the greatest number of shards that may
-    /// be open in this stream, given the open shards of the other streams; only SplitShard and UpdateShardCount need
-    /// it. `Memory` means that memory ran out; the stream is then as before (Kinesis API Reference, the operations of
-    /// the commands).
+    /// Serves a command that names this stream, or whose token (shard iterator or NextToken) belongs to this stream
+    /// (Kinesis API Reference, the operations of the commands). `room` is the greatest number of shards that may be
+    /// open in this stream, given the open shards of the other streams. Only SplitShard and UpdateShardCount need
+    /// `room`. If memory runs out, the stream is unchanged.
     pub fn serve(&mut self, alloc: Global, what: Command, room: u64) -> Result<Answer, Memory>
         requires lawful { IsLawfulCommand what }
         requires own { is_of_stream what ≡ true }
@@ -21,7 +21,8 @@ impl Stream {
         ensures fields { (self.new.no ≡ self.old.no) × (self.new.name ≡ self.old.name) × (self.new.clock ≡ self.old.clock) × (self.new.turn ≡ self.old.turn) }
         ensures kept { OnErr result (self.new ≡ self.old) }
     {
-        // Each arm also binds the name, because the borrow checker doesn't track a field that isn't moved.
+        // Each arm binds the name although no arm uses it, because the borrow checker doesn't track a field that a
+        // pattern doesn't move.
         match what {
             Command::Describe { name, after, limit } => self.describe(alloc, after, limit),
             Command::Summary { name } => self.summary(alloc),

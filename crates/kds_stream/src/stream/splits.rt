@@ -1,4 +1,4 @@
-//! Splits of a stream's shards.
+//! Splits a shard of a stream (SplitShard).
 ghost use Rattle.std.specs.Prelude.{◌≡◌, ◌≢◌, ◌<◌, length, IfOk, IfNone, None, OnErr, OnOk};
 ghost use Rattle.std.specs.List.{filter};
 ghost use Rattle.kds_defs.specs.declared.limits.TheConstants.{OPEN_SHARDS};
@@ -16,8 +16,9 @@ use kds_log::ShardLog;
 use kds_rate::Window;
 
 impl Stream {
-    /// Whether no further shard may be opened in the stream: the number of its open shards has reached `room` or
-    /// `OPEN_SHARDS`.
+    /// Whether the stream can't have one more open shard, because the number of its open shards has reached `room` or
+    /// `OPEN_SHARDS`. `room` is the greatest number of shards that may be open in this stream, given the open shards of
+    /// the other streams.
     fn is_full(&self, room: u64) -> bool
         ensures { result ≡ is_full self.now room }
     {
@@ -25,7 +26,8 @@ impl Stream {
         open >= room || open >= OPEN_SHARDS
     }
 
-    /// The reason why a split of the shard at the hash key `at` is refused, or `None` if it isn't.
+    /// Returns the reason why a split of the shard at the hash key `at` would be refused, or `None` if it would be
+    /// accepted. `room` is the greatest number of shards that may be open in this stream.
     fn split_refusal(&self, shard: ShardNo, at: u128, room: u64) -> Option<Refusal>
         ensures decided { RefusesAs self.now result (λ log c by s. split_line log c by s shard at)
             (λ log c by s. split_where (is_full self.now room) log c by s shard at) }
@@ -49,11 +51,13 @@ impl Stream {
         None
     }
 
-    /// Splits a shard at the hash key `at`. The shard is closed with the stream's next number, and its two children
-    /// are added at the end. `room` is the greatest number of shards that may be open in this stream, given the open
-    /// shards of the other streams. `NoShard` if the shard isn't listed, `ShardClosed` if it is closed, `BadSplit` if
-    /// one part of its range would be empty, `Full` if `room` shards are open, `Spent` if the next number is the
-    /// greatest `u64` (Kinesis API Reference, SplitShard).
+    /// Splits a shard at the hash key `at` (Kinesis API Reference, SplitShard). The shard is closed, with the stream's
+    /// next sequence number as its ending sequence number, and its two children are added after the last shard. `room`
+    /// is the greatest number of shards that may be open in this stream, given the open shards of the other streams.
+    /// The split is refused with `NoShard` if the shard was never made or has expired, with `ShardClosed` if the shard
+    /// is closed, and with `BadSplit` if one part of its range would be empty. It is refused with `Full` if the stream
+    /// already has `room` or `OPEN_SHARDS` open shards, and with `Spent` if the stream's next sequence number is the
+    /// greatest `u64`. If the split is refused or memory runs out, the stream is unchanged.
     pub fn split(&mut self, shard: ShardNo, at: u128, room: u64) -> Result<Answer, Memory>
         ensures answered { IfOk result (λ a. Decides self.old self.new a (λ log by.
             split_where (is_full self.old room) log self.old.clock by self.old.no shard at)) }
@@ -69,7 +73,7 @@ impl Stream {
         let alloc = *self.logs.allocator();
         self.logs.reserve(2)?;
         self.windows.reserve(2)?;
-        // The tree accepts the split: `split_refusal` has already checked it.
+        // The tree accepts the split, because `split_refusal` found no reason to refuse it.
         let _children = self.tree.split(shard, at, seq, self.clock)?;
         self.next = Seq(seq.0 + 1);
         self.logs.push_reserved(ShardLog::new(alloc, self.next));
