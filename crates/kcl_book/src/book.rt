@@ -1,4 +1,6 @@
-//! The tenures of all leases.
+//! The tenures of all leases. A tenure is one worker's hold on a lease. An actor is a client or a process. Each read of
+//! a tenure fetches a batch of records. A read counts as delivered once the record processor has processed its batch.
+//! Until then, the read is pending.
 ghost use Rattle.std.specs.Prelude.{◌≡◌, ◌≢◌, ◌+◌, ◌-◌, ◌<◌, ◌≤◌, ◌++◌, ◌∷◌, ◌==◌, [], length, true, false, IfErr, IfNone, IfOk, IfSome, IsSome, None, OnErr, OnOk, Some};
 ghost use Rattle.std.specs.Option.{option_map};
 ghost use Rattle.kds_base.specs.declared.lease_key.Checkpoint.TheVariants.{At, ShardEnd};
@@ -15,8 +17,9 @@ use kds_defs::Refusal;
 use std::alloc::Global;
 use std::marker::Model;
 
-/// All tenures, numbered from 1 in the order in which they began. No tenure is ever removed. Contracts see the tenures
-/// in this order, and `spare`, the number of further tenures for which memory is reserved.
+/// The book: the tenures of all leases, numbered from 1 in the order in which they began. No tenure is ever removed. In
+/// contracts, `tenures` is the list of the tenures in this order, and `spare` is the number of further tenures for
+/// which memory is reserved.
 #[derive(Drop)]
 pub struct Book {
     tenures: Vec<KeptTenure>,
@@ -32,7 +35,7 @@ impl Model for Book {
     ghost view = { λ b. record { tenures = b.tenures.items; spare = vec_capacity b.tenures - vec_len b.tenures } };
 }
 
-/// Returns the index of the tenure with the number `no`, if there is such a tenure.
+/// Returns the index of the tenure with the number `no`, or `None` if there is no such tenure.
 fn index_of(tenures: &[KeptTenure], no: TenureNo) -> Option<usize>
     ensures none { IfNone result (tenure_at tenures.now no ≡ None) }
     ensures some { IfSome result (λ i. (i + 1 ≡ no) × (i < length tenures.now)) }
@@ -55,7 +58,8 @@ impl Book {
         }
     }
 
-    /// Reserves memory for one additional tenure. The error means out of memory; then the book is unchanged.
+    /// Reserves memory for at least one further tenure. The error means that memory ran out. The tenures are unchanged
+    /// in either case.
     pub fn reserve(&mut self) -> Result<(), Memory>
         ensures tenures { self.new.tenures ≡ self.old.tenures }
         ensures spare { OnOk result (1 ≤ self.new.spare) }
@@ -64,16 +68,16 @@ impl Book {
         Ok(())
     }
 
-    /// Whether the last tenure has the greatest `u64` as its number, so that no tenure can begin after it.
+    /// Whether the number of the last tenure is the greatest `u64`, so that no further tenure can begin.
     pub fn spent(&self) -> bool
         ensures { result ≡ (length self.now.tenures == last_number) }
     {
         self.tenures.len() as u64 == u64::MAX
     }
 
-    /// Begins a tenure of `key` at the checkpoint `start`: the actor `by` has taken the lease. Returns the tenure's
-    /// number. Precondition: memory is reserved, a number is left for the tenure, and the checkpoint leaves something
-    /// to read. Needs no memory.
+    /// Begins a tenure of the lease `key` at the checkpoint `start`. The actor `by` has taken the lease. Returns the
+    /// tenure's number. Precondition: memory for a further tenure is reserved, fewer than 2^64 - 1 tenures have begun,
+    /// and `start` is neither the shard's end nor the greatest sequence number. Allocates no memory.
     pub fn begin(&mut self, by: u32, key: ShardRef, start: Checkpoint) -> TenureNo
         requires spare { 1 ≤ self.old.spare }
         requires unspent { length self.old.tenures < last_number }
@@ -87,7 +91,7 @@ impl Book {
         TenureNo(self.tenures.len() as u64)
     }
 
-    /// Returns the tenure with the number `no`. `None` means exactly that there is no such tenure.
+    /// Returns the tenure with the number `no`, or `None` if and only if there is no such tenure.
     pub fn tenure(&self, no: TenureNo) -> Option<Tenure>
         ensures { result ≡ option_map shown (tenure_at self.now.tenures no) }
     {
@@ -95,8 +99,8 @@ impl Book {
         Some(self.tenures[index].shown())
     }
 
-    /// Returns the position below which the records of the tenure `no` were given. `None` means exactly that there is
-    /// no such tenure.
+    /// Returns the position up to which the records of the tenure `no` were delivered to the tenure's record processor.
+    /// Returns `None` if and only if there is no such tenure.
     pub fn delivered(&self, no: TenureNo) -> Option<u64>
         ensures { result ≡ option_map (λ t. t.delivered) (tenure_at self.now.tenures no) }
     {
@@ -104,8 +108,8 @@ impl Book {
         Some(self.tenures[index].delivered())
     }
 
-    /// Whether the last given read of the tenure `no` reached the shard's end. `None` means exactly that there is no
-    /// such tenure.
+    /// Whether the last delivered read of the tenure `no` reached the shard's end. Returns `None` if and only if there
+    /// is no such tenure.
     pub fn at_end(&self, no: TenureNo) -> Option<bool>
         ensures { result ≡ option_map (λ t. t.at_end) (tenure_at self.now.tenures no) }
     {
@@ -113,8 +117,8 @@ impl Book {
         Some(self.tenures[index].at_end())
     }
 
-    /// Opens the existing tenure `no`, which may read from then on. The refusal is `OpenedBefore` exactly if the
-    /// tenure is already open. Needs no memory.
+    /// Opens the existing tenure `no`, which may read its shard from then on. The refusal is `OpenedBefore` if and only
+    /// if the tenure is already open. Allocates no memory.
     pub fn open_tenure(&mut self, no: TenureNo) -> Result<(), Refusal>
         requires { IsSome (tenure_at self.old.tenures no) }
         ensures before { IfErr result (λ r. (r ≡ refusal.OpenedBefore) × (self.new ≡ self.old)
@@ -130,9 +134,9 @@ impl Book {
         Ok(())
     }
 
-    /// Notes a read of the existing tenure `no`: `reach` is the position after the read, and `end` says whether the
-    /// read reached the shard's end. Precondition: the tenure is open, it has fewer than `PENDING_READS` pending
-    /// reads, and its reach isn't beyond `reach`. Needs no memory.
+    /// Adds a pending read to the existing tenure `no`. `reach` is the position after the records of the read, and
+    /// `end` says whether the read reached the shard's end. Precondition: the tenure is open, it has fewer than
+    /// `PENDING_READS` pending reads, and the position after its last read isn't beyond `reach`. Allocates no memory.
     pub fn read(&mut self, no: TenureNo, reach: u64, end: bool)
         requires there { IsSome (tenure_at self.old.tenures no) }
         requires opened { IfSome (tenure_at self.old.tenures no) (λ t. t.opened ≡ true) }
@@ -143,8 +147,8 @@ impl Book {
         self.tenures[(no.0 - 1) as usize].read(reach, end);
     }
 
-    /// Gives the oldest pending read of the existing tenure `no`, and returns the position after that read. The
-    /// refusal is `NothingPending` exactly if the tenure has no pending read. Needs no memory.
+    /// Counts the oldest pending read of the existing tenure `no` as delivered, and returns the position after that
+    /// read. The refusal is `NothingPending` if and only if the tenure has no pending read. Allocates no memory.
     pub fn give(&mut self, no: TenureNo) -> Result<u64, Refusal>
         requires { IsSome (tenure_at self.old.tenures no) }
         ensures nothing { IfErr result (λ r. (r ≡ refusal.NothingPending) × (self.new ≡ self.old)

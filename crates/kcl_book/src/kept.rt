@@ -1,4 +1,6 @@
-//! A tenure as the book stores it.
+//! A tenure as the book, the list of all tenures, stores it. A tenure is one worker's hold on a lease. An actor is a
+//! client or a process. A read of a tenure counts as delivered once the record processor has processed the batch of the
+//! read. Until then, the read is pending.
 ghost use Rattle.std.specs.Prelude.{◌≡◌, ◌≢◌, ◌<◌, length, true, false, ℕ};
 ghost use Rattle.kds_base.specs.declared.lease_key.Checkpoint.TheVariants.{At, ShardEnd};
 ghost use Rattle.kds_defs.specs.declared.limits.TheConstants.{PENDING_READS};
@@ -12,10 +14,10 @@ use kds_base::{Checkpoint, ShardRef};
 use kds_defs::limits::PENDING_READS;
 use std::marker::Model;
 
-/// The most pending reads that a tenure may have.
+/// The greatest number of pending reads that a tenure may have.
 const ROOM: usize = PENDING_READS as usize;
 
-/// A tenure with its pending reads, the oldest first. A read is pending until it is given.
+/// A tenure with its pending reads, the oldest first. A read is pending until its batch counts as delivered.
 #[derive(Drop)]
 pub struct KeptTenure {
     by: u32,
@@ -45,7 +47,7 @@ impl Model for KeptTenure {
     } };
 }
 
-/// Returns the position at which reading begins for a checkpoint.
+/// Returns the position at which a tenure begins to read if its first checkpoint is `start`.
 fn first_position(start: &Checkpoint) -> u64
     requires { (q : ℕ) → start.now ≡ At q → q < u64.MAX }
     ensures { result ≡ place_of start.now }
@@ -57,7 +59,8 @@ fn first_position(start: &Checkpoint) -> u64
 }
 
 impl KeptTenure {
-    /// Returns a new tenure, which the actor `by` has begun at the checkpoint `start`.
+    /// Returns a new tenure of the lease `key`. The tenure begins at the checkpoint `start`. The actor `by` has taken
+    /// the lease.
     pub fn begin(by: u32, key: ShardRef, start: Checkpoint) -> KeptTenure
         requires { start ≢ At u64.MAX }
         ensures { result ≡ begun by key start }
@@ -75,7 +78,7 @@ impl KeptTenure {
         }
     }
 
-    /// Returns the tenure in the form in which other crates see it.
+    /// Returns the tenure as a `Tenure`, the form in which other crates see it.
     pub fn shown(&self) -> Tenure
         ensures { result ≡ shown self.now }
     {
@@ -91,36 +94,36 @@ impl KeptTenure {
         }
     }
 
-    /// Returns the position below which the tenure's records were given.
+    /// Returns the position up to which the tenure's records were delivered to its record processor.
     pub fn delivered(&self) -> u64
         ensures { result ≡ self.now.delivered }
     {
         self.delivered
     }
 
-    /// Whether the tenure's last given read reached the shard's end.
+    /// Whether the tenure's last delivered read reached the shard's end.
     pub fn at_end(&self) -> bool
         ensures { result ≡ self.now.at_end }
     {
         self.at_end
     }
 
-    /// Whether the tenure may read.
+    /// Whether the tenure was opened, so that it may read its shard.
     pub fn is_opened(&self) -> bool
         ensures { result ≡ self.now.opened }
     {
         self.opened
     }
 
-    /// Allows the tenure to read from now on.
+    /// Opens the tenure, which may read its shard from then on.
     pub fn open(&mut self)
         ensures { self.new ≡ record self.old { opened = true } }
     {
         self.opened = true;
     }
 
-    /// Notes a read of the tenure: `reach` is the position after the read, and `end` says whether the read reached the
-    /// shard's end.
+    /// Adds a pending read to the tenure. `reach` is the position after the records of the read, and `end` says whether
+    /// the read reached the shard's end.
     pub fn read(&mut self, reach: u64, end: bool)
         requires { length self.old.pending < PENDING_READS }
         ensures { self.new ≡ with_read reach end self.old }
@@ -136,7 +139,7 @@ impl KeptTenure {
         self.pending.is_empty()
     }
 
-    /// Gives the tenure's oldest pending read, and returns the position after that read.
+    /// Counts the tenure's oldest pending read as delivered, and returns the position after that read.
     pub fn give(&mut self) -> u64
         requires { are_none self.old.pending ≡ false }
         ensures delivered { result ≡ self.new.delivered }

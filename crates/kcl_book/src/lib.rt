@@ -1,4 +1,6 @@
-//! The tenures of leases: who took the lease, what was read in the tenure, and which of these reads were given.
+//! The tenures of leases. A tenure is one worker's hold on a lease, from the moment the lease is taken until it is
+//! freed or taken again. For each tenure, the book (`Book`) says who took the lease, what was read, and which of the
+//! reads were delivered to the record processor.
 #![tactic(auto)]
 
 mod book;

@@ -1,4 +1,5 @@
-//! The batches that were read and not yet given.
+//! The ring buffer of the batches that a consumer has read ahead. A batch stays in the ring until the consumer reports
+//! the batch as processed, with the command Give.
 ghost use Rattle.std.specs.Prelude.{ℕ, ◌≡◌, ◌+◌, ◌<◌, [], ◌∷◌, ◌++◌, length, IfOk, None, false};
 ghost use Rattle.kds_defs.specs.declared.limits.TheConstants.{PENDING_READS};
 ghost use Rattle.kcl_defs.specs.Consumers.{first_batch, front, is_filled, over_at, was_handed};
@@ -14,8 +15,9 @@ use kds_defs::limits::PENDING_READS;
 use std::alloc::Global;
 use std::marker::Model;
 
-/// A ring of the batches that were read and not yet given. It holds at most eight batches, the most pending reads that
-/// a tenure may have (Kinesis Client Library, PrefetchRecordsPublisher).
+/// A ring of the batches that a consumer has read and not yet reported as processed (Kinesis Client Library,
+/// PrefetchRecordsPublisher). A tenure (one worker's hold on a lease) may have at most eight unreported reads
+/// (`PENDING_READS`). So the ring holds at most eight batches.
 #[derive(Drop)]
 pub struct Ahead {
     ring: HeapCircularBuffer<Fetched>,
@@ -34,7 +36,7 @@ impl Model for Ahead {
 }
 
 impl Ahead {
-    /// Returns an empty ring, with memory reserved for all of its batches. The error means out of memory.
+    /// Returns an empty ring, with memory reserved for eight batches. The error means out of memory.
     pub fn new(alloc: Global) -> Result<Ahead, Memory>
         ensures { IfOk result (λ a. a ≡ []) }
     {
@@ -43,7 +45,7 @@ impl Ahead {
         })
     }
 
-    /// Returns the records of the first batch, or an empty slice if there is no batch.
+    /// Returns the records of the first batch in the ring, or an empty slice if the ring is empty.
     pub(crate) fn first_batch(&self) -> &[Stored]
         ensures { result.now ≡ first_batch self.now }
     {
@@ -53,8 +55,8 @@ impl Ahead {
         }
     }
 
-    /// Whether there is a first batch and it has records. The processor is handed such a batch before the batch is
-    /// given.
+    /// Whether the ring has a first batch and this batch has records. Such a batch is handed to the processor before it
+    /// is reported as processed. An empty batch is never handed to the processor.
     pub(crate) fn is_handed(&self) -> bool
         ensures { result ≡ was_handed self.now }
     {
@@ -64,8 +66,9 @@ impl Ahead {
         }
     }
 
-    /// Whether the consumer stops reading and hands out batches once the batch `f` is added: the ring is full then, or
-    /// the read of `f` reached the shard's end, or `f` has fewer than `limit` records.
+    /// Whether the consumer stops reading and handles the first batch after the batch `f` has been added to the ring.
+    /// The consumer does so if the ring is then full, if the read of `f` reached the shard's end, or if `f` has fewer
+    /// records than a Read may return (`limit`).
     pub(crate) fn is_filled(&self, f: &Fetched, limit: u32) -> bool
         ensures { result ≡ is_filled limit (length self.now + 1) f.now }
     {
@@ -74,7 +77,7 @@ impl Ahead {
             || f.batch.as_slice().len() < limit as usize
     }
 
-    /// Adds a batch at the end of the ring.
+    /// Adds the batch `f` at the end of the ring. Precondition: the ring isn't full.
     pub(crate) fn add(&mut self, f: Fetched)
         requires { length self.old < PENDING_READS }
         ensures { self.new ≡ self.old ++ f ∷ [] }
@@ -85,8 +88,8 @@ impl Ahead {
         }
     }
 
-    /// Removes the first batch from the ring. Returns whether the read of that batch reached the shard's end, or
-    /// `None` if the ring is empty.
+    /// Removes the first batch from the ring. Returns whether the read of this batch reached the shard's end, or `None`
+    /// if the ring was empty.
     pub(crate) fn pop_first(&mut self) -> Option<bool>
         ensures { IsTaken self.old self.new result }
     {
@@ -96,8 +99,9 @@ impl Ahead {
         }
     }
 
-    /// Returns the consumer's next stage. If the first batch has records, the consumer hands it to the processor. If
-    /// the first batch is empty, the consumer gives it at once. If there is no batch, the consumer reads on.
+    /// Returns the consumer's next stage, which depends on the first batch in the ring. A batch with records is handed
+    /// to the processor next (`Holding`). An empty batch is reported as processed at once (`Giving`). If the ring is
+    /// empty, the consumer reads on (`Filling`).
     pub(crate) fn front_stage(&self) -> ConsumerStage
         ensures phase { (reach : ℕ) → phase_of result reach self.now None false ≡ front reach self.now }
         ensures going { (reach : ℕ) → over_at (front reach self.now) ≡ None }

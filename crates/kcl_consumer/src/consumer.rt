@@ -1,4 +1,7 @@
-//! The consumer of a lease, and its stage after each answer.
+//! The consumer of a lease, and its stage after each answer to a command. A tenure is one worker's hold on a lease. The
+//! consumer's commands are: OpenShard, after which the tenure may read; Read, which fetches a batch; Give, which
+//! reports the oldest batch as processed; and Mark, which sets the lease's checkpoint. The reach is the read position.
+//! The ring holds the batches that were read but not yet reported as processed. A consumer is over when it has ended.
 ghost use Rattle.std.specs.Prelude.{◌≡◌, ◌<◌, ℕ, false, length, List, [], ◌∷◌, IsSome, IfOk, OnOk, OnErr, Some, None, Option, Bool};
 ghost use Rattle.kcl_defs.specs.declared.consumer.Ask.{Ask};
 ghost use Rattle.kcl_defs.specs.Consumers.{Past, Answered, Called, Losing, calls_after, Giving, Opening, due_call, over_at, next_command, phase_after, after_answer, after_end, after_open, progress_of, after_loss, first_place, last_number_in, target_of, given, given_after, after_give, after_mark, after_read, told_over, told_refusal};
@@ -23,7 +26,8 @@ use kds_base::{Checkpoint, Memory, Seq, ShardRef, TenureNo};
 use kds_defs::{Answer, Command, Refusal, Reply, Stored, Target, let_go};
 use std::marker::Model;
 
-/// Returns the target of the checkpoint that the processor asks for with `asked` after `batch`.
+/// Returns the checkpoint that the consumer has to set after the processor returned `asked` for `batch`, or `None` if
+/// it has to set none.
 fn target_after(asked: Ask, batch: &[Stored]) -> Option<Target>
     ensures { result ≡ target_of asked batch.now }
 {
@@ -38,8 +42,8 @@ fn target_after(asked: Ask, batch: &[Stored]) -> Option<Target>
     }
 }
 
-/// The consequence of the answer to a Read: the consumer keeps a batch and the new reach, or reads again, or leaves
-/// the lease.
+/// What the consumer does after the answer to a Read. `Read`: it keeps this batch and this new read position.
+/// `Nothing`: it reads again. `Left`: it stops for this reason.
 #[derive(Drop)]
 enum Fetching {
     Read(Fetched, u64),
@@ -47,7 +51,7 @@ enum Fetching {
     Left(Why),
 }
 
-/// Sorts the answer to a Read into one of the cases of `Fetching`.
+/// Returns what the consumer does after `answer`, the answer to a Read.
 fn fetched_of(answer: Answer) -> Fetching
     ensures { IsFetching answer result }
 {
@@ -64,8 +68,9 @@ fn fetched_of(answer: Answer) -> Fetching
     }
 }
 
-/// Returns the stage after the first batch was given. `ended` says whether the read of that batch reached the shard's
-/// end, and `lost` whether the lease is known to be lost.
+/// Returns the consumer's stage once its first batch has been reported as processed and removed from the ring. `ended`
+/// says whether the read of that batch reached the shard's end. `asked` is the checkpoint to set, if any. `lost` says
+/// whether the lease is known to be lost.
 fn stage_after_give(ahead: &Ahead, ended: bool, asked: Option<Target>, lost: bool) -> ConsumerStage
     ensures phase { (reach : ℕ) (f : Fetched) → f.ended ≡ ended → phase_of result reach ahead.now None false ≡ given reach (f ∷ ahead.now) asked lost }
     ensures going { (reach : ℕ) (f : Fetched) → f.ended ≡ ended → over_at (given reach (f ∷ ahead.now) asked lost) ≡ None }
@@ -83,7 +88,8 @@ fn stage_after_give(ahead: &Ahead, ended: bool, asked: Option<Target>, lost: boo
     }
 }
 
-/// Returns the stage after the answer to a Give. If the answer is a reply, the first batch is removed from the ring.
+/// Returns the consumer's stage after the answer to a Give. If the Give was accepted, the first batch is removed from
+/// the ring.
 fn after_giving(
     ahead: &mut Ahead,
     asked: Option<Target>,
@@ -103,8 +109,9 @@ fn after_giving(
     }
 }
 
-/// Returns the last sequence number that was given, after the answer to a Give of the first batch. `given` is the last
-/// number that was given before.
+/// Returns the sequence number of the last record reported as processed, after the answer to the Give of the first
+/// batch. `given` is that number before the Give. If the Give was refused, or the batch is empty, the number is
+/// unchanged.
 fn last_after(ahead: &Ahead, given: Option<Seq>, answer: &Answer) -> Option<Seq>
     ensures { (reach : ℕ) (asked : Option Target) (lost : Bool) → result ≡ given_after answer.now (Giving reach ahead.now asked lost) given }
 {
@@ -117,7 +124,8 @@ fn last_after(ahead: &Ahead, given: Option<Seq>, answer: &Answer) -> Option<Seq>
     }
 }
 
-/// Returns the stage and the progress after the answer to a Mark that the processor asked for.
+/// Returns the consumer's stage and progress after the answer to the Mark with which the consumer sets the checkpoint
+/// that its processor asked for.
 fn after_marking(ahead: &Ahead, answer: &Answer) -> (ConsumerStage, Progress)
     ensures phase { (reach : ℕ) → phase_of result.0 reach ahead.now None false ≡ after_mark reach ahead.now answer.now }
     ensures kept { IsKept result.0 ahead.now }
@@ -131,7 +139,7 @@ fn after_marking(ahead: &Ahead, answer: &Answer) -> (ConsumerStage, Progress)
     }
 }
 
-/// Returns the stage and the progress after the answer to the Open of the tenure.
+/// Returns the consumer's stage and progress after the answer to its OpenShard.
 fn after_opening(answer: Answer) -> (ConsumerStage, Progress)
     ensures phase { (reach : ℕ) (waiting : List Fetched) (asked : Option Target) (lost : Bool)
         → phase_of result.0 reach waiting asked lost ≡ after_open answer }
@@ -150,7 +158,8 @@ fn after_opening(answer: Answer) -> (ConsumerStage, Progress)
     after
 }
 
-/// Returns the stage and the progress after the answer to the Mark at the shard's end.
+/// Returns the consumer's stage and progress after the answer to the Mark with which the consumer sets the checkpoint
+/// to the shard's end.
 fn after_ending(answer: Answer) -> (ConsumerStage, Progress)
     ensures phase { (reach : ℕ) (waiting : List Fetched) (asked : Option Target) (lost : Bool)
         → phase_of result.0 reach waiting asked lost ≡ after_end answer }
@@ -165,8 +174,7 @@ fn after_ending(answer: Answer) -> (ConsumerStage, Progress)
     after
 }
 
-/// Returns the consumer's progress if it gets an answer at a stage at which it waits for no answer. The answer is
-/// dropped.
+/// Returns the progress of a consumer that gets an answer although it awaits none in its stage. The answer is dropped.
 fn told_over(stage: ConsumerStage, answer: Answer) -> Progress
     ensures { (reach : ℕ) (waiting : List Fetched) (asked : Option Target) (lost : Bool)
         → result ≡ told_over (over_at (phase_of stage reach waiting asked lost)) }
@@ -178,8 +186,8 @@ fn told_over(stage: ConsumerStage, answer: Answer) -> Progress
     }
 }
 
-/// Clears the checkpoint that the processor asked for and the note that the lease is lost. The next stage needs
-/// neither.
+/// Clears `asked`, the checkpoint that the processor asked for, and `lost`, which says that the lease is known to be
+/// lost. The consumer's next stage needs neither value.
 fn forget(asked: &mut Option<Target>, lost: &mut bool)
     ensures asked { asked.new ≡ None }
     ensures lost { lost.new ≡ false }
@@ -188,8 +196,8 @@ fn forget(asked: &mut Option<Target>, lost: &mut bool)
     *lost = false;
 }
 
-/// Returns the stage and the reach after the answer to a Read. `reach` is the reach before the Read. A batch in the
-/// answer is added to the ring.
+/// Returns the consumer's stage and read position after the answer to a Read. `reach` is the read position before the
+/// Read. If the answer has a batch, the batch is added to the ring.
 fn after_reading(ahead: &mut Ahead, limit: u32, reach: u64, answer: Answer) -> (ConsumerStage, u64)
     requires { length ahead.old < PENDING_READS }
     ensures phase { phase_of result.0 result.1 ahead.new None false ≡ after_read limit reach ahead.old answer }
@@ -211,9 +219,10 @@ fn after_reading(ahead: &mut Ahead, limit: u32, reach: u64, answer: Answer) -> (
     }
 }
 
-/// The consumer of one lease during one tenure (Kinesis Client Library, ShardConsumer and its ConsumerStates). The
-/// consumer opens its shard, reads ahead, hands each batch that isn't empty to its processor, gives the batch, and
-/// sets the checkpoints that the processor asks for.
+/// The consumer of one lease during one tenure, that is, during one worker's hold on the lease (Kinesis Client Library,
+/// ShardConsumer and its ConsumerStates). The consumer opens its shard, reads ahead, and hands each batch with records
+/// to its processor. When the processor has returned, the consumer reports the batch as processed (Give), and sets the
+/// checkpoint that the processor asked for, if any (Mark).
 #[derive(Drop)]
 pub struct Consumer<P> {
     made: Tenancy,
@@ -240,8 +249,8 @@ impl<P> Model for Consumer<P> {
 }
 
 impl<P: Processor> Consumer<P> {
-    /// Returns a consumer whose first command opens its shard. The consumer's tenure begins at the checkpoint `start`
-    /// of the lease. Each Read asks for at most `limit` records, 1 to 10,000.
+    /// Returns a consumer whose first command opens its shard. `start` is the lease's checkpoint when the consumer's
+    /// tenure begins. Each Read asks for at most `limit` records, 1 to 10,000. Precondition: the ring `ahead` is empty.
     pub fn new(
         key: ShardRef,
         tenure: TenureNo,
@@ -282,14 +291,14 @@ impl<P: Processor> Consumer<P> {
         self.made.key
     }
 
-    /// Returns the tenure of the consumer's lease.
+    /// Returns the number of the consumer's tenure.
     pub fn tenure(&self) -> TenureNo
         ensures { result ≡ self.now.made.tenure }
     {
         self.made.tenure
     }
 
-    /// Returns the processor call that must come next, if a call is due.
+    /// Returns the processor call that must be made before the consumer's next command, or `None` if no call is due.
     pub fn due(&self) -> Option<Due>
         ensures { result ≡ due_call self.now.phase }
     {
@@ -312,14 +321,15 @@ impl<P: Processor> Consumer<P> {
         }
     }
 
-    /// Returns the sequence number of the last record that was given in the consumer's tenure, if any record was.
+    /// Returns the sequence number of the last record that the consumer reported as processed, or `None` if it reported
+    /// no record.
     pub fn last_given(&self) -> Option<Seq>
         ensures { result ≡ self.now.given }
     {
         self.given
     }
 
-    /// Whether the consumer's next command gives a batch.
+    /// Whether the consumer's next command is a Give, which reports a batch as processed.
     pub fn is_giving(&self) -> bool
         ensures { result ≡ is_giving_phase self.now.phase }
     {
@@ -329,7 +339,8 @@ impl<P: Processor> Consumer<P> {
         }
     }
 
-    /// Whether the consumer's next command opens its shard or sets its checkpoint.
+    /// Whether the consumer's next command is an OpenShard, which opens its shard, or a Mark, which sets the
+    /// checkpoint.
     pub fn is_writing(&self) -> bool
         ensures { result ≡ is_marking_or_opening self.now.phase }
     {
@@ -341,8 +352,8 @@ impl<P: Processor> Consumer<P> {
         }
     }
 
-    /// Returns the command that comes next. `counter` is the current counter of the lease. Precondition: no processor
-    /// call is due, and the consumer isn't over. Needs no memory.
+    /// Returns the consumer's next command. `counter` is the present counter of the lease's row in the lease table.
+    /// Precondition: no processor call is due, and the consumer isn't over. Needs no memory.
     pub fn next(&self, counter: u64) -> Command
         requires none_due { due_call self.now.phase ≡ None }
         requires not_over { over_at self.now.phase ≡ None }
@@ -372,8 +383,8 @@ impl<P: Processor> Consumer<P> {
         }
     }
 
-    /// Makes the processor call that is due. The error means that the processor ran out of memory; then the same call
-    /// is still due.
+    /// Makes the processor call that is due. Precondition: a call is due. The error means that the processor ran out of
+    /// memory; the same call is then still due.
     #[tactic(auto, using(crate::proofs::StandLemmas::called, crate::proofs::StandLemmas::kept))]
     pub fn call(&mut self) -> Result<(), Memory>
         requires { IsSome (due_call self.old.phase) }
@@ -409,7 +420,8 @@ impl<P: Processor> Consumer<P> {
         Ok(())
     }
 
-    /// Absorbs the answer to the command that `next` returned. Needs no memory.
+    /// Updates the consumer with the answer to the command that `next` returned, and returns its progress. Needs no
+    /// memory.
     #[tactic(auto, using(crate::proofs::StandLemmas::answered))]
     pub fn absorb(&mut self, answer: Answer) -> Progress
         ensures made { self.new.made ≡ self.old.made }
@@ -456,8 +468,8 @@ impl<P: Processor> Consumer<P> {
         }
     }
 
-    /// Reports to the consumer that its lease is lost. If the processor was already handed a batch that is about to be
-    /// given, the consumer still gives it.
+    /// Tells the consumer that its lease is lost. If the processor was already handed a batch that isn't yet reported
+    /// as processed, the consumer still reports it (Give).
     pub fn lose(&mut self)
         ensures made { self.new.made ≡ self.old.made }
         ensures phase { self.new.phase ≡ after_loss self.old.phase }
@@ -488,9 +500,11 @@ impl<P: Processor> Consumer<P> {
     }
 }
 
-/// A processor is called with the non-empty reads that its consumer gives, in the same order, whatever answers the
-/// consumer gets; the last of these batches may not be given yet. If the consumer absorbed exactly the answers to
-/// those commands of a history that act on its tenure, these reads are the given reads of that tenure.
+/// States with which batches a processor is called, whatever answers its consumer gets. The processor is called, in the
+/// order of the Reads, with each non-empty batch that the consumer has reported as processed (Give). It may also be
+/// called with one further batch, which isn't reported yet. Suppose that a history (a list of commands) is given, and
+/// that the consumer has been updated with exactly the answers to the commands on its tenure in this history. Then the
+/// reported batches are the reads that the history reports as processed in this tenure.
 pub fn life()
     ensures own { (made : Tenancy) (past : Past) → IsLife made (reads_after made past) (gives_after made past) (calls_after made past) }
     ensures among { (deals : List Deal) (made : Tenancy) (past : Past) → IsInStep deals made past → IsLifeAmong deals made (calls_after made past) }

@@ -10,25 +10,26 @@ use kds_base::{Checkpoint, Memory, ShardRef};
 use kds_defs::Stored;
 use std::alloc::Global;
 
-/// Handles the records of a shard (Kinesis Client Library, ShardRecordProcessor). Contracts see the list of calls that
-/// the processor stands for; each call that returns without an error is added to this list. An error means that the
-/// call ran out of memory: then the list is unchanged, and the same call is made again.
+/// Handles the records of a shard (Kinesis Client Library, ShardRecordProcessor). Contracts describe a processor by the
+/// list of its completed calls. Each call that returns without an error is added to this list. An error means that the
+/// call ran out of memory. The list is then unchanged, and the same call is made again.
 pub trait Processor {
-    /// Whether these are the calls that the processor stands for: the calls that were made and returned, the newest
-    /// first.
+    /// Whether this is the list of the processor's completed calls, the newest first. A call that returned an error
+    /// isn't in the list.
     ghost stands_for: { Self → List Call → Type 0 };
 
-    /// Whether the processor may ask for this checkpoint after this batch.
+    /// Whether the processor may return this request for a checkpoint after this batch.
     ghost asks: { Self → List Stored → Ask → Type 0 };
 
-    /// Reports that the tenure begins. `start` is the lease's checkpoint at this moment.
+    /// Tells the processor that its worker now holds the lease of the shard `key`. `start` is the lease's checkpoint at
+    /// this moment.
     fn initialize(&mut self, key: ShardRef, start: Checkpoint) -> Result<(), Memory>
         ensures called { (calls : List Call) → stands_for self.old calls → OnOk result (stands_for self.new (call.Initialize key start ∷ calls)) }
         ensures kept { (calls : List Call) → stands_for self.old calls → OnErr result (stands_for self.new calls) }
         ensures steady { (batch : List Stored) (a : Ask) → asks self.new batch a → asks self.old batch a };
 
-    /// Handles the next batch, which isn't empty, and returns the checkpoint to ask for (Kinesis Client Library,
-    /// ProcessTask).
+    /// Handles the next batch of records, and returns which checkpoint to set, if any (Kinesis Client Library,
+    /// ProcessTask). Precondition: the batch isn't empty.
     fn process_records(&mut self, batch: &[Stored]) -> Result<Ask, Memory>
         requires { 0 < length batch.now }
         ensures called { (calls : List Call) → stands_for self.old calls → OnOk result (stands_for self.new (call.Process batch.now ∷ calls)) }
@@ -36,14 +37,14 @@ pub trait Processor {
         ensures asked { IfOk result (λ a. asks self.old batch.now a) }
         ensures steady { (batch : List Stored) (a : Ask) → asks self.new batch a → asks self.old batch a };
 
-    /// Reports that the lease is lost: the processor can no longer set a checkpoint.
+    /// Tells the processor that its lease is lost. The processor can no longer set a checkpoint.
     fn lease_lost(&mut self) -> Result<(), Memory>
         ensures called { (calls : List Call) → stands_for self.old calls → OnOk result (stands_for self.new (call.LeaseLost ∷ calls)) }
         ensures kept { (calls : List Call) → stands_for self.old calls → OnErr result (stands_for self.new calls) }
         ensures steady { (batch : List Stored) (a : Ask) → asks self.new batch a → asks self.old batch a };
 
-    /// Reports that the processor was handed all records of the shard, which is closed. After this call, the lease's
-    /// checkpoint is set to the shard's end.
+    /// Tells the processor that the shard is closed, and that the processor has been handed the shard's records up to
+    /// the shard's end. After this call, the consumer sets the lease's checkpoint to the shard's end.
     fn shard_ended(&mut self) -> Result<(), Memory>
         ensures called { (calls : List Call) → stands_for self.old calls → OnOk result (stands_for self.new (call.ShardEnded ∷ calls)) }
         ensures kept { (calls : List Call) → stands_for self.old calls → OnErr result (stands_for self.new calls) }
@@ -52,10 +53,11 @@ pub trait Processor {
 
 /// Makes the processor of a shard (Kinesis Client Library, ShardRecordProcessorFactory).
 pub trait Maker<P: Processor> {
-    /// Whether a processor of this maker may ask for this checkpoint after this batch.
+    /// Whether a processor of this maker may return this request for a checkpoint after this batch.
     ghost asks: { Self → List Stored → Ask → Type 0 };
 
-    /// Makes a processor that hasn't been called yet. If memory runs out, the maker is unchanged.
+    /// Returns a new processor for the shard `key`. No call of the processor has been made yet. The error means out of
+    /// memory; the maker is then unchanged.
     fn make(&mut self, alloc: Global, key: ShardRef) -> Result<P, Memory>
         ensures uncalled { IfOk result (λ p. P.stands_for p []) }
         ensures kept { OnErr result (self.new ≡ self.old) }

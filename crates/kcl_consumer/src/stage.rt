@@ -2,7 +2,7 @@
 use kcl_defs::Why;
 use kds_defs::Target;
 
-/// The stage of a consumer: its next action, or the reason why it is over.
+/// The stage of a consumer: what it does next, or the reason why it is over.
 #[derive(Clone, Copy, Debug, PartialEq, Eq)]
 pub enum ConsumerStage {
     Opening,

@@ -1,4 +1,5 @@
-//! The origin, the floor and the first checkpoint of a new row.
+//! The origin, the floor and the first checkpoint of a new row. The origin is the initial position in the stream:
+//! TRIM_HORIZON, LATEST or a moment. The floor is the sequence number at which reading of the row's shard begins.
 ghost use Rattle.std.specs.Prelude.{◌≡◌, ◌≢◌, true};
 ghost use Rattle.kds_base.specs.declared.lease_key.Checkpoint.TheVariants.{At};
 ghost use Rattle.kds_defs.specs.Journal.{Journal};
@@ -13,8 +14,8 @@ use kcl_table::Table;
 use kds_base::{Checkpoint, Seq, ShardNo, ShardRef, StreamNo};
 use kds_defs::{Origin, Shard};
 
-/// Whether the shard is closed and its ending number is at or above `floor`. A row with this floor then covers the
-/// shard's last number.
+/// Whether the shard is closed and its ending sequence number is at or above `floor`. If so, a row with this floor
+/// covers the shard's last sequence number.
 fn reaches_closing(floor: Seq, shard: &Shard) -> bool
     ensures { (x : ShardState) → shard.now ≡ shown x → result ≡ reaches_closing floor x.closing }
 {
@@ -24,8 +25,8 @@ fn reaches_closing(floor: Seq, shard: &Shard) -> bool
     }
 }
 
-/// Whether the given parent of a shard has a row whose floor is at or below the parent's ending number. Without a
-/// parent the result is false.
+/// Whether `parent`, a parent of a shard, is closed and has a row whose floor is at or below the parent's ending
+/// sequence number. If `parent` is `None`, the result is false.
 fn parent_reaches<L: Shards>(
     shards: &L,
     table: &Table,
@@ -38,7 +39,7 @@ fn parent_reaches<L: Shards>(
         return false;
     };
     let key = ShardRef { stream, shard };
-    // The key is borrowed, because it is passed on more than once.
+    // The key is borrowed, so that it can be passed on more than once.
     let key = &key;
     let Some(row) = table.row(*key) else {
         return false;
@@ -49,8 +50,8 @@ fn parent_reaches<L: Shards>(
     }
 }
 
-/// Returns the origin at which the row of a shard begins. If a parent's row covers the parent's last number, the
-/// origin is TRIM_HORIZON, so that the shard is read from its first record. Otherwise the origin is `from`.
+/// Returns the origin of a new row for `shard`. If a parent has a row that covers the parent's last sequence number,
+/// the origin is TRIM_HORIZON, so that the shard is read from its first record. Otherwise the origin is `from`.
 pub fn counting<L: Shards>(
     shards: &L,
     table: &Table,
@@ -68,8 +69,8 @@ pub fn counting<L: Shards>(
     from
 }
 
-/// Returns the floor of the row of a listed shard: the number at which the row begins. `start` is the shard's first
-/// number.
+/// Returns the floor of a new row for the listed shard `key`: the sequence number at which reading of the shard begins.
+/// `from` is the row's origin, and `start` is the shard's starting sequence number.
 pub fn floor_from<L: Shards>(shards: &L, key: &ShardRef, start: Seq, from: Origin) -> Seq
     requires { L.lists shards.now key.now ≡ true }
     ensures { (log : Journal) → L.shows shards.now log → start ≡ start_of (shard_at log key.now.stream key.now.shard)
@@ -81,7 +82,7 @@ pub fn floor_from<L: Shards>(shards: &L, key: &ShardRef, start: Seq, from: Origi
     }
 }
 
-/// Returns the first checkpoint of a row that begins at the origin `from` and has this floor.
+/// Returns the first checkpoint of a row that has the origin `from` and the floor `floor`.
 pub fn start_from(from: Origin, floor: Seq) -> Checkpoint
     ensures value { result ≡ start_from from floor }
     ensures bounded { result ≢ At last_number }

@@ -1,4 +1,6 @@
-//! The commands that make, take, renew, free and cut rows.
+//! The commands that make, take, renew, free and remove rows of the lease table. A tenure is one worker's hold on a
+//! lease. Each write of a row raises the row's counter. A tenure begins when the lease's row is taken, and ends when
+//! the row is freed or taken again. A shard is listed until it has been closed for the retention period.
 ghost use Rattle.std.specs.Prelude.{◌≡◌, ◌≤◌, ℕ, List, length, IfOk, OnErr};
 ghost use Rattle.kds_defs.specs.declared.command.Command.TheVariants as command;
 ghost use Rattle.kds_defs.specs.StreamCommands.{last_number};
@@ -15,8 +17,9 @@ use kcl_table::{Change, Table};
 use kds_base::{Checkpoint, Memory, ShardRef, TenureNo, WorkerNo};
 use kds_defs::{Answer, Origin, Refusal, Reply};
 
-/// Makes the row of a listed shard. The row's floor and first checkpoint follow from the origin that `counting`
-/// returns.
+/// Makes a row for the listed shard `key`. The function `counting` decides the row's origin. The origin decides the
+/// row's first checkpoint and the row's floor, which is the sequence number at which reading of the shard begins. If
+/// memory runs out, no row is made.
 pub fn make<L: Shards>(
     shards: &L,
     table: &mut Table,
@@ -35,7 +38,7 @@ pub fn make<L: Shards>(
         return Ok(Err(Refusal::ShardGone));
     }
     let counts = counting(shards, table, key.stream, shard, from);
-    // The value is borrowed, because it is passed on more than once.
+    // The origin is borrowed, so that it can be passed on more than once.
     let from = &counts;
     let floor = floor_from(shards, key, shard.start, *from);
     let start = start_from(*from, floor);
@@ -45,9 +48,9 @@ pub fn make<L: Shards>(
     }
 }
 
-/// Returns the checkpoint at which a new tenure begins if a worker takes the row of `key` at `counter`. Refusals:
-/// `NoLease` if there is no row, `Moved` if the row's counter isn't `counter`, `Ended` if the checkpoint is the
-/// shard's end, `Spent` if the counter is the greatest `u64` or if `spent` says that no tenure number is left.
+/// Returns the checkpoint at which the new tenure begins if a worker takes the row of `key`. Refusals: `NoLease` if
+/// there is no row, `Moved` if the row's counter isn't `counter`, `Ended` if the row's checkpoint is the shard's end,
+/// `Spent` if the row's counter is the greatest `u64` or if `spent` says that no tenure number is left.
 pub fn take_start(
     table: &Table,
     key: &ShardRef,
@@ -71,7 +74,8 @@ pub fn take_start(
     Ok(row.checkpoint)
 }
 
-/// Has a worker take the row of `key` at `counter`, which begins a new tenure.
+/// Takes the row of `key` for the worker `owner`. The row's counter must be `counter`. A new tenure of the actor `by`
+/// begins. If memory runs out, the rows and the tenures are unchanged.
 pub fn take<L: Shards>(
     shards: &L,
     table: &mut Table,
@@ -92,7 +96,7 @@ pub fn take<L: Shards>(
         Ok(start) => start,
         Err(refusal) => return Ok(Err(refusal)),
     };
-    // The value is borrowed, because it is passed on more than once.
+    // The checkpoint is borrowed, so that it can be passed on more than once.
     let from = &start;
     book.reserve()?;
     let tenure = book.begin(by, *key, *from);
@@ -106,7 +110,7 @@ pub fn take<L: Shards>(
     }
 }
 
-/// Renews or frees the row of a tenure, as `change` says.
+/// Renews or frees the row that the tenure `tenure` holds, as `change` says. The row's counter must be `counter`.
 fn write<L: Shards>(
     shards: &L,
     table: &mut Table,
@@ -125,7 +129,7 @@ fn write<L: Shards>(
     Ok(Reply::Counter(next))
 }
 
-/// Renews the row of a tenure.
+/// Renews the row that the tenure `tenure` holds. The row's counter must be `counter`.
 pub fn renew<L: Shards>(
     shards: &L,
     table: &mut Table,
@@ -140,7 +144,7 @@ pub fn renew<L: Shards>(
     write(shards, table, book, by, tenure, counter, Change::Renewed)
 }
 
-/// Frees the row of a tenure.
+/// Frees the row that the tenure `tenure` holds. The row's counter must be `counter`.
 pub fn free<L: Shards>(
     shards: &L,
     table: &mut Table,
@@ -155,7 +159,7 @@ pub fn free<L: Shards>(
     write(shards, table, book, by, tenure, counter, Change::Freed)
 }
 
-/// Removes the row of a shard that isn't listed.
+/// Removes the row of the shard `key`. The shard must not be listed, and the row's counter must be `counter`.
 pub fn cut<L: Shards>(shards: &L, table: &mut Table, key: &ShardRef, counter: u64) -> Answer
     ensures { (by : ℕ) (ts : List TenureValue)
         → LeadsOver (L.clock shards.now) (L.shows shards.now) table.old ts table.new ts by (command.CutLease key.now counter) result }

@@ -1,4 +1,6 @@
-//! The commands that open a tenure, give its reads and set the checkpoint of its row.
+//! The commands that open a tenure, count its reads as delivered, and set the checkpoint of its row in the lease table.
+//! A tenure is one worker's hold on a lease. A read counts as delivered once the record processor has processed the
+//! read's batch. Until then, the read is pending.
 ghost use Rattle.std.specs.Prelude.{◌≡◌, ℕ, List, IfOk, OnErr};
 ghost use Rattle.kds_defs.specs.declared.command.Command.TheVariants as command;
 ghost use Rattle.kds_defs.specs.declared.reply.Row.{Row};
@@ -12,8 +14,8 @@ use kcl_table::Table;
 use kds_base::{Memory, TenureNo};
 use kds_defs::{Answer, Refusal, Reply, Target};
 
-/// Opens a tenure, which may read from then on. The parents of its shard must have been processed to their ends or
-/// have expired.
+/// Opens the tenure `tenure`, which may read its shard from then on. Each parent of the shard must have been processed
+/// to its end or have expired.
 pub fn open<L: Shards>(
     shards: &L,
     table: &Table,
@@ -28,7 +30,7 @@ pub fn open<L: Shards>(
     if own.opened {
         return Err(Refusal::OpenedBefore);
     }
-    // The key is borrowed, because it is passed on more than once.
+    // The key is borrowed, so that it can be passed on more than once.
     let key = &own.key;
     let Some(shard) = shards.shard(*key) else {
         return Err(Refusal::ShardGone);
@@ -42,7 +44,8 @@ pub fn open<L: Shards>(
     Ok(Reply::Done)
 }
 
-/// Gives the oldest pending read of a tenure.
+/// Counts the oldest pending read of the tenure `tenure` as delivered, because the record processor has processed the
+/// read's batch.
 pub fn give<L: Shards>(shards: &L, book: &mut Book, by: u32, tenure: TenureNo) -> Answer
     ensures { (rows : List Row)
         → LeadsOver (L.clock shards.now) (L.shows shards.now) rows book.old.tenures rows book.new.tenures by (command.Give tenure) result }
@@ -53,7 +56,8 @@ pub fn give<L: Shards>(shards: &L, book: &mut Book, by: u32, tenure: TenureNo) -
     Ok(Reply::Given { delivered })
 }
 
-/// Sets the checkpoint of a tenure's row.
+/// Sets the checkpoint of the row that the tenure `tenure` holds to the target `to`. The row's counter must be
+/// `counter`.
 pub fn mark<L: Shards>(
     shards: &L,
     table: &mut Table,

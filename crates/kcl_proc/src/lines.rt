@@ -9,8 +9,8 @@ use kds_defs::Stored;
 use std::alloc::Global;
 use std::marker::Model;
 
-/// A processor that keeps the sequence numbers of all records that it is handed, in order, and asks for a checkpoint
-/// at the first number of each batch. A call that runs out of memory changes nothing.
+/// A processor that keeps the sequence numbers of all records that it is handed, in order. After each batch it asks for
+/// a checkpoint at the batch's first record. A call that runs out of memory changes nothing.
 #[derive(Drop)]
 pub struct Lines {
     numbers: Vec<Seq>,
@@ -24,7 +24,8 @@ impl Model for Lines {
     ghost view = { λ l. l.numbers.items };
 }
 
-/// Appends the sequence numbers of the batch's records to `numbers`.
+/// Appends the sequence numbers of the batch's records to `numbers`. The error means out of memory; `numbers` is then
+/// unchanged.
 fn add_numbers(numbers: &mut Vec<Seq>, batch: &[Stored]) -> Result<(), Memory>
     ensures ok { OnOk result (numbers.new.items ≡ numbers.old.items ++ numbers_of batch.now) }
     ensures err { OnErr result (numbers.new.items ≡ numbers.old.items) }
@@ -36,7 +37,7 @@ fn add_numbers(numbers: &mut Vec<Seq>, batch: &[Stored]) -> Result<(), Memory>
     Ok(())
 }
 
-/// Returns the ask for a checkpoint at the first number of a batch, or for no checkpoint if the batch is empty.
+/// Returns a request for a checkpoint at the batch's first record, or for no checkpoint if the batch is empty.
 fn first_ask(batch: &[Stored]) -> Ask
     ensures { result ≡ first_ask batch.now }
 {
@@ -47,7 +48,7 @@ fn first_ask(batch: &[Stored]) -> Ask
 }
 
 impl Lines {
-    /// Returns a processor that has kept no numbers yet.
+    /// Returns a processor that hasn't been handed any records.
     pub fn new(alloc: Global) -> Lines
         ensures { result ≡ [] }
     {

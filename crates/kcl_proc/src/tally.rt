@@ -8,8 +8,8 @@ use kds_base::{Checkpoint, Memory, ShardRef};
 use kds_defs::Stored;
 use std::marker::Model;
 
-/// A processor that counts records and their payload bytes, and asks for a checkpoint at the last number of each
-/// batch. Each count stops at the greatest `u64`. The processor's calls need no memory.
+/// A processor that counts records and the bytes of their payloads. After each batch it asks for a checkpoint at the
+/// batch's last record. Each count stops at the greatest `u64`. The processor's calls need no memory.
 #[derive(Drop)]
 pub struct Tally {
     records: u64,
@@ -24,7 +24,7 @@ impl Model for Tally {
     ghost view = { λ t. record { records = t.records; bytes = t.bytes } };
 }
 
-/// Returns the total number of payload bytes of the batch's records, or the greatest `u64` if the total is greater.
+/// Returns the total number of payload bytes in the batch, or the greatest `u64` if the total is greater.
 fn payload_bytes(batch: &[Stored]) -> u64
     ensures { result ≡ min (payload_bytes batch.now) most }
 {
@@ -36,7 +36,7 @@ fn payload_bytes(batch: &[Stored]) -> u64
 }
 
 impl Tally {
-    /// Returns a processor that has counted nothing yet.
+    /// Returns a processor whose two counts are 0.
     pub fn new() -> Tally
         ensures { result ≡ record { records = 0; bytes = 0 } }
     {
@@ -46,14 +46,15 @@ impl Tally {
         }
     }
 
-    /// Returns the number of records that this processor was handed.
+    /// Returns how many records this processor was handed, at most the greatest `u64`.
     pub fn records(&self) -> u64
         ensures { result ≡ self.now.records }
     {
         self.records
     }
 
-    /// Returns the number of payload bytes of the records that this processor was handed.
+    /// Returns the total number of payload bytes in the records that this processor was handed, at most the greatest
+    /// `u64`.
     pub fn bytes(&self) -> u64
         ensures { result ≡ self.now.bytes }
     {

@@ -7,9 +7,9 @@ ghost use Rattle.kcl_defs.specs.Plans.{is_due};
 pub use kcl_defs::Held;
 use kds_base::Moment;
 
-/// Whether the lease is due for renewal at the moment `now` (Kinesis Client Library, LeaseRenewer): a third of
-/// `failover` milliseconds, rounded down, has passed since the lease was last written. If `now` is before that write,
-/// the lease isn't due.
+/// Whether the worker must renew the lease at the moment `now` (Kinesis Client Library, LeaseRenewer). The result is
+/// true if at least a third of `failover` milliseconds, rounded down, has passed since the worker last wrote the
+/// lease's row (`held.since`). If `now` is earlier than that write, the result is false.
 pub fn due(held: &Held, now: Moment, failover: u64) -> bool
     ensures { result ≡ is_due held.now now failover }
 {

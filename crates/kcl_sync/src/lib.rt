@@ -1,4 +1,5 @@
-//! The writes that bring the lease rows in line with the listed shards.
+//! The sync plan of a worker: the writes that make the missing rows of listed shards and remove the rows of all other
+//! shards. A row is the item of a lease in the lease table. A shard is listed if ListShards returns it.
 #![tactic(auto)]
 
 ghost use Rattle.std.specs.Prelude.{◌≡◌, ◌++◌, ◌∷◌, [], IfOk, OnOk, OnErr};
@@ -39,7 +40,7 @@ impl Steps {
         self.all.push(SyncStep::Make(key, self.from))
     }
 
-    /// Adds a step that cuts the row `r` at its counter.
+    /// Adds a step that removes ("cuts") the row `r` if the row still has its present counter.
     fn add_cut(&mut self, r: &Row) -> Result<(), Memory>
         ensures { OnOk result (self.new.all ≡ self.old.all ++ SyncStep.Cut r.now.key r.now.counter ∷ []) }
     {
@@ -47,7 +48,7 @@ impl Steps {
     }
 }
 
-/// Adds, for each of `shards` that has no row, a step that makes a row.
+/// Adds, for each shard in `shards` that has no row in `rows`, a step that makes a row.
 fn add_makes(steps: &mut Steps, shards: &[ShardRef], rows: &[Row]) -> Result<(), Memory>
     ensures { OnOk result (steps.new.all ≡ steps.old.all ++ makes steps.old.from rows.now shards.now) }
 {
@@ -59,7 +60,7 @@ fn add_makes(steps: &mut Steps, shards: &[ShardRef], rows: &[Row]) -> Result<(),
     Ok(())
 }
 
-/// Adds, for each of `rows` whose shard isn't among `shards`, a step that cuts the row.
+/// Adds, for each row in `rows` whose shard isn't in `shards`, a step that removes the row.
 fn add_cuts(steps: &mut Steps, shards: &[ShardRef], rows: &[Row]) -> Result<(), Memory>
     ensures { OnOk result (steps.new.all ≡ steps.old.all ++ cuts shards.now rows.now) }
 {
@@ -71,12 +72,12 @@ fn add_cuts(steps: &mut Steps, shards: &[ShardRef], rows: &[Row]) -> Result<(), 
     Ok(())
 }
 
-/// Returns the sync plan for the listed shards and the rows of a survey (Kinesis Client Library, ShardSyncer). First
-/// comes a step for each listed shard without a row, which makes a row whose start is `from`. Then comes a step for
-/// each row whose shard isn't listed, which cuts this row at its counter. Both kinds of steps keep the order of the
-/// survey.
+/// Returns the sync plan for the listed shards and the rows of a survey (Kinesis Client Library, ShardSyncer). The
+/// first steps make a row with the origin `from` for each listed shard that has no row. The other steps remove each row
+/// whose shard isn't listed, if the row's counter hasn't changed by then. Within each of these two groups, the steps
+/// are in the order of the survey.
 ///
-/// The error means out of memory: an allocation was refused.
+/// The error `Memory` means that an allocation failed.
 pub fn plan(
     alloc: Global,
     shards: &[ShardRef],

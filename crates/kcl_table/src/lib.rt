@@ -1,4 +1,4 @@
-//! The lease table, which has a row for each shard that workers process.
+//! The lease table. Each row is the lease of one shard, and says how far the shard has been processed.
 #![tactic(auto)]
 
 mod search;

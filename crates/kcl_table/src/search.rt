@@ -1,4 +1,4 @@
-//! The search for the row of a given key.
+//! Finds the row with a given key among the rows of the lease table.
 ghost use Rattle.std.specs.Prelude.{◌≡◌, ◌≤◌, length, slice_get};
 ghost use Rattle.std.specs.Option.{option_map};
 ghost use Rattle.kds_defs.specs.Keys.{is_before};
@@ -7,7 +7,8 @@ ghost use Rattle.kcl_table.specs.Rows.{AreInOrder, if_key, place_of, row_of};
 use kds_base::ShardRef;
 use kds_defs::Row;
 
-/// Whether the key `a` comes before the key `b`: by stream, and then by shard.
+/// Whether the key `a` comes before the key `b`. Keys are ordered by stream number, and within a stream by shard
+/// number.
 fn is_before(a: &ShardRef, b: &ShardRef) -> bool
     ensures { result ≡ is_before a.now b.now }
 {
@@ -18,7 +19,8 @@ fn is_before(a: &ShardRef, b: &ShardRef) -> bool
     }
 }
 
-/// Returns the number of rows whose keys come before `key`.
+/// Returns the number of rows whose keys come before `key`. This is the index at which a row with the key `key`
+/// belongs.
 pub fn index_of(rows: &[Row], key: &ShardRef) -> usize
     requires { AreInOrder rows.now }
     ensures value { result ≡ place_of key.now rows.now }
@@ -27,7 +29,7 @@ pub fn index_of(rows: &[Row], key: &ShardRef) -> usize
     rows.partition_point(|row| is_before(&row.key, key))
 }
 
-/// Returns the row at this index, if the row's key is `key`.
+/// Returns the row at the index `index` if the row's key is `key`, and otherwise `None`.
 fn row_at<'a>(rows: &'a [Row], index: usize, key: &ShardRef) -> Option<&'a Row>
     ensures { option_map (λ r. r.now) result ≡ if_key key.now (slice_get rows.now index) }
 {
@@ -35,7 +37,7 @@ fn row_at<'a>(rows: &'a [Row], index: usize, key: &ShardRef) -> Option<&'a Row>
     if row.key == *key { Some(row) } else { None }
 }
 
-/// Returns the row whose key is `key`, if there is such a row.
+/// Returns the row whose key is `key`, or `None` if there is no such row.
 #[tactic(auto, using(crate::proofs::Places::row_there))]
 pub fn row_of<'a>(rows: &'a [Row], key: &ShardRef) -> Option<&'a Row>
     requires { AreInOrder rows.now }

@@ -1,4 +1,5 @@
-//! The lease table.
+//! The lease table. Each row is the lease of one shard, and each write of a row raises the row's counter. A tenure is
+//! one worker's hold on a lease, from the moment the lease is taken until it is freed or taken again.
 ghost use Rattle.std.specs.Prelude.{◌≡◌, ◌≢◌, ◌≤◌, [], is_some, if◌then◌else◌, None, Err, Ok, IfOk, OnErr, OnOk};
 ghost use Rattle.std.specs.Option.{option_map};
 ghost use Rattle.kds_defs.specs.declared.reply.Refusal.TheVariants as refusal;
@@ -15,7 +16,8 @@ use kds_defs::{Refusal, Row, Target};
 use std::alloc::Global;
 use std::marker::Model;
 
-/// The lease table (Kinesis Client Library, lease table). Contracts see its rows in the order of their keys.
+/// The lease table (Kinesis Client Library, lease table). In contracts, a table is the list of its rows in the order of
+/// their keys.
 #[derive(Drop)]
 pub struct Table {
     rows: Vec<Row>,
@@ -43,14 +45,14 @@ impl Table {
         }
     }
 
-    /// Returns the row of a key. `None` means exactly that the key has no row.
+    /// Returns the row with the key `key`, or `None` if and only if there is no such row.
     pub fn row(&self, key: ShardRef) -> Option<&Row>
         ensures { option_map (λ r. r.now) result ≡ row_of self.now key }
     {
         row_of(&self.rows, &key)
     }
 
-    /// Returns all rows in the order of their keys. The error means out of memory.
+    /// Returns a list of all rows, in the order of their keys. The error means that memory ran out.
     pub fn rows(&self) -> Result<Items<Row>, Memory>
         ensures { IfOk result (λ rows. rows ≡ self.now) }
     {
@@ -61,7 +63,7 @@ impl Table {
         Ok(rows)
     }
 
-    /// Replaces the row that has the same key as `row`.
+    /// Replaces the row that has the same key as `row` with `row`. The table must have a row with this key.
     fn put(&mut self, row: Row)
         requires there { (row_of self.old row.key ≡ None) → ⊥ }
         requires counted { row.switches ≤ row.counter }
@@ -71,10 +73,10 @@ impl Table {
         self.rows[index] = row;
     }
 
-    /// Makes a row without an owner for a key. `floor` is the number at which the row's records begin. `start` is the
-    /// checkpoint at which the row's first tenure begins. The refusal is `LeaseThere` exactly if the key already has a
-    /// row (Kinesis Client Library, lease, initial position in stream). The error means out of memory; then no row was
-    /// made.
+    /// Adds a row for the shard `key`, without an owner. `floor` is the sequence number at which the row's records
+    /// begin. `start` is the row's first checkpoint, at which the row's first tenure begins (Kinesis Client Library,
+    /// lease, initial position in stream). The refusal is `LeaseThere` if and only if the shard already has a row. If
+    /// memory runs out, the error is `Memory`, and no row is added.
     pub fn create(
         &mut self,
         key: ShardRef,
@@ -97,9 +99,9 @@ impl Table {
         Ok(Ok(()))
     }
 
-    /// Has a worker take the row of a key at `counter`, so that a new tenure holds the row. Refusals: `NoLease` if
-    /// there is no row, `Moved` if the row's counter isn't `counter`, `Ended` if the checkpoint is the shard's end,
-    /// `Spent` if the counter is the greatest `u64`.
+    /// Takes the row of `key` for the worker `owner`, so that the new tenure `tenure` holds the row. Returns the row's
+    /// new counter. Refusals: `NoLease` if there is no row, `Moved` if the row's counter isn't `counter`, `Ended` if
+    /// the row's checkpoint is the shard's end, `Spent` if the row's counter is the greatest `u64`.
     pub fn take(
         &mut self,
         key: ShardRef,
@@ -121,9 +123,9 @@ impl Table {
         Ok(next)
     }
 
-    /// Has a tenure renew its row at `counter`, or free it, which leaves it without an owner. Refusals: `Lost` if the
-    /// row has another tenure or no tenure, `Moved` if the row's counter isn't `counter`, `Spent` if the counter is
-    /// the greatest `u64`.
+    /// Renews or frees the row that the tenure `tenure` holds, as `change` says. Returns the row's new counter.
+    /// Refusals: `Lost` if the tenure doesn't hold the row of `key`, `Moved` if the row's counter isn't `counter`,
+    /// `Spent` if the row's counter is the greatest `u64`.
     pub fn write(
         &mut self,
         key: ShardRef,
@@ -142,11 +144,14 @@ impl Table {
         Ok(next)
     }
 
-    /// Has a tenure set the checkpoint of its row at `counter` (Kinesis Client Library, checkpoint). The refusals
-    /// `Lost` and `Moved` are as in a renewal. If the target is a number, further refusals are `Ended` if the
-    /// checkpoint is the shard's end, `Beyond` if the number isn't below `delivered`, and `Below` if the number is
-    /// less than the least number that may be set. If the target is the shard's end, the refusal is `NotAtEnd` if
-    /// `at_end` is false. After these checks, the refusal is `Spent` if the counter is the greatest `u64`.
+    /// Sets the checkpoint of the row that the tenure `tenure` holds to the target `to` (Kinesis Client Library,
+    /// checkpoint). Returns the row's new counter. `delivered` is the position up to which the tenure's processor has
+    /// processed records, and `at_end` says whether the processor has processed the shard to the end. The refusals
+    /// `Lost` and `Moved` are as in `write`. If the target is a sequence number, there are three further refusals:
+    /// `Ended` (the row's checkpoint is already the shard's end), `Beyond` (the number isn't below `delivered`), and
+    /// `Below` (the number is less than the least number to which the checkpoint may be set). If the target is the
+    /// shard's end, there is one further refusal: `NotAtEnd` (`at_end` is false). After these checks, the refusal is
+    /// `Spent` if the row's counter is the greatest `u64`.
     pub fn mark(
         &mut self,
         key: ShardRef,
@@ -167,8 +172,8 @@ impl Table {
         Ok(next)
     }
 
-    /// Removes the row of a key at `counter`. Refusals: `NoLease` if there is no row, `Moved` if the row's counter
-    /// isn't `counter`, `ShardListed` if the shard is listed.
+    /// Removes the row of `key`. Refusals: `NoLease` if there is no row, `Moved` if the row's counter isn't `counter`,
+    /// `ShardListed` if `listed` says that ListShards still returns the shard.
     pub fn cut(&mut self, key: ShardRef, counter: u64, listed: bool) -> Result<(), Refusal>
         ensures value { result ≡ cut_answer (row_of self.old key) counter listed }
         ensures cut { OnOk result (self.new ≡ without_row key self.old) }
@@ -189,7 +194,7 @@ impl Table {
     }
 }
 
-/// Returns a new row of a key, without an owner and with the counter 0.
+/// Returns a new row for the shard `key`, without an owner and with the counter 0.
 fn first(
     key: ShardRef,
     floor: Seq,

@@ -1,4 +1,5 @@
-//! The conditions under which a row may be written, and the row after each write.
+//! The conditions under which a row of the lease table may be written, and the row after each write. Each write raises
+//! the row's counter. A tenure is one worker's hold on a lease.
 ghost use Rattle.std.specs.Prelude.{◌≡◌, ◌≢◌, ◌<◌, ◌≤◌, ◌-◌, ◌^◌, ℕ, Some, IfErr, IfOk, Result, Err};
 ghost use Rattle.kds_defs.specs.declared.reply.Refusal.{Refusal};
 ghost use Rattle.kds_defs.specs.RowWrites.{least};
@@ -10,14 +11,15 @@ use crate::search::row_of;
 use kds_base::{Checkpoint, Seq, ShardRef, TenureNo, WorkerNo};
 use kds_defs::{Refusal, Row, Target};
 
-/// A change that a tenure makes to its row: it renews the row, or frees it, which leaves the row without an owner.
+/// A change that a tenure makes to the row that it holds. A row that is freed has no owner and no tenure afterwards.
 #[derive(Clone, Copy, Debug, PartialEq, Eq)]
 pub enum Change {
     Renewed,
     Freed,
 }
 
-/// Returns the counter after the next write. The refusal is `Spent` if `counter` is the greatest `u64`.
+/// Returns the counter that a row has after its next write. The refusal is `Spent` if the present counter, `counter`,
+/// is the greatest `u64`.
 fn counted(counter: u64) -> Result<u64, Refusal>
     ensures { result ≡ counted counter }
 {
@@ -27,7 +29,8 @@ fn counted(counter: u64) -> Result<u64, Refusal>
     Ok(counter + 1)
 }
 
-/// Returns the row's counter after a worker takes the row at `counter`, or the refusal of the Take.
+/// Returns the counter that the row has after a worker takes it. The refusals `Moved`, `Ended` and `Spent` are as in
+/// `Table::take`.
 pub fn take_counter(row: &Row, counter: u64) -> Result<u64, Refusal>
     ensures { result ≡ take_answer (Some row.now) counter }
 {
@@ -40,7 +43,8 @@ pub fn take_counter(row: &Row, counter: u64) -> Result<u64, Refusal>
     counted(row.counter)
 }
 
-/// Returns the row of the key if the tenure holds it at this counter. Otherwise returns the refusal.
+/// Returns the row of `key` if the tenure `tenure` holds the row and the row's counter is `counter`. The refusals
+/// `Lost` and `Moved` are as in `Table::write`.
 pub fn check_owner(
     rows: &[Row],
     key: &ShardRef,
@@ -65,14 +69,15 @@ pub fn check_owner(
     Ok(*row)
 }
 
-/// Returns the row's counter after it is renewed or freed.
+/// Returns the counter that the row has after it is renewed or freed. The refusal `Spent` is as in `Table::write`.
 pub fn next_counter(row: &Row) -> Result<u64, Refusal>
     ensures { result ≡ counted row.now.counter }
 {
     counted(row.counter)
 }
 
-/// Returns the least number to which the row's checkpoint may be set.
+/// Returns the least sequence number to which the row's checkpoint may be set. It is the present checkpoint if this
+/// checkpoint is a sequence number. Otherwise it is the row's floor, at which the row's records begin.
 fn least(row: &Row) -> Seq
     ensures { result ≡ least row.now.checkpoint row.now.floor }
 {
@@ -82,7 +87,8 @@ fn least(row: &Row) -> Seq
     }
 }
 
-/// Returns the row's counter after its checkpoint is set to the target `to`, or the refusal of the Mark.
+/// Returns the counter that the row has after its checkpoint is set to the target `to`. The refusals `Ended`, `Beyond`,
+/// `Below`, `NotAtEnd` and `Spent` are as in `Table::mark`.
 pub fn target_counter(row: &Row, to: &Target, delivered: u64, at_end: bool) -> Result<u64, Refusal>
     ensures { result ≡ target_answer (Some row.now) to.now delivered at_end }
 {
@@ -109,7 +115,7 @@ pub fn target_counter(row: &Row, to: &Target, delivered: u64, at_end: bool) -> R
     counted(row.counter)
 }
 
-/// Returns the row after a worker took it.
+/// Returns the row as it is after the worker `owner` takes it and the tenure `tenure` begins.
 pub fn taken(row: &Row, tenure: TenureNo, owner: WorkerNo) -> Row
     requires counter { row.now.counter < 2 ^ 64 - 1 }
     requires switches { row.now.switches ≤ row.now.counter }
@@ -132,7 +138,7 @@ pub fn taken(row: &Row, tenure: TenureNo, owner: WorkerNo) -> Row
     }
 }
 
-/// Returns the row after it was renewed or freed.
+/// Returns the row as it is after it is renewed or freed.
 pub fn written(row: &Row, change: Change) -> Row
     requires { row.now.counter < 2 ^ 64 - 1 }
     ensures { result ≡ written_row change row.now }
@@ -151,7 +157,7 @@ pub fn written(row: &Row, change: Change) -> Row
     }
 }
 
-/// Returns the checkpoint that the target `to` sets.
+/// Returns the checkpoint that a row has after this checkpoint is set to the target `to`.
 fn checkpoint_at(to: &Target) -> Checkpoint
     ensures { result ≡ checkpoint_at to.now }
 {
@@ -161,7 +167,7 @@ fn checkpoint_at(to: &Target) -> Checkpoint
     }
 }
 
-/// Returns the row after its checkpoint was set to the target `to`.
+/// Returns the row as it is after its checkpoint is set to the target `to`.
 pub fn marked(row: &Row, to: &Target) -> Row
     requires { row.now.counter < 2 ^ 64 - 1 }
     ensures { result ≡ marked_row to.now row.now }

@@ -1,4 +1,5 @@
-//! A worker's notes on the lease rows that it observed, and the choice of the rows that it takes.
+//! The lease taker of a worker: its notes on the lease rows that it has seen, and the choice of the leases that it
+//! takes. A row is the item of a lease in the lease table.
 #![tactic(auto)]
 
 mod observed;

@@ -1,4 +1,5 @@
-//! A worker's notes on the lease rows that it observed.
+//! A worker's notes on the lease rows that it has seen. The notes show whether a lease has expired. A row is the item
+//! of a lease in the lease table. Each write of a row raises its counter.
 ghost use Rattle.std.specs.Prelude.{◌≡◌, ◌++◌, ◌∷◌, [], IfOk, OnOk, OnErr};
 ghost use Rattle.kds_base.specs.declared.lease_key.ShardRef.{ShardRef};
 ghost use Rattle.kcl_defs.specs.Plans.{after_rows, is_expired_since, seen_at};
@@ -10,8 +11,9 @@ use kds_defs::Row;
 use std::alloc::Global;
 use std::marker::Model;
 
-/// Notes on all rows that were observed: for each row, its counter and the moment at which this counter was first seen
-/// (Kinesis Client Library, LeaseTaker). If a row is no longer seen, its note stays unchanged.
+/// A worker's notes on all lease rows that it has seen (Kinesis Client Library, LeaseTaker). The note on a row has the
+/// row's last seen counter, and the moment at which this counter was first seen. A row that is no longer in the lease
+/// table keeps its note.
 #[derive(Drop)]
 pub struct Observed {
     seen: Vec<Seen>,
@@ -26,7 +28,7 @@ impl Model for Observed {
     ghost view = { λ o. o.seen.items };
 }
 
-/// Returns the note on the row `r` if its counter is first seen at the moment `now`.
+/// Returns a new note on the row `r`, whose present counter is first seen at the moment `now`.
 fn first_note(r: &Row, now: Moment) -> Seen
     ensures { result ≡ first_note r.now now }
 {
@@ -37,7 +39,8 @@ fn first_note(r: &Row, now: Moment) -> Seen
     }
 }
 
-/// Puts the note `first` into `seen`, unless `seen` already has a note with the same counter for the same row.
+/// Adds the note `first` to `seen`. If `seen` has a note on the same row with another counter, `first` replaces that
+/// note. If `seen` has a note on the same row with the same counter, nothing changes.
 fn note(seen: &mut Vec<Seen>, first: Seen) -> Result<(), Memory>
     ensures { OnOk result (seen.new.items ≡ noted first seen.old.items) }
 {
@@ -54,7 +57,7 @@ fn note(seen: &mut Vec<Seen>, first: Seen) -> Result<(), Memory>
     Ok(())
 }
 
-/// Returns the note on the row of `key`, if there is such a note.
+/// Returns the note on the row with the key `key`, or `None` if there is no such note.
 fn find_seen(seen: &[Seen], key: &ShardRef) -> Option<Seen>
     ensures { result ≡ seen_at seen.now key.now }
 {
@@ -66,7 +69,7 @@ fn find_seen(seen: &[Seen], key: &ShardRef) -> Option<Seen>
     None
 }
 
-/// Updates the notes by all of `rows`, which are seen at the moment `now`.
+/// Updates the notes `seen` with each of `rows`, which the worker sees at the moment `now`.
 fn note_all(seen: &mut Vec<Seen>, rows: &[Row], now: Moment) -> Result<(), Memory>
     ensures { OnOk result (seen.new.items ≡ noted_all rows.now now seen.old.items) }
 {
@@ -86,7 +89,7 @@ impl Observed {
         }
     }
 
-    /// Returns an equal value. The error means out of memory.
+    /// Returns a copy of the notes. The error means out of memory.
     pub fn copy(&self, alloc: Global) -> Result<Observed, Memory>
         ensures { IfOk result (λ o. o ≡ self.now) }
     {
@@ -96,8 +99,9 @@ impl Observed {
         }
     }
 
-    /// Updates the notes by `rows`, which are seen at the moment `now`: for each row whose counter isn't noted yet,
-    /// notes the counter and `now`. The error means out of memory; then nothing has changed.
+    /// Updates the notes with `rows`, which the worker sees at the moment `now`. Each row that has no note, or a note
+    /// with another counter, gets a new note with the row's counter and `now`. The error means out of memory; the notes
+    /// are then unchanged.
     pub fn see(&mut self, alloc: Global, rows: &[Row], now: Moment) -> Result<(), Memory>
         ensures ok { OnOk result ((key : ShardRef) → seen_at self.new key ≡ after_rows rows.now now (seen_at self.old) key) }
         ensures err { OnErr result (self.new ≡ self.old) }
@@ -111,8 +115,9 @@ impl Observed {
         Ok(())
     }
 
-    /// Whether the row is expired: its counter is still the noted one, and was first seen more than `failover`
-    /// milliseconds before `now`. A row whose counter was first seen later than `now` isn't expired.
+    /// Whether the lease of the row has expired: the row still has the counter in its note, and this counter was first
+    /// seen more than `failover` milliseconds before `now`. A row isn't expired if it has no note, or if its counter
+    /// was first seen later than `now`.
     pub fn expired(&self, row: &Row, now: Moment, failover: u64) -> bool
         ensures { result ≡ is_expired_since (seen_at self.now row.now.key) row.now now failover }
     {

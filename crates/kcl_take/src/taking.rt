@@ -1,4 +1,6 @@
-//! The choice of the rows that a worker takes.
+//! Chooses the leases that a worker takes. A row is the item of a lease in the lease table, and names the lease's
+//! owner, if any. A tenure is one worker's hold on a lease; each tenure has a number. A take plan is a list of steps.
+//! Each step takes one lease.
 ghost use Rattle.std.specs.Prelude.{◌≡◌, ◌+◌, ◌/◌, ◌==◌, [], length, map, not, IfOk, OnOk};
 ghost use Rattle.std.specs.List.{cons_option, count_by, filter, list_any};
 ghost use Rattle.kds_defs.specs.Leases.{is_end};
@@ -10,7 +12,7 @@ use kds_base::{Checkpoint, Items, Memory, Moment, WorkerNo};
 use kds_defs::Row;
 use std::alloc::Global;
 
-/// Returns the row as the take plan sees it: an expired row has no owner.
+/// Returns the row as the take plan uses it: a copy, without an owner if the row's lease has expired.
 fn candidate(r: &Row, observed: &Observed, now: Moment, failover: u64) -> Row
     ensures { result ≡ candidate (expiry (seen_at observed.now) now failover) r.now }
 {
@@ -21,7 +23,7 @@ fn candidate(r: &Row, observed: &Observed, now: Moment, failover: u64) -> Row
     candidate
 }
 
-/// Whether the row can be taken: its checkpoint isn't the shard's end.
+/// Whether a worker can take the lease of this row: the row's checkpoint isn't the shard's end.
 fn can_be_taken(r: &Row) -> bool
     ensures { result ≡ not (is_end r.now.checkpoint) }
 {
@@ -31,7 +33,7 @@ fn can_be_taken(r: &Row) -> bool
     }
 }
 
-/// Returns the rows that can be taken. An expired row has no owner in this list.
+/// Returns copies of the rows whose leases a worker can take. The copy of an expired row has no owner.
 fn candidates(
     alloc: Global,
     rows: &[Row],
@@ -60,22 +62,22 @@ fn is_owned_by(worker: WorkerNo, r: &Row) -> bool
     }
 }
 
-/// Whether the worker holds a lease with the row's key and tenure.
+/// Whether one of the worker's leases `held` has the key and the tenure number of the row.
 fn is_mine(held: &[Held], r: &Row) -> bool
     ensures { result ≡ is_mine held.now r.now }
 {
     held.iter().any(|h| h.key == r.key && h.tenure == r.tenure)
 }
 
-/// Whether the worker holds a lease of the row's key, in any tenure.
+/// Whether one of the worker's leases `held` has the key of the row. The tenure numbers may differ.
 fn is_key_held(held: &[Held], r: &Row) -> bool
     ensures { result ≡ list_any (is_key_held r.now) held.now }
 {
     held.iter().any(|h| h.key == r.key)
 }
 
-/// Whether the worker `me` can take the row without stealing it: the worker holds no lease of its key, and the row has
-/// no owner or is owned by `me`.
+/// Whether the worker `me` can take the lease of the row without stealing it. None of the worker's leases `held` may
+/// have the row's key, and the row must have no owner or the owner `me`.
 fn is_available(me: WorkerNo, held: &[Held], r: &Row) -> bool
     ensures { result ≡ is_available me held.now r.now }
 {
@@ -89,7 +91,7 @@ fn load_of(rows: &[Row], worker: WorkerNo) -> usize
     rows.iter().filter(|r| is_owned_by(worker, r)).count()
 }
 
-/// Counts the rows whose key and tenure are those of a lease that the worker holds.
+/// Counts the rows that have the key and the tenure number of one of the worker's leases `held`.
 fn count_mine(rows: &[Row], held: &[Held]) -> usize
     ensures { result ≡ count_by (is_mine held.now) rows.now }
 {
@@ -113,7 +115,7 @@ fn add_worker(workers: &mut Vec<WorkerNo>, worker: WorkerNo) -> Result<(), Memor
     Ok(())
 }
 
-/// Adds the row's owner to the list `workers`, unless the owner is `me` or the list has it already.
+/// Adds the row's owner, if any, to the list `workers`, unless the owner is `me` or is already in the list.
 fn add_owner(workers: &mut Vec<WorkerNo>, me: WorkerNo, r: &Row) -> Result<(), Memory>
     ensures { OnOk result (workers.new.items ≡ with_owner me r.now.owner workers.old.items) }
 {
@@ -123,7 +125,7 @@ fn add_owner(workers: &mut Vec<WorkerNo>, me: WorkerNo, r: &Row) -> Result<(), M
     }
 }
 
-/// Returns the workers other than `me` that own rows, each once.
+/// Returns the workers other than `me` that own at least one of `rows`, each worker once.
 fn others(alloc: Global, me: WorkerNo, rows: &[Row]) -> Result<Vec<WorkerNo>, Memory>
     ensures { IfOk result (λ w. w.items ≡ others me rows.now) }
 {
@@ -136,8 +138,8 @@ fn others(alloc: Global, me: WorkerNo, rows: &[Row]) -> Result<Vec<WorkerNo>, Me
     Ok(workers)
 }
 
-/// Returns whichever of the two workers owns more rows; if both own equally many, the worker with the lower number.
-/// Without an `other`, returns `worker`.
+/// Returns whichever of `worker` and `other` owns more rows. If both own equally many, returns the worker with the
+/// lower worker number. If `other` is `None`, returns `worker`.
 fn busier(rows: &[Row], worker: WorkerNo, other: Option<WorkerNo>) -> WorkerNo
     ensures { result ≡ busier (load_of rows.now) worker other }
 {
@@ -155,7 +157,8 @@ fn busier(rows: &[Row], worker: WorkerNo, other: Option<WorkerNo>) -> WorkerNo
     }
 }
 
-/// Returns the worker in `workers` that owns the most rows; among equals, the worker with the lowest number.
+/// Returns the worker in `workers` that owns the most rows, or `None` if the list is empty. Among workers that own
+/// equally many rows, it is the worker with the lowest worker number.
 fn busiest(rows: &[Row], workers: &[WorkerNo]) -> Option<WorkerNo>
     ensures { result ≡ busiest (load_of rows.now) workers.now }
 {
@@ -177,7 +180,7 @@ fn take_step(r: &Row) -> TakeStep
     }
 }
 
-/// Returns the rows that the worker `me` can take without stealing, in their order.
+/// Returns those of `rows` whose leases the worker `me` can take without stealing, in the same order.
 fn available(alloc: Global, me: WorkerNo, held: &[Held], rows: &[Row]) -> Result<Vec<Row>, Memory>
     ensures { IfOk result (λ found. found.items ≡ filter (is_available me held.now) rows.now) }
 {
@@ -190,7 +193,7 @@ fn available(alloc: Global, me: WorkerNo, held: &[Held], rows: &[Row]) -> Result
     Ok(found)
 }
 
-/// Returns a step for each of `rows`, which takes that row.
+/// Returns, for each of `rows`, the step that takes the row's lease, in the same order.
 fn steps_of(alloc: Global, rows: &[Row]) -> Result<Items<TakeStep>, Memory>
     ensures { IfOk result (λ steps. steps ≡ map take_step rows.now) }
 {
@@ -201,7 +204,7 @@ fn steps_of(alloc: Global, rows: &[Row]) -> Result<Items<TakeStep>, Memory>
     Ok(steps)
 }
 
-/// Returns a step that takes the first row that `worker` owns.
+/// Returns the step that takes the lease of the first row that `worker` owns, or `None` if it owns no row.
 fn first_of(rows: &[Row], worker: WorkerNo) -> Option<TakeStep>
     ensures { result ≡ first_step worker rows.now }
 {
@@ -213,7 +216,8 @@ fn first_of(rows: &[Row], worker: WorkerNo) -> Option<TakeStep>
     None
 }
 
-/// Returns a step that steals the first row of `worker`, if that worker owns more than `target` rows.
+/// Returns the step that steals the lease of the first row that `worker` owns, if `worker` owns more than `target`
+/// rows. Otherwise, or if `worker` is `None`, returns `None`.
 fn stolen(rows: &[Row], target: usize, worker: Option<WorkerNo>) -> Option<TakeStep>
     ensures { result ≡ stolen rows.now target worker }
 {
@@ -225,7 +229,7 @@ fn stolen(rows: &[Row], target: usize, worker: Option<WorkerNo>) -> Option<TakeS
     }
 }
 
-/// Returns a list with the given step, or an empty list if there is no step.
+/// Returns a list of just `step`, or an empty list if `step` is `None`.
 fn step_if(alloc: Global, step: Option<TakeStep>) -> Result<Items<TakeStep>, Memory>
     ensures { IfOk result (λ steps. steps ≡ cons_option step []) }
 {
@@ -236,16 +240,17 @@ fn step_if(alloc: Global, step: Option<TakeStep>) -> Result<Items<TakeStep>, Mem
     Ok(steps)
 }
 
-/// Returns a worker's fair share: the number of rows divided by the number of workers, rounded up. The workers are
-/// `others` and this worker.
+/// Returns a worker's fair share, as a number of rows: the number of `rows` divided by the number of workers, rounded
+/// up. The workers are those in `others`, and the worker that makes the plan.
 fn share(rows: &[Row], others: &[WorkerNo]) -> usize
     ensures { result ≡ (length rows.now + length others.now) / (length others.now + 1) }
 {
     (rows.len() + others.len()) / (others.len() + 1)
 }
 
-/// Returns steps that take at most `room` of the available rows. If no row is available, returns a step that steals
-/// one row of the busiest worker.
+/// Returns steps that take the leases of the first available rows, at most `room` of them. A row is available if the
+/// worker `me` can take its lease without stealing. If no row is available and the busiest of `workers` owns more rows
+/// than its fair share, returns one step, which steals a lease from that worker.
 fn chosen(
     alloc: Global,
     me: WorkerNo,
@@ -268,7 +273,8 @@ fn chosen(
     steps_of(alloc, free.as_slice())
 }
 
-/// Returns the worker's take plan for these rows.
+/// Returns the take plan of the worker `me`, which holds the leases `held`. The list `rows` has only rows whose leases
+/// can be taken, and shows expired rows without an owner.
 fn take_among(
     alloc: Global,
     me: WorkerNo,
@@ -286,12 +292,15 @@ fn take_among(
     chosen(alloc, me, held, rows, workers.as_slice(), target - mine)
 }
 
-/// Returns the take plan of the worker `me`, in the order of the rows (Kinesis Client Library, LeaseTaker). A row
-/// whose checkpoint is the shard's end isn't counted. A row that is expired by `observed`, `now` and `failover`, in
-/// milliseconds, counts as a row without an owner. A worker's share is the number of rows divided by the number of
-/// workers, rounded up. If the worker has fewer rows than its share, it takes rows that are free or in its own name,
-/// up to its share. If there are no such rows, it steals a row from the busiest worker that has more than its share;
-/// among equally busy workers, from the worker with the lowest number.
+/// Returns the take plan of the worker `me`: the steps that take leases, in the order of the rows (Kinesis Client
+/// Library, LeaseTaker). Rows whose checkpoint is the shard's end are left out: the plan takes none of them, and they
+/// don't count in the numbers of rows below. A row counts as a row without an owner if its lease has expired according
+/// to the notes `observed`, at the moment `now` with the failover time `failover` (in milliseconds). A worker's share
+/// is the number of rows divided by the number of workers, rounded up. The workers are `me` and the owners of rows. If
+/// `me` has fewer rows than its share, it takes the first available rows up to its share. A row is available if it has
+/// no owner or the owner `me`, and `me` holds no lease of the row's key. If no row is available, `me` steals one row
+/// from the busiest other worker, provided that this other worker has more than its share. Among equally busy workers,
+/// the one with the lowest worker number counts as the busiest.
 ///
 /// The error means out of memory.
 pub fn plan(

@@ -1,4 +1,5 @@
-//! The laws on the calls that a worker's processors get.
+//! Laws on the calls that a worker's processors get. A law is a theorem, stated as the contract of an empty function. A
+//! tenure is one worker's hold on a lease.
 ghost use Rattle.std.specs.Prelude.{◌≡◌, ◌==◌, ℕ, true, false, List, ◌∷◌, Some};
 ghost use Rattle.kds_defs.specs.declared.command.Turn.{Turn};
 ghost use Rattle.kcl_defs.specs.declared.consumer.WorkerMade.{WorkerMade};
@@ -11,9 +12,11 @@ ghost use Rattle.kcl_worker.specs.Standing.{AreServedIn, StandsFor};
 use crate::worker::Worker;
 use kcl_consumer::{Maker, Processor};
 
-/// Consider any worker, and any history in which the turns of the worker's actor are exactly the commands of the
-/// worker's record, with the same answers. In this history, the processors of the worker are called for the given
-/// reads of their tenures. Turns of other actors don't change this.
+/// Consider any worker and any history, which is a list of commands. The worker's record is the list of its events, and
+/// its actor is the number under which it sends commands. Suppose that the commands of this actor in the history, with
+/// their answers, are exactly the commands and answers in the worker's record. Then each processor of the worker is
+/// called, in order, with each non-empty batch of its tenure that a Give command in the history reports as processed.
+/// The processor is called with at most one further batch. Commands of other actors in the history don't change this.
 pub fn service()
     ensures served { (by : ℕ) (h : List Turn) (made : WorkerMade) (past : WorkerPast)
         → IsOrderly made past → IsToldIn by h made past → AreServed by h made past }
@@ -22,7 +25,8 @@ pub fn service()
         → (turn.by == by) ≡ false → IsToldIn by h made past → IsToldIn by (turn ∷ h) made past }
 {}
 
-/// The law `service` for the worker `_worker`, stated with the lists of calls that its processors stand for.
+/// States the law `service` for the worker `_worker`. Here, the calls of a processor are those in its list of completed
+/// calls (see `Processor`).
 pub fn served<P: Processor, F: Maker<P>>(_worker: &Worker<P, F>)
     ensures { (by : ℕ) (h : List Turn) (past : WorkerPast) → StandsFor P.stands_for _worker.now past
         → IsToldIn by h _worker.now.made past → AreServedIn P.stands_for by h _worker.now }

@@ -1,4 +1,5 @@
-//! A worker, which chooses its next command and absorbs the answer (Kinesis Client Library, Scheduler).
+//! A worker, which chooses its next command, and updates its state with the answer (see Kinesis Client Library,
+//! Scheduler).
 #![tactic(auto)]
 
 mod answers;

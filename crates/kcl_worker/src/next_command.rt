@@ -1,4 +1,7 @@
-//! The choice of a worker's next command. A part of the round with nothing left to do is skipped.
+//! Chooses a worker's next command. A worker works in rounds. The parts of a round are, in this order: a survey, the
+//! sync plan, the take plan, the renewals that are due, and a command of each consumer. A consumer processes the shard
+//! of one lease. A survey lists the shards and scans the lease table. The sync plan makes and removes rows of the lease
+//! table, and the take plan takes leases. A part with nothing left to do is skipped.
 ghost use Rattle.std.specs.Prelude.{◌≡◌, ◌≤◌, List, Some, IfNone, IfSome, IsSome};
 ghost use Rattle.std.specs.List.{AllByRecursion};
 ghost use Rattle.kds_defs.specs.declared.command.Command.TheVariants as command;
@@ -16,7 +19,8 @@ use kcl_worker_lists::leases::{counter_of, next_due};
 use kds_base::Moment;
 use kds_defs::Command;
 
-/// Returns the next command of the first consumer after `place`. If there is no such consumer, returns a survey.
+/// Returns the next command of the first consumer whose lease comes after the lease `place`. If there is no such
+/// consumer, returns a survey, which begins the next round.
 pub fn from_consumers<P: Processor>(
     consumers: &[Consumer<P>],
     held: &[Held],
@@ -47,8 +51,8 @@ fn renewal_of(h: &Held) -> Command
     }
 }
 
-/// Returns the renewal of the first lease after `place` that is due. If no such renewal is due, returns the next
-/// command of the consumers' part.
+/// Returns the command that renews the first lease after the lease `place` that is due for renewal. If there is no such
+/// lease, the round goes on to its next part (the consumers), and the next command of that part is returned.
 pub fn from_renewals<P: Processor>(
     consumers: &[Consumer<P>],
     held: &[Held],
@@ -67,8 +71,8 @@ pub fn from_renewals<P: Processor>(
     }
 }
 
-/// Returns the next step of the take plan. If no step is left, returns the next command of the renewals, which come
-/// after the take plan in a worker's round.
+/// Returns the command for the next step of the take plan. If no step is left, the round goes on to its next part (the
+/// renewals), and the next command of that part is returned.
 pub fn from_takes<P: Processor>(
     made: &WorkerMade,
     takes: &[TakeStep],
@@ -96,7 +100,7 @@ pub fn from_takes<P: Processor>(
     }
 }
 
-/// Returns the command of a step of the sync plan.
+/// Returns the command that carries out a step of the sync plan.
 fn sync_command(step: &SyncStep) -> Command
     ensures command { result ≡ sync_command step.now }
     ensures lawful { IsLeaseCommand result }
@@ -113,7 +117,8 @@ fn sync_command(step: &SyncStep) -> Command
     }
 }
 
-/// Returns the next step of the sync plan. If no step is left, returns the next command of the take plan's part.
+/// Returns the command for the next step of the sync plan. If no step is left, the round goes on to its next part (the
+/// take plan), and the next command of that part is returned.
 pub fn from_sync<P: Processor>(
     made: &WorkerMade,
     syncs: &[SyncStep],
@@ -135,8 +140,9 @@ pub fn from_sync<P: Processor>(
     }
 }
 
-/// Returns the next command of a worker that was stopped: the Give of the first consumer that has a batch to give. If
-/// no consumer has, returns the Free of the first lease.
+/// Returns the next command of a worker that was stopped. If a consumer still has to report a batch as processed, this
+/// is the command Give, with which the first such consumer makes its report. Otherwise it is the command Free, which
+/// frees the first lease. If no lease is left either, returns `None`.
 pub fn next_while_stopping<P: Processor>(
     consumers: &[Consumer<P>],
     held: &[Held],
@@ -164,7 +170,8 @@ pub fn next_while_stopping<P: Processor>(
     }
 }
 
-/// Returns the next command in this part of the round, if this part has a command.
+/// Returns the next command of a worker that is in the part `part` of its round. Returns `None` if and only if the
+/// worker was stopped and nothing is left to do.
 pub fn next_in_part<P: Processor>(
     made: &WorkerMade,
     part: Part,

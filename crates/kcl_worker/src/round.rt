@@ -1,4 +1,6 @@
-//! The parts of a worker's round.
+//! The parts of a worker's round. They are, in this order: a survey, the sync plan, the take plan, the renewals that
+//! are due, and a command of each consumer. A survey lists the shards and scans the lease table. The sync plan makes
+//! and removes rows of the lease table, and the take plan takes leases.
 ghost use Rattle.std.specs.Prelude.{◌≡◌, List};
 ghost use Rattle.kcl_defs.specs.declared.plans.SyncStep.{SyncStep};
 ghost use Rattle.kcl_defs.specs.declared.plans.TakeStep.{TakeStep};
@@ -7,8 +9,8 @@ ghost use Rattle.kcl_worker.specs.Parts.{round_of};
 
 use kcl_defs::{Held, LeaseId};
 
-/// The part of the round that a worker is in. The lease in `Renewals` and in `Consumers` is the last lease, if any,
-/// that had its turn in that part.
+/// The part of the round that a worker is in. In `Renewals` and `Consumers`, the `LeaseId` is that of the last lease
+/// that this part has handled, if any. `Stopping` means that the worker was stopped.
 #[derive(Clone, Copy, Debug, PartialEq, Eq)]
 pub enum Part {
     Survey,
@@ -19,7 +21,7 @@ pub enum Part {
     Stopping,
 }
 
-/// The purpose of the command that awaits its answer, if there is such a command.
+/// The purpose of the command whose answer the worker awaits. `Nothing` means that the worker awaits no answer.
 #[derive(Clone, Copy, Debug, PartialEq, Eq)]
 pub enum Asked {
     Nothing,
@@ -32,7 +34,7 @@ pub enum Asked {
     Free(Held),
 }
 
-/// Whether a worker in this part of its round was stopped.
+/// Whether a worker that is in the part `part` of its round was stopped.
 pub fn is_stopping(part: Part) -> bool
     ensures { (syncs : List SyncStep) (takes : List TakeStep) → result ≡ is_stopping (round_of part syncs takes) }
 {

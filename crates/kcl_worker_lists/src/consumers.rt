@@ -1,4 +1,7 @@
-//! A worker's consumers, in the order of their leases.
+//! The list of a worker's consumers. A consumer processes the shard of one lease (Kinesis Client Library,
+//! ShardConsumer). A tenure is one worker's hold on a lease. The list is ordered by the keys and then by the tenure
+//! numbers of the consumers' leases. A processor call is due if the consumer has to make this call next. A consumer is
+//! over once it has nothing more to do.
 ghost use Rattle.std.specs.Prelude.{◌≡◌, ◌+◌, ◌<◌, ◌≤◌, length, if◌then◌else◌, true, IfNone, IfSome, IsSome, None, OnErr, OnOk, Result};
 ghost use Rattle.kds_defs.specs.declared.reply.Refusal.{Refusal};
 ghost use Rattle.kds_defs.specs.declared.reply.Reply.{Reply};
@@ -19,7 +22,7 @@ use kcl_defs::{Held, LeaseId};
 use kds_base::Memory;
 use kds_defs::{Answer, let_go};
 
-/// Returns the lease of a consumer.
+/// Returns the key and the tenure number of the consumer's lease.
 pub fn id_of<P: Processor>(c: &Consumer<P>) -> LeaseId
     ensures { result ≡ id_in c.now }
 {
@@ -29,8 +32,8 @@ pub fn id_of<P: Processor>(c: &Consumer<P>) -> LeaseId
     }
 }
 
-/// Returns the first consumer whose lease comes after `place`. Without a `place`, it is the first consumer in the
-/// list.
+/// Returns the first consumer whose lease comes after the lease `place` in the list's order. If `place` is `None`,
+/// returns the first consumer in the list.
 pub fn first_past<'a, P: Processor>(
     consumers: &'a [Consumer<P>],
     place: &Option<LeaseId>,
@@ -45,7 +48,7 @@ pub fn first_past<'a, P: Processor>(
     None
 }
 
-/// Returns the first consumer whose next command gives a batch.
+/// Returns the first consumer whose next command is a Give, which reports a batch as processed.
 pub fn first_giving<P: Processor>(consumers: &[Consumer<P>]) -> Option<&Consumer<P>>
     ensures { option_map (λ c. c.now) result ≡ giving_in consumers.now }
 {
@@ -57,7 +60,7 @@ pub fn first_giving<P: Processor>(consumers: &[Consumer<P>]) -> Option<&Consumer
     None
 }
 
-/// Whether a processor call is due for at least one consumer.
+/// Whether at least one of the consumers has a processor call due.
 pub fn any_due<P: Processor>(consumers: &[Consumer<P>]) -> bool
     ensures { result ≡ list_any is_due consumers.now }
 {
@@ -69,7 +72,7 @@ pub fn any_due<P: Processor>(consumers: &[Consumer<P>]) -> bool
     false
 }
 
-/// Whether the next command of at least one consumer gives a batch.
+/// Whether the next command of at least one consumer is a Give, which reports a batch as processed.
 pub fn any_giving<P: Processor>(consumers: &[Consumer<P>]) -> bool
     ensures { result ≡ list_any (λ c. is_giving_phase c.phase) consumers.now }
 {
@@ -81,7 +84,7 @@ pub fn any_giving<P: Processor>(consumers: &[Consumer<P>]) -> bool
     false
 }
 
-/// Reports to the consumer `c` that its lease is lost, if `same` is true.
+/// If `same` is true, tells the consumer `c` that its lease is lost.
 fn lose_if<P: Processor>(c: &mut Consumer<P>, same: bool)
     ensures { c.new ≡ (if same then lost_in c.old else c.old) }
 {
@@ -90,7 +93,7 @@ fn lose_if<P: Processor>(c: &mut Consumer<P>, same: bool)
     }
 }
 
-/// Reports to each of these consumers that its lease is lost.
+/// Tells every consumer in the list that its lease is lost.
 #[tactic(auto, using(crate::proofs::Calls::map_over))]
 pub fn lose_all<P: Processor>(consumers: &mut Vec<Consumer<P>>)
     ensures { consumers.new.items ≡ lost_among (λ id. true) consumers.old.items }
@@ -100,7 +103,7 @@ pub fn lose_all<P: Processor>(consumers: &mut Vec<Consumer<P>>)
     }
 }
 
-/// Reports to the consumers of the lease `id` that this lease is lost.
+/// Tells the consumers of the lease `id` that this lease is lost.
 #[tactic(auto, using(crate::proofs::Calls::map_over))]
 pub fn lose_one<P: Processor>(consumers: &mut Vec<Consumer<P>>, id: &LeaseId)
     ensures { consumers.new.items ≡ lost_among (λ i. same_id i id.now) consumers.old.items }
@@ -111,7 +114,7 @@ pub fn lose_one<P: Processor>(consumers: &mut Vec<Consumer<P>>, id: &LeaseId)
     }
 }
 
-/// Reports to the consumer of each lease in `gone` that the lease is lost.
+/// Tells the consumers of each lease in `gone` that the lease is lost.
 #[tactic(auto, using(crate::proofs::Calls::map_over))]
 pub fn lose_gone<P: Processor>(consumers: &mut Vec<Consumer<P>>, gone: &[Held])
     ensures { consumers.new.items ≡ lost_among (is_among gone.now) consumers.old.items }
@@ -122,7 +125,7 @@ pub fn lose_gone<P: Processor>(consumers: &mut Vec<Consumer<P>>, gone: &[Held])
     }
 }
 
-/// Returns the index of the first consumer with a processor call due.
+/// Returns the index of the first consumer that has a processor call due, or `None` if no call is due.
 fn first_due<P: Processor>(consumers: &[Consumer<P>]) -> Option<usize>
     ensures some { IfSome result (λ i. IsFirstDue i consumers.now) }
     ensures none { IfNone result (due_in consumers.now ≡ None) }
@@ -135,7 +138,8 @@ fn first_due<P: Processor>(consumers: &[Consumer<P>]) -> Option<usize>
     None
 }
 
-/// Makes the processor call that is due for the first consumer that has a call due.
+/// Makes the due processor call of the first consumer for which a call is due. Precondition: there is such a consumer.
+/// The error means that the processor ran out of memory; the same call is then still due.
 pub fn call_first<P: Processor>(consumers: &mut Vec<Consumer<P>>) -> Result<(), Memory>
     requires { IsSome (due_in consumers.old.items) }
     ensures ok { OnOk result ((asked : Ask) × FirstCalled P.stands_for P.asks asked consumers.old.items consumers.new.items) }
@@ -148,7 +152,7 @@ pub fn call_first<P: Processor>(consumers: &mut Vec<Consumer<P>>) -> Result<(), 
     }
 }
 
-/// Returns the first consumer of the lease `id`.
+/// Returns the first consumer of the lease `id`, or `None` if the lease has no consumer.
 fn first_of<'a, P: Processor>(consumers: &'a [Consumer<P>], id: &LeaseId) -> Option<&'a Consumer<P>>
     ensures { option_map (λ c. c.now) result ≡ one_of id.now consumers.now }
 {
@@ -160,8 +164,8 @@ fn first_of<'a, P: Processor>(consumers: &'a [Consumer<P>], id: &LeaseId) -> Opt
     None
 }
 
-/// Whether the next command of the lease's consumer opens the shard or sets the checkpoint. If the lease has no
-/// consumer, the result is `true`.
+/// Whether the next command of the first consumer of the lease `id` is an OpenShard (it opens the shard) or a Mark (it
+/// sets the checkpoint). If the lease has no consumer, the result is `true`.
 pub fn is_writing_at<P: Processor>(consumers: &[Consumer<P>], id: &LeaseId) -> bool
     ensures { result ≡ is_marking_or_opening (phase_or_opening (one_of id.now consumers.now)) }
 {
@@ -171,7 +175,7 @@ pub fn is_writing_at<P: Processor>(consumers: &[Consumer<P>], id: &LeaseId) -> b
     }
 }
 
-/// Whether the consumer of the lease `id` is over. If the lease has no consumer, the result is `false`.
+/// Whether the first consumer of the lease `id` is over. If the lease has no consumer, the result is `false`.
 pub fn is_over_at<P: Processor>(consumers: &[Consumer<P>], id: &LeaseId) -> bool
     ensures { result ≡ is_over_one (one_of id.now consumers.now) }
 {
@@ -181,7 +185,7 @@ pub fn is_over_at<P: Processor>(consumers: &[Consumer<P>], id: &LeaseId) -> bool
     }
 }
 
-/// Returns the index of the first consumer of the lease `id`.
+/// Returns the index of the first consumer of the lease `id`, or `None` if the lease has no consumer.
 fn index_of<P: Processor>(consumers: &[Consumer<P>], id: &LeaseId) -> Option<usize>
     ensures some { IfSome result (λ i. IsFirstOf id.now i consumers.now) }
     ensures none { IfNone result ((answer : Result Reply Refusal) → answered_among id.now answer consumers.now ≡ consumers.now) }
@@ -194,7 +198,8 @@ fn index_of<P: Processor>(consumers: &[Consumer<P>], id: &LeaseId) -> Option<usi
     None
 }
 
-/// Hands an answer to the first consumer of the lease `id`, which absorbs it.
+/// Updates the first consumer of the lease `id` with the answer to this consumer's last command. If the lease has no
+/// consumer, the answer is dropped.
 pub fn absorb_one<P: Processor>(consumers: &mut Vec<Consumer<P>>, id: &LeaseId, answer: Answer)
     ensures absorbed { consumers.new.items ≡ answered_among id.now answer consumers.old.items }
     ensures len { vec_len consumers.new ≡ vec_len consumers.old }
@@ -207,7 +212,7 @@ pub fn absorb_one<P: Processor>(consumers: &mut Vec<Consumer<P>>, id: &LeaseId, 
     }
 }
 
-/// Returns the index at which the consumer `c` has to be inserted to keep the list's order.
+/// Returns the index at which the consumer `c` has to be inserted to keep the order of the list.
 fn insertion_index<P: Processor>(consumers: &[Consumer<P>], c: &Consumer<P>) -> usize
     ensures place { insert consumers.now result c.now ≡ with_consumer c.now consumers.now }
     ensures within { result ≤ length consumers.now }
@@ -220,7 +225,7 @@ fn insertion_index<P: Processor>(consumers: &[Consumer<P>], c: &Consumer<P>) -> 
     consumers.len()
 }
 
-/// Inserts a consumer in the list's order. Precondition: memory was reserved for it.
+/// Inserts the consumer `c` at its place in the order of the list. Precondition: memory was reserved for the consumer.
 pub fn add_consumer<P: Processor + Drop>(consumers: &mut Vec<Consumer<P>>, c: Consumer<P>)
     requires { vec_len consumers.old < vec_capacity consumers.old }
     ensures added { consumers.new.items ≡ with_consumer c consumers.old.items }

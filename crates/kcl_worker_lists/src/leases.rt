@@ -1,4 +1,6 @@
-//! A worker's leases, in the order of their keys and then of their tenures.
+//! The list of a worker's leases. A tenure is one worker's hold on a lease. A lease is identified by its key and its
+//! tenure number together, and the list is ordered by the keys and then by the tenure numbers. The row of a lease is
+//! its item in the lease table. Each write of a row raises the row's counter.
 ghost use Rattle.std.specs.Prelude.{◌≡◌, ◌<◌, ◌≤◌, ◌&&◌, if◌then◌else◌, length};
 ghost use Rattle.std.specs.List.{find, insert};
 ghost use Rattle.std.specs.Vec.{vec_capacity, vec_len};
@@ -8,14 +10,15 @@ ghost use Rattle.kcl_defs.specs.Workers.{counter_of, id_of_held, is_before_id, i
 use kcl_defs::{Held, LeaseId};
 use kds_base::Moment;
 
-/// Whether `a` and `b` are the same lease.
+/// Whether `a` and `b` identify the same lease: both the keys and the tenure numbers are equal.
 pub fn same_id(a: &LeaseId, b: &LeaseId) -> bool
     ensures { result ≡ same_id a.now b.now }
 {
     a.key == b.key && a.tenure == b.tenure
 }
 
-/// Whether the lease `a` comes before the lease `b`.
+/// Whether the lease `a` comes before the lease `b` in the order of stream numbers, then shard numbers, then tenure
+/// numbers.
 pub fn is_before_id(a: &LeaseId, b: &LeaseId) -> bool
     ensures { result ≡ is_before_id a.now b.now }
 {
@@ -28,7 +31,8 @@ pub fn is_before_id(a: &LeaseId, b: &LeaseId) -> bool
     }
 }
 
-/// Whether the lease `id` comes after `place`. Without a `place`, the result is `true`.
+/// Whether the lease `id` comes after the lease `place` in the order of the list. If `place` is `None`, the result is
+/// `true`.
 pub fn is_past(place: &Option<LeaseId>, id: &LeaseId) -> bool
     ensures { result ≡ is_past place.now id.now }
 {
@@ -38,7 +42,7 @@ pub fn is_past(place: &Option<LeaseId>, id: &LeaseId) -> bool
     }
 }
 
-/// Returns the key and the tenure of the lease `h`.
+/// Returns the key and the tenure number of the lease `h`.
 pub fn id_of_held(h: &Held) -> LeaseId
     ensures { result ≡ id_of_held h.now }
 {
@@ -48,7 +52,7 @@ pub fn id_of_held(h: &Held) -> LeaseId
     }
 }
 
-/// Returns the counter of the lease `id`, or 0 if the worker doesn't hold that lease.
+/// Returns the row counter that the lease `id` has in `held`, or 0 if `held` doesn't have this lease.
 pub fn counter_of(held: &[Held], id: &LeaseId) -> u64
     ensures { result ≡ counter_of id.now held.now }
 {
@@ -60,7 +64,8 @@ pub fn counter_of(held: &[Held], id: &LeaseId) -> u64
     0
 }
 
-/// Returns the first lease after `place` that is due for renewal at the moment `now`.
+/// Returns the first lease in the list that comes after the lease `place` and is due for renewal at the moment `now`.
+/// If `place` is `None`, the search begins at the first lease. `failover` is the failover time in milliseconds.
 pub fn next_due(held: &[Held], place: &Option<LeaseId>, now: Moment, failover: u64) -> Option<Held>
     ensures { result ≡ find (λ h. is_past place.now (id_of_held h) && is_due h now failover) held.now }
 {
@@ -72,7 +77,8 @@ pub fn next_due(held: &[Held], place: &Option<LeaseId>, now: Moment, failover: u
     None
 }
 
-/// Notes that the row of the lease `h` was written and has this counter, if `same` is true.
+/// If `same` is true, notes that the row of the lease `h` was written at the moment `now` and has the counter
+/// `counter`.
 fn renew_if(h: &mut Held, same: bool, counter: u64, now: Moment)
     ensures { h.new ≡ (if same then renewed_held counter now h.old else h.old) }
 {
@@ -81,7 +87,7 @@ fn renew_if(h: &mut Held, same: bool, counter: u64, now: Moment)
     }
 }
 
-/// Notes that the row of the lease `id` was written and has this counter.
+/// Notes that the row of the lease `id` was written at the moment `now` and has the counter `counter`.
 #[tactic(auto, using(crate::proofs::Calls::map_over))]
 pub fn renew(held: &mut Vec<Held>, id: &LeaseId, counter: u64, now: Moment)
     ensures { held.new.items ≡ renewed id.now counter now held.old.items }
@@ -106,7 +112,7 @@ pub fn drop_held(held: &mut Vec<Held>, id: &LeaseId)
     }
 }
 
-/// Returns the index at which the lease `h` has to be inserted to keep the list's order.
+/// Returns the index at which the lease `h` has to be inserted to keep the order of the list.
 fn insertion_index(held: &[Held], h: &Held) -> usize
     ensures place { insert held.now result h.now ≡ with_held h.now held.now }
     ensures within { result ≤ length held.now }
@@ -119,7 +125,7 @@ fn insertion_index(held: &[Held], h: &Held) -> usize
     held.len()
 }
 
-/// Inserts a lease in the list's order. Precondition: memory was reserved for it.
+/// Inserts the lease `h` at its place in the order of the list. Precondition: memory was reserved for the lease.
 pub fn add_held(held: &mut Vec<Held>, h: Held)
     requires { vec_len held.old < vec_capacity held.old }
     ensures { held.new.items ≡ with_held h held.old.items }

@@ -1,4 +1,6 @@
-//! A worker's notes, leases and plans after a survey.
+//! Computes a worker's notes, leases and plans after a survey. A survey lists the shards, and the rows of the lease
+//! table. A row is the item of a lease; it names the tenure that holds the lease, if any. A tenure is one worker's hold
+//! on a lease.
 ghost use Rattle.std.specs.Prelude.{◌≡◌, IfOk};
 ghost use Rattle.std.specs.List.{filter};
 ghost use Rattle.std.specs.Option.{option_map};
@@ -13,19 +15,20 @@ use kds_base::{Items, Memory, Moment, ShardRef};
 use kds_defs::{Answer, Reply, Row};
 use std::alloc::Global;
 
-/// A worker's state after a survey: its notes on the rows, the leases that it still holds, the leases that it has
-/// lost, and its sync plan and take plan.
+/// A worker's state after a survey: its notes on the rows, the leases that it still holds, the leases that it has lost,
+/// its sync plan (the rows to make and to remove), and its take plan (the leases to take). The notes say when the
+/// worker first saw the present counter of each row.
 #[derive(Drop)]
 pub struct Planned {
     pub observed: Observed,
     pub held: Vec<Held>,
-    /// The leases that the worker no longer holds, because their rows are in another tenure or removed.
+    /// The leases that the worker has lost: the lease's row was removed, or no longer names the lease's tenure.
     pub gone: Vec<Held>,
     pub syncs: Items<SyncStep>,
     pub takes: Items<TakeStep>,
 }
 
-/// Returns the first row with the key `key`.
+/// Returns the first row with the key `key`, or `None` if no row has this key.
 fn row_of<'a>(rows: &'a [Row], key: &ShardRef) -> Option<&'a Row>
     ensures { option_map (λ r. r.now) result ≡ row_of rows.now key.now }
 {
@@ -37,7 +40,7 @@ fn row_of<'a>(rows: &'a [Row], key: &ShardRef) -> Option<&'a Row>
     None
 }
 
-/// Whether the lease still stands: its row exists and has the lease's tenure.
+/// Whether the worker still holds the lease `h`: the lease's row is in `rows` and names the lease's tenure.
 fn still_stands(rows: &[Row], h: &Held) -> bool
     ensures { result ≡ still_stands rows.now h.now }
 {
@@ -47,7 +50,7 @@ fn still_stands(rows: &[Row], h: &Held) -> bool
     }
 }
 
-/// Returns the leases in `held` that still stand: their rows still have the leases' tenures.
+/// Returns the leases in `held` that the worker still holds: the lease's row is in `rows` and names the lease's tenure.
 fn standing(alloc: Global, rows: &[Row], held: &[Held]) -> Result<Vec<Held>, Memory>
     ensures { IfOk result (λ kept. kept.items ≡ filter (still_stands rows.now) held.now) }
 {
@@ -60,7 +63,8 @@ fn standing(alloc: Global, rows: &[Row], held: &[Held]) -> Result<Vec<Held>, Mem
     Ok(kept)
 }
 
-/// Returns the leases in `held` that no longer stand: their rows are removed or have another tenure.
+/// Returns the leases in `held` that the worker has lost: the lease's row isn't in `rows`, or doesn't name the lease's
+/// tenure.
 fn gone(alloc: Global, rows: &[Row], held: &[Held]) -> Result<Vec<Held>, Memory>
     ensures { IfOk result (λ lost. lost.items ≡ gone rows.now held.now) }
 {
@@ -85,7 +89,8 @@ pub fn is_among(held: &[Held], id: &LeaseId) -> bool
     false
 }
 
-/// Computes a worker's notes, leases and plans after a survey. The error means out of memory.
+/// Computes a worker's notes, leases and plans after a survey, which listed `shards` and `rows`. The worker's notes
+/// before the survey are `observed`, and its leases are `held`. The error means out of memory.
 pub fn plan_survey(
     alloc: Global,
     made: &WorkerMade,
@@ -120,8 +125,8 @@ pub fn plan_survey(
     })
 }
 
-/// Computes the worker's notes, leases and plans after the answer to its survey. The inner `None` means that the
-/// answer isn't the reply to a survey. The error means out of memory.
+/// Computes a worker's notes, leases and plans after `answer`, the answer to its survey. The inner `None` means that
+/// `answer` isn't the reply to a survey. The error means out of memory.
 pub fn plan_after(
     alloc: Global,
     made: &WorkerMade,

@@ -1,4 +1,6 @@
-//! Leases that are released together with their consumers.
+//! Finds a lease that a worker releases for a hand-off, and takes the lease's consumer out of the worker's list. A
+//! hand-off gives a lease to another worker in an orderly way (Kinesis Client Library, graceful lease handoff). A
+//! consumer processes the shard of one lease.
 ghost use Rattle.std.specs.Prelude.{◌≡◌, ◌≤◌, IfNone};
 ghost use Rattle.std.specs.Vec.{vec_len};
 ghost use Rattle.kcl_worker_lists.specs.Changes.{has_one, leaving_in, one_of, without_consumer};
@@ -9,7 +11,7 @@ use kcl_consumer::{Consumer, Processor};
 use kcl_defs::{Held, LeaseId};
 use kds_base::ShardRef;
 
-/// Whether the lease `h` has a consumer in the list.
+/// Whether the list `consumers` has a consumer of the lease `h`.
 fn has_one<P: Processor>(consumers: &[Consumer<P>], h: &Held) -> bool
     ensures { result ≡ has_one consumers.now h.now }
 {
@@ -22,7 +24,8 @@ fn has_one<P: Processor>(consumers: &[Consumer<P>], h: &Held) -> bool
     false
 }
 
-/// Returns the first lease of the key `key` that has a consumer.
+/// Returns the first lease in `held` that has the key `key` and a consumer in `consumers`. Returns `None` if there is
+/// no such lease.
 pub fn leaving<P: Processor>(
     held: &[Held],
     consumers: &[Consumer<P>],
@@ -38,7 +41,8 @@ pub fn leaving<P: Processor>(
     None
 }
 
-/// Removes the first consumer of the lease `id` from the list, and returns it. Needs no memory.
+/// Removes the first consumer of the lease `id` from the list, and returns this consumer. If the lease has no consumer,
+/// returns `None` and leaves the list unchanged. Needs no memory.
 pub fn take_consumer<P: Processor>(
     consumers: &mut Vec<Consumer<P>>,
     id: &LeaseId,

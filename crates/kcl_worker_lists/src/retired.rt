@@ -1,4 +1,5 @@
-//! Consumers that are over.
+//! A worker's retired consumers. A consumer processes the shard of one lease, and is over once it has nothing more to
+//! do. A tenure is one worker's hold on a lease.
 ghost use Rattle.std.specs.Prelude.{◌≡◌, ◌+◌, ◌<◌, ◌≤◌, ◌++◌, OnOk, Some, map};
 ghost use Rattle.std.specs.Vec.{vec_capacity, vec_len};
 ghost use Rattle.kcl_defs.specs.Consumers.{over_at};
@@ -9,8 +10,8 @@ use kcl_consumer::{Consumer, Processor};
 use kcl_defs::{Held, Why};
 use kds_base::{Memory, ShardRef, TenureNo};
 
-/// A consumer that is over, reduced to its lease, the reason for its end, and its processor (Kinesis Client Library,
-/// ShutdownReason).
+/// What is kept of a consumer that is over: the key and the tenure number of its lease, the reason why it is over
+/// (Kinesis Client Library, ShutdownReason), and its processor.
 #[derive(Drop)]
 pub struct Retired<P> {
     pub key: ShardRef,
@@ -19,7 +20,7 @@ pub struct Retired<P> {
     pub processor: P,
 }
 
-/// Keeps the lease, the reason and the processor of a consumer that is over.
+/// Returns what is kept of the consumer `c`, which is over for the reason `why`.
 fn retire<P: Processor>(c: Consumer<P>, why: Why) -> Retired<P>
     requires { over_at c.phase ≡ Some why }
     ensures { retirement result ≡ retire c }
@@ -32,7 +33,8 @@ fn retire<P: Processor>(c: Consumer<P>, why: Why) -> Retired<P>
     }
 }
 
-/// Moves the consumers that are over to the list of retired consumers, in their order. Needs no memory.
+/// Moves the consumers that are over from `consumers` to the end of `retired`, in the same order. Precondition:
+/// `retired` has memory reserved for all of `consumers`. Needs no further memory.
 pub fn retire_finished<P: Processor>(
     consumers: &mut Vec<Consumer<P>>,
     retired: &mut Vec<Retired<P>>,
@@ -54,7 +56,8 @@ pub fn retire_finished<P: Processor>(
     }
 }
 
-/// Reserves memory for one additional lease and its consumer, and for the retirement of all consumers.
+/// Reserves memory for one additional lease and its consumer, and for the retirement of all consumers. The items of the
+/// lists are unchanged. The error means out of memory.
 pub fn make_room<P: Processor>(
     held: &mut Vec<Held>,
     consumers: &mut Vec<Consumer<P>>,

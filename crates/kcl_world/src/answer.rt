@@ -1,4 +1,5 @@
-//! The answer to one command, at the service's clock.
+//! Answers one command, at the present time of the service's clock. An actor is a client or a worker, given by its
+//! number.
 ghost use Rattle.std.specs.Prelude.{◌≡◌, true, false, IfOk, IsOk, OnErr};
 ghost use Rattle.kds_defs.specs.Journal.{Journal};
 ghost use Rattle.kds_defs.specs.Kinds.{is_service};
@@ -15,7 +16,7 @@ use kds_base::Memory;
 use kds_defs::{Answer, Command};
 use kds_service::Service;
 
-/// Answers a command on leases.
+/// Answers a command on leases. The actor `by` has sent the command. If memory runs out, nothing is changed.
 fn lease_answer(
     service: &Service,
     table: &mut Table,
@@ -29,7 +30,7 @@ fn lease_answer(
     ensures kept { OnErr result ((table.new ≡ table.old) × (book.new.tenures ≡ book.old.tenures)) }
     ensures sure { NeedsNoMemory what → IsOk result }
 {
-    // The shards are borrowed, because they are passed on more than once.
+    // `shards` is borrowed, so that it can be passed on more than once.
     let shards = ServiceShards { service };
     let shards = &shards;
     match what {
@@ -59,7 +60,7 @@ fn lease_answer(
     }
 }
 
-/// Answers a command. The error `Memory` means out of memory; then nothing has changed.
+/// Answers a command that the actor `by` sends. If memory runs out, the error is `Memory`, and nothing is changed.
 pub fn answer(
     service: &mut Service,
     table: &mut Table,

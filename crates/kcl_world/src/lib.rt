@@ -1,4 +1,5 @@
-//! The machine of this program: the streams, the rows of leases, and their tenures.
+//! The state machine of this program: the streams, the lease table, and the tenures. A tenure is one worker's hold on a
+//! lease.
 #![tactic(auto)]
 
 mod answer;

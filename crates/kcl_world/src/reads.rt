@@ -1,4 +1,6 @@
-//! The commands on leases that read from the streams: a survey, and the Read of a tenure.
+//! The commands on leases that read from the streams. A survey returns all shards that ListShards would return (the
+//! listed shards) and all rows of the lease table. The command Read fetches records for a tenure. A tenure is one
+//! worker's hold on a lease.
 ghost use Rattle.std.specs.Prelude.{◌≡◌, ℕ, List, IfOk, OnErr};
 ghost use Rattle.kds_defs.specs.declared.command.Command.TheVariants as command;
 ghost use Rattle.kds_defs.specs.declared.reply.Row.{Row};
@@ -15,7 +17,7 @@ use kds_base::{Memory, TenureNo};
 use kds_defs::{Answer, Reply, place_after};
 use kds_service::Service;
 
-/// Returns all listed shards and all rows.
+/// Returns all listed shards and all rows of the lease table. The error means that memory ran out.
 pub fn survey(service: &Service, table: &Table) -> Result<Answer, Memory>
     ensures { (by : ℕ) (ts : List TenureValue) → let at = world service.now table.now ts in IfOk result (Leads at at by command.Survey) }
 {
@@ -24,8 +26,8 @@ pub fn survey(service: &Service, table: &Table) -> Result<Answer, Memory>
     Ok(Ok(Reply::Survey { shards, rows }))
 }
 
-/// Reads at most `limit` records of the tenure's shard, from the tenure's reach on. The Read is refused if `position`
-/// isn't that reach.
+/// Reads at most `limit` records of the tenure's shard, beginning at the tenure's reach, which is the position after
+/// the tenure's last read. The command is refused if `position` isn't this reach.
 pub fn read(
     service: &Service,
     book: &mut Book,

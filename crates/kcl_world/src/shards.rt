@@ -1,10 +1,10 @@
-//! The shards of the stream service, as the commands on leases see them.
+//! What the commands on leases can ask about the shards of the stream service.
 use kcl_leases::Shards;
 use kds_base::ShardRef;
 use kds_defs::{Origin, Shard};
 use kds_service::{Service, lease_lines};
 
-/// The shards of a stream service, as the commands on leases see them.
+/// The shards of the stream service `service`, as the commands on leases see them.
 #[derive(Clone, Copy)]
 pub struct ServiceShards<'a> {
     pub service: &'a Service,

@@ -1,4 +1,5 @@
-//! The machine of this program.
+//! The state machine of this program. A turn is a command with its sender and its time. A tenure is one worker's hold
+//! on a lease.
 ghost use Rattle.std.specs.Prelude.{[], ◌≡◌, ◌≤◌, true, false};
 ghost use Rattle.kds_defs.specs.Journal.{Journal};
 ghost use Rattle.kds_service.specs.Clocks.{CanGoBack, gone_back};
@@ -14,8 +15,8 @@ use kds_service::Service;
 use std::alloc::Global;
 use std::marker::Model;
 
-/// The machine: its clock, the stream service at the same clock, the rows of the leases, and their tenures. Contracts
-/// state the history that the machine stands for: the turns that it has answered.
+/// The state machine: its clock, the stream service with the same clock, the lease table, and the tenures. In
+/// contracts, the machine represents its history, which is the list of the turns that it has answered.
 #[derive(Drop)]
 pub struct World {
     clock: Moment,
@@ -36,8 +37,8 @@ impl Model for World {
     ghost invariant = { λ w. (w.service.clock ≡ w.clock) × ((h : List Turn) × StandsFor (world w.service w.table w.book.tenures) h) };
 }
 
-/// Raises the service's clock from `before` to `clock`, and advances each stream. If the two are equal, nothing is
-/// done. Returns whether the clock was raised.
+/// Raises the clock of the service and of each of its streams from `before` to `clock`. Does nothing if the two times
+/// are equal. Returns whether the clock was raised.
 fn raise(service: &mut Service, before: Moment, clock: Moment) -> bool
     requires at { service.old.clock ≡ before }
     requires later { before ≤ clock }
@@ -56,8 +57,8 @@ fn raise(service: &mut Service, before: Moment, clock: Moment) -> bool
     true
 }
 
-/// Undoes a call of `raise` that returned `raised`. If `raised` is true, the service must not have changed or settled
-/// anything since.
+/// Undoes a call of `raise`. `raised` is the value that this call returned. Precondition if `raised` is true: since
+/// that call, nothing in the service has changed, and no trimmed records have been removed.
 fn lower(service: &mut Service, raised: bool)
     requires { raised ≡ true → CanGoBack service.old }
     ensures raised { raised ≡ true → service.new ≡ gone_back service.old }
@@ -69,8 +70,8 @@ fn lower(service: &mut Service, raised: bool)
 }
 
 impl World {
-    /// Returns a machine without streams and leases, which hasn't answered any turn. The machine takes its memory from
-    /// `alloc`.
+    /// Returns a machine that has no streams and no leases, and hasn't answered any turn. The machine allocates its
+    /// memory from `alloc`.
     pub fn new(alloc: Global) -> World
         ensures { StandsFor result [] }
     {

@@ -1,4 +1,4 @@
-//! Messages: lists of fields.
+//! Reads messages, which are lists of fields (Protocol Buffers, encoding).
 ghost use Rattle.std.specs.Prelude.{◌≡◌, map, option_map, IfOk};
 ghost use Rattle.kpl_frame.specs.Fields.{field, last_content, last_number, message_of};
 
@@ -6,7 +6,7 @@ use crate::field::{FieldView, field_at};
 use kds_base::Memory;
 use std::alloc::Global;
 
-/// Returns the fields of a message. The inner `None` means exactly that `bytes` isn't a message.
+/// Returns the fields of the message `bytes`. The inner `None` is returned if and only if `bytes` isn't a message.
 pub fn fields_of(alloc: Global, bytes: &[u8]) -> Result<Option<Vec<FieldView<'_>>>, Memory>
     ensures { IfOk result (λ o. option_map (λ v. map field v.items) o ≡ message_of bytes.now) }
 {
@@ -22,7 +22,8 @@ pub fn fields_of(alloc: Global, bytes: &[u8]) -> Result<Option<Vec<FieldView<'_>
     Ok(Some(fields))
 }
 
-/// Returns the number in the last field that has the label `label` and the wire type 0.
+/// Returns the number that the last field with the label `label` and the wire type 0 holds, or `None` if there is no
+/// such field.
 pub fn last_number(label: u64, fields: &[FieldView<'_>]) -> Option<u64>
     ensures { result ≡ last_number label (map field fields.now) }
 {
@@ -35,7 +36,8 @@ pub fn last_number(label: u64, fields: &[FieldView<'_>]) -> Option<u64>
     last
 }
 
-/// Returns the bytes in the last field that has the label `label` and the wire type 2.
+/// Returns the bytes that the last field with the label `label` and the wire type 2 holds, or `None` if there is no
+/// such field.
 pub fn last_content<'a>(label: u64, fields: &[FieldView<'a>]) -> Option<&'a [u8]>
     ensures { option_map (λ b. b.now) result ≡ last_content label (map field fields.now) }
 {
