@@ -8,19 +8,19 @@ use std::marker::Model;
 use std::rt::Clock as Timer;
 use std::time::{SystemTime, UNIX_EPOCH};
 
-/// A source of moments.
+/// A clock, which returns the present time as a `Moment`, a number of milliseconds.
 pub trait Clock {
-    /// The moments that the clock will give, one after another, if its contract knows them. Once all are given, the
-    /// clock repeats the last moment.
+    /// The moments that the next calls of `now` will return, in order, or `None` if the clock's contract doesn't state
+    /// them. Once only the last moment is left, `now` returns it again and again.
     ghost moments: { Self → Option (List ℕ) };
 
-    /// The present moment.
+    /// Returns the clock's present time.
     fn now(&mut self) -> Moment
         ensures { Gives (moments self.old) (result ∷ []) (moments self.new) };
 }
 
-/// A clock that gives the listed moments, one after another, and then repeats the last moment. Contracts see the
-/// remaining moments.
+/// A clock that returns the moments of a given list one after another, and then the last moment again and again. In
+/// contracts, its value is the list of the remaining moments.
 #[derive(Drop)]
 pub struct MemClock {
     moments: Items<Moment>,
@@ -38,7 +38,7 @@ impl Model for MemClock {
 }
 
 impl MemClock {
-    /// A clock that gives these moments. Precondition: `moments` isn't empty.
+    /// Returns a clock that returns `moments` one after another. Precondition: `moments` isn't empty.
     pub fn new(moments: Items<Moment>) -> MemClock
         requires { 0 < length moments }
         ensures { result ≡ moments }
@@ -64,22 +64,25 @@ impl Clock for MemClock {
     }
 }
 
-/// The machine's clock, in milliseconds since 1970. The contract knows none of its moments. If the machine's clock
-/// fails or shows a time that is no moment, `now` returns the same moment as the last time, or 0 at first.
+/// The operating system's clock, in milliseconds since 1970. The contract of this clock states none of the moments that
+/// the clock returns. If the time can't be read, is before 1970, or is too great for a `Moment`, `now` returns the same
+/// moment as in the previous call, or moment 0 if this is the first call.
 #[derive(Drop)]
 pub struct SystemClock<R> {
     rt: R,
     last: Moment,
 }
 
-/// The moment that the machine's clock shows, or `None` if the clock fails or its time is no moment.
+/// Returns the operating system's time, or `None` if the time can't be read, is before 1970, or is too great for a
+/// `Moment`.
 fn read_clock<R: Timer>(rt: &R) -> Option<Moment> {
     let now = SystemTime::now(rt).ok()?;
     let since = now.duration_since(UNIX_EPOCH).ok()?;
     Moment::new(u64::try_from(since.as_millis()).ok()?)
 }
 
-/// The moment that the clock gives: `read`, or `last` again if `read` is `None`.
+/// Returns `read`, the time that was read from the operating system. If no time was read (`None`), returns `last`, the
+/// moment that the clock returned last.
 fn moment_after(last: Moment, read: Option<Moment>) -> Moment
     ensures { result ≡ unwrap_or read last }
 {
@@ -87,7 +90,7 @@ fn moment_after(last: Moment, read: Option<Moment>) -> Moment
 }
 
 impl<R: Timer> SystemClock<R> {
-    /// A clock that reads the machine's time. If the first reading fails, it gives moment 0.
+    /// Returns a clock that reads the operating system's time. Until the time can be read, `now` returns moment 0.
     pub fn new(rt: R) -> SystemClock<R>
         ensures { result.last ≡ 0 }
     {

@@ -1,12 +1,14 @@
-//! A law that holds for all written bytes. It is the contract of a function without parameters.
+//! A law about the bytes that several writes together append to an output. A law is a theorem, stated as the contract
+//! of an empty function.
 ghost use Rattle.std.specs.Prelude.{ℕ, ◌<◌, List, [], ◌++◌, length, Option};
 ghost use Rattle.std.specs.Io.KnownBytes.{Appends};
 ghost use Rattle.kds_ends.specs.Causes.{AppendsFront, AppendsPart};
 
-/// Consecutive writes append the concatenation of their bytes. If a write ends early, after complete writes and before
-/// bytes that aren't written, a prefix of all these bytes is appended. A proper prefix remains proper when both texts
-/// get the same bytes in front, or the longer text gets bytes behind. A prefix becomes proper when the longer text
-/// gets at least one byte behind.
+/// States what several writes append together. Writes that succeed append the concatenation of their bytes. Now suppose
+/// that the last write fails after it has appended a prefix of its bytes. Let the whole text be the bytes of all these
+/// writes, followed by the bytes of any writes that were to come after the failed write. Then the writes have appended
+/// a prefix of the whole text. If the failed write didn't append all of its bytes, or if at least one byte was to come
+/// after it, this prefix is shorter than the whole text.
 pub fn appends()
     ensures nothing { (held : Option (List ℕ)) → Appends held held [] }
     ensures more { (a b c : Option (List ℕ)) (xs ys : List ℕ) → Appends a b xs → Appends b c ys → Appends a c (xs ++ ys) }

@@ -1,4 +1,4 @@
-//! A listener with connections in memory, for tests.
+//! A listener for tests, whose connections are in memory.
 ghost use Rattle.std.specs.Prelude.{ℕ, ◌≡◌, ◌≤◌, ◌↔◌, ◌⊎◌, ◌<◌, length, true, false, None, Some, IsErr, IsOk, IfOk, OnOk};
 ghost use Rattle.std.specs.Io.{ReadsAtMost};
 ghost use Rattle.std.specs.Io.KnownBytes.{ReadConsumes};
@@ -16,14 +16,17 @@ use std::marker::Model;
 use std::sync::{Arc, Mutex, Wait};
 use std::thread::yield_now;
 
-/// The number of times that the input of a held connection checks whether another connection has written.
+/// A connection is held if each of its reads first waits until another connection has written something. Such a read
+/// gives up after this many checks for a write of the other connection.
 const LOOKS: u32 = 10_000_000;
 
-/// The sink of a connection's output. The door shares it, so that tests can copy the written bytes.
+/// The sink to which a connection's output writes. The listener has access to the same sink, so that tests can copy the
+/// written bytes from the listener.
 type Written = Arc<Mutex<MemSink>>;
 
-/// The input of a connection in memory. If the connection is held, its first read waits until another connection has
-/// written. After 10,000,000 checks without such a write, the read returns the end of the input, so that a test ends.
+/// The input of a connection in memory. If the connection is held, a read first waits until another connection has
+/// written something. After 10,000,000 checks (`LOOKS`) without such a write, the read reports the end of the input, so
+/// that a test can't wait forever.
 #[derive(Drop)]
 pub struct MemInput<R: Wait + Drop> {
     rt: R,
@@ -39,14 +42,14 @@ pub struct MemOutput<R: Wait + Drop> {
     faults: u64,
 }
 
-/// A listener with connections in memory. Contracts see its port, the number of connections that are still to be
-/// accepted, and the number of its failures.
+/// A listener whose connections are in memory. In contracts, its value consists of its port, the number of connections
+/// that are still to be accepted, and the number of its calls that have failed.
 #[derive(Drop)]
 pub struct MemDoor<R: Wait + Drop> {
     rt: R,
     written: Vec<Written>,
     waiting: VecDeque<(MemInput<R>, MemOutput<R>)>,
-    /// The port at which the door listens, if any.
+    /// The port at which the listener listens, if any.
     port: Option<u16>,
     faults: u64,
 }
@@ -60,7 +63,8 @@ impl<R: Wait + Drop> Model for MemDoor<R> {
     ghost view = { λ d. record { port = d.port; waiting = length d.waiting.items; faults = d.faults } };
 }
 
-/// Whether the connection writes anything before `LOOKS` checks have passed.
+/// Waits until a connection has written something to its sink `written`. Returns `false` if the sink is still empty
+/// after `LOOKS` checks.
 fn writes_soon<R: Wait>(rt: &R, written: &Written) -> bool {
     for _ in 0..LOOKS {
         if !written.lock(rt).held().is_empty() {
@@ -107,7 +111,7 @@ impl<R: Wait + Drop> Sink for MemOutput<R> {
     }
 }
 
-/// A sink of `room` bytes for the output of each of `count` connections.
+/// Returns `count` sinks, one for the output of each connection. Each sink holds at most `room` bytes.
 fn new_sinks(alloc: Global, count: usize, room: usize) -> Result<Vec<Written>, Memory>
     ensures { IfOk result (λ v. length v.items ≡ count) }
 {
@@ -119,8 +123,9 @@ fn new_sinks(alloc: Global, count: usize, room: usize) -> Result<Vec<Written>, M
     Ok(sinks)
 }
 
-/// The input and output of a connection that reads the bytes `call` and writes to `written`. If `awaited` is the
-/// output of another connection, the input waits until that connection has written.
+/// Returns the input and the output of a connection. The input reads the bytes `call`, and the output writes to
+/// `written`. If `awaited` is the sink of another connection, each read first waits until that connection has written
+/// something.
 fn connection<R: Wait + Clone + Drop>(
     alloc: Global,
     rt: &R,
@@ -142,9 +147,10 @@ fn connection<R: Wait + Clone + Drop>(
 }
 
 impl<R: Wait + Clone + Drop> MemDoor<R> {
-    /// A listener with one connection for each of these inputs. The output of each connection holds at most `room`
-    /// bytes. If `held` is true, reads of the first connection wait until the second connection has written.
-    /// Precondition: if `held`, there are at least two connections.
+    /// Returns a listener with one connection for each item of `calls`. Each item has the bytes of its connection's
+    /// input. The output of each connection holds at most `room` bytes. If `held` is true, reads of the first
+    /// connection wait until the second connection has written something. Precondition: if `held` is true, there are at
+    /// least two connections.
     pub fn new(
         alloc: Global,
         rt: R,
@@ -177,8 +183,8 @@ impl<R: Wait + Clone + Drop> MemDoor<R> {
 }
 
 impl<R: Wait + Drop> MemDoor<R> {
-    /// A copy of the bytes that the connection with the index `place` wrote. It is empty if no connection has this
-    /// index.
+    /// Returns a copy of the bytes that were written to the output of the connection with the index `place`. If no
+    /// connection has this index, the copy is empty.
     pub fn written(&self, alloc: Global, place: usize) -> Result<Octets, Memory> {
         match self.written.as_slice().get(place) {
             Some(written) => Octets::of(alloc, written.lock(&self.rt).held()),

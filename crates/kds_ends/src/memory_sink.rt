@@ -1,4 +1,4 @@
-//! A bounded sink in memory.
+//! A sink that keeps a bounded number of bytes in memory.
 ghost use Rattle.std.specs.Prelude.{◌≡◌, [], ◌≤◌, ◌<◌, ◌↔◌, ◌⊎◌, ◌+◌, ◌^◌, List, ℕ, length, drop, Some, Contains, IsErr, IfOk, min};
 ghost use Rattle.std.specs.Io.{WritesAtMost};
 ghost use Rattle.std.specs.Io.KnownBytes.{WriteAppends};
@@ -10,9 +10,9 @@ use kds_base::{Items, Memory};
 use std::alloc::Global;
 use std::marker::Model;
 
-/// A sink in memory for at most `room` bytes, which are allocated when the sink is made. It takes at most `step` bytes
-/// in one call. Calls are numbered from 1: the calls whose numbers are in `failing` fail, and so does each write to a
-/// full sink.
+/// A sink (an output of bytes) that keeps at most `room` bytes. The memory for these bytes is allocated when the sink
+/// is made. One call of `write` writes at most `step` bytes. The calls are numbered from 1. A call fails if its number
+/// is in `failing`. A call also fails if the sink is full and the bytes to be written aren't empty.
 #[derive(Drop)]
 pub struct MemSink {
     held: Vec<u8>,
@@ -35,8 +35,8 @@ impl Model for MemSink {
 }
 
 impl MemSink {
-    /// An empty sink for at most `room` bytes. It takes at most `step` bytes in one call, and the calls whose numbers
-    /// are in `failing`, counted from 1, fail. Precondition: `step` is at least 1. The error means that memory ran
+    /// Returns an empty sink for at most `room` bytes. One call of `write` writes at most `step` bytes. A call fails if
+    /// its number, counted from 1, is in `failing`. Precondition: `step` is at least 1. The error means that memory ran
     /// out.
     pub fn new(
         alloc: Global,
@@ -57,7 +57,7 @@ impl MemSink {
         })
     }
 
-    /// The bytes that were written so far.
+    /// Returns all bytes that were written to the sink.
     pub fn held(&self) -> &[u8]
         ensures { result.now ≡ self.now.held }
     {

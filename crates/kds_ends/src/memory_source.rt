@@ -1,4 +1,4 @@
-//! Bytes in memory, as a source.
+//! A source that reads bytes in memory.
 ghost use Rattle.std.specs.Prelude.{◌≡◌, ◌≤◌, ◌<◌, ◌↔◌, ◌+◌, ◌^◌, List, ℕ, length, take, drop, Some, Contains, IsErr, IfOk, min};
 ghost use Rattle.std.specs.Io.{ReadsAtMost};
 ghost use Rattle.std.specs.Io.KnownBytes.{ReadConsumes};
@@ -8,8 +8,8 @@ use crate::source::{Failed, Source};
 use kds_base::{Items, Octets};
 use std::marker::Model;
 
-/// A source of bytes in memory. It gives at most `step` bytes in one call. The calls whose numbers are in `failing`,
-/// counted from 1, fail.
+/// A source (an input of bytes) that reads bytes in memory. One call of `read` reads at most `step` bytes. A call fails
+/// if its number, counted from 1, is in `failing`.
 #[derive(Drop)]
 pub struct MemSource {
     bytes: Octets,
@@ -31,8 +31,8 @@ impl Model for MemSource {
     ghost invariant = { λ s. (s.next ≤ length s.bytes) × (0 < s.step) };
 }
 
-/// Copies the first bytes of `bytes` into `room`, at most `step` bytes and at most the length of `room`. Returns the
-/// number of copied bytes.
+/// Copies bytes from the front of `bytes` to the front of `room`: as many as both slices allow, but at most `step`
+/// bytes. Returns the number of copied bytes.
 pub fn copy_front(bytes: &[u8], room: &mut [u8], step: usize) -> usize
     ensures count { result ≡ min (min (length bytes.now) (length room.old)) step }
     ensures copied { take result room.new ≡ take result bytes.now }
@@ -44,8 +44,8 @@ pub fn copy_front(bytes: &[u8], room: &mut [u8], step: usize) -> usize
 }
 
 impl MemSource {
-    /// A source of these bytes. It gives at most `step` bytes in one call, and the calls whose numbers are in
-    /// `failing`, counted from 1, fail. Precondition: `step` is at least 1.
+    /// Returns a source that reads `bytes`. One call of `read` reads at most `step` bytes. A call fails if its number,
+    /// counted from 1, is in `failing`. Precondition: `step` is at least 1.
     pub fn new(bytes: Octets, step: usize, failing: Items<u64>) -> MemSource
         requires { 0 < step }
         ensures { result ≡ record { left = bytes; step = step; failing = failing; calls = 0; faults = 0 } }

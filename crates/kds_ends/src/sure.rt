@@ -10,7 +10,8 @@ use crate::source::{Failed, Source};
 use kds_base::Octets;
 use std::marker::Model;
 
-/// A source of bytes in memory whose reads never fail. Contracts see the remaining bytes.
+/// A source (an input of bytes) that reads bytes in memory and never fails. In contracts, its value is the list of the
+/// bytes that are still to be read.
 #[derive(Drop)]
 pub struct SureSource {
     bytes: Octets,
@@ -28,7 +29,7 @@ impl Model for SureSource {
 }
 
 impl SureSource {
-    /// A source of these bytes, whose reads never fail.
+    /// Returns a source that reads `bytes`.
     pub fn new(bytes: Octets) -> SureSource
         ensures { result ≡ bytes }
     {
@@ -54,12 +55,13 @@ impl Source for SureSource {
     }
 }
 
-/// A sink that takes every piece as a whole and drops it. Its contract exposes no bytes.
+/// A sink (an output of bytes) that accepts all bytes of each write and discards them. Its contract doesn't state the
+/// written bytes.
 #[derive(Drop)]
 pub struct SureSink;
 
 impl SureSink {
-    /// A sink that drops all written bytes.
+    /// Returns a sink that discards all written bytes.
     pub fn new() -> SureSink {
         SureSink
     }

@@ -1,4 +1,4 @@
-//! Connections over the machine's sockets (RFC 9293).
+//! Connections over the operating system's TCP sockets (RFC 9293).
 ghost use Rattle.std.specs.Prelude.{◌≡◌, Some};
 
 use crate::door::Door;
@@ -9,44 +9,49 @@ use std::io::Read;
 use std::net::{Net, OpenListener, OpenStream, Shutdown, SocketAddr};
 use std::time::Duration;
 
-/// How long a read waits for a byte before it fails, in milliseconds. This ends the connection of an idle client. The
-/// time is shorter than the 30 or 60 seconds for which an SDK waits for a response: if idle clients hold all
+/// How long a read waits for a byte before it fails, in milliseconds. The failure ends the connection of an idle
+/// client. This wait is shorter than the 30 or 60 seconds that an SDK waits for a response. So if idle clients hold all
 /// connections, a new client is still served before it gives up.
 const IDLE_WAIT: u64 = 10_000;
 
-/// How long a write waits for free space, in milliseconds, if the client reads no responses. If a write has put a part
-/// of its bytes into the machine's send buffer when the time is over, it succeeds with that part, and the next write
-/// waits anew. For a client that reads nothing, the buffer was seen to grow once, so the third write fails. All three
-/// writes together take less than the 30 seconds for which an SDK waits.
+/// How long a write waits for free space in the socket's send buffer, in milliseconds, if the client reads no
+/// responses. If the buffer has accepted some of the bytes when the time is over, the write succeeds with these bytes,
+/// and the next write waits anew. In a trial with a client that read nothing, the buffer grew once, so only the third
+/// write failed. Three such waits together take less than the 30 seconds for which an SDK waits.
 const FULL_WAIT: u64 = 9_000;
 
-/// The most bytes of a piece that is read and dropped after the connection has ended.
+/// After the server has ended the connection, it reads and drops the bytes that the client still sends. The bytes that
+/// one such read returns are a piece. This is the greatest size of a piece, in bytes.
 const LAST_PIECE: usize = 65_536;
 
-/// After the connection has ended, at most `FIRST_PIECES` pieces are read and dropped first. The read of each piece
-/// waits at most `FIRST_WAIT` milliseconds. If the client pauses longer, nothing more is read from it.
+/// The greatest number of pieces that are read and dropped right after the server has ended the connection. The read of
+/// each of these pieces waits at most `FIRST_WAIT` milliseconds. If the client pauses longer, nothing more is read from
+/// it.
 const FIRST_PIECES: u32 = 8;
 
 const FIRST_WAIT: u64 = 500;
 
-/// Then at most `LATER_PIECES` further pieces are read and dropped, enough for a body of the greatest size. The read
-/// of each piece waits at most `LATER_WAIT` milliseconds. The reads of all pieces together take at most seven seconds,
-/// however slowly the client sends.
+/// The greatest number of pieces that are read and dropped after the first `FIRST_PIECES` pieces. If each piece has the
+/// greatest size, the pieces together hold a request body of the greatest size. The read of each of these pieces waits
+/// at most `LATER_WAIT` milliseconds. The reads of all pieces together take at most seven seconds, however slowly the
+/// client sends.
 const LATER_PIECES: u32 = 256;
 
 const LATER_WAIT: u64 = 10;
 
-/// The input of a connection. It counts its failures; its contract exposes no bytes. If it is dropped while the client
-/// may still send, it first shuts down the writing side, and then reads and drops a bounded number of bytes. Otherwise
-/// the machine would reset the connection, and the client could lose the last response (RFC 9112, section 9.6).
+/// The input of a connection, which counts its failed reads. If the socket's contract states the bytes that are still
+/// to be read, the input's contract states them too. If the input is dropped while the client may still send bytes, the
+/// drop first shuts down the writing side of the connection, and then reads and discards a bounded number of bytes.
+/// Otherwise the operating system would reset the connection, and the client could lose the last response (RFC 9112,
+/// section 9.6).
 pub struct TcpInput<S: Read + OpenStream + Drop> {
     source: StdSource<S>,
-    /// Whether no more bytes can arrive on the connection.
+    /// Whether the last read returned 0 bytes or failed. If so, nothing more is read when the input is dropped.
     ended: bool,
 }
 
-/// Reads and drops at most `count` pieces. Each read waits at most `wait` milliseconds. Returns whether the client may
-/// still send bytes.
+/// Reads and drops at most `count` pieces. Each read waits at most `wait` milliseconds. Returns `true` if all `count`
+/// pieces were read, which means that the client may still send bytes.
 fn drop_pieces<S: Read + OpenStream>(stream: &mut S, count: u32, wait: u64) -> bool {
     let wait = Some(Duration::from_millis(wait));
     if stream.set_read_timeout(wait).is_err() {
@@ -63,7 +68,8 @@ fn drop_pieces<S: Read + OpenStream>(stream: &mut S, count: u32, wait: u64) -> b
     true
 }
 
-/// Shuts down the writing side, and then reads and drops the bytes that still arrive.
+/// Shuts down the writing side of the connection. Then reads and drops what the client still sends, up to the limits
+/// above.
 fn end<S: Read + OpenStream>(stream: &mut S) {
     if stream.shutdown(Shutdown::Write).is_ok() && drop_pieces(stream, FIRST_PIECES, FIRST_WAIT) {
         drop_pieces(stream, LATER_PIECES, LATER_WAIT);
@@ -96,7 +102,8 @@ impl<S: Read + OpenStream + Drop> Source for TcpInput<S> {
     }
 }
 
-/// A listener over the machine's sockets. It counts the failures of the sockets; its contract exposes no bytes.
+/// A listener over the operating system's TCP sockets. It counts its failures to listen and to accept. Its contract
+/// states nothing about the bytes of connections.
 #[derive(Drop)]
 pub struct TcpDoor<R: Net> {
     rt: R,
@@ -106,8 +113,8 @@ pub struct TcpDoor<R: Net> {
     faults: u64,
 }
 
-/// The input and output of a connection. Written bytes are sent without delay. Reads and writes wait only for a
-/// bounded time for the client.
+/// Returns the input and the output of the connection `stream`. Written bytes are sent without delay. A read waits at
+/// most `IDLE_WAIT` milliseconds for the client, and a write at most `FULL_WAIT` milliseconds.
 fn ends_of<S: Read + OpenStream + Drop>(stream: S) -> io::Result<(TcpInput<S>, S)> {
     stream.set_nodelay(true)?;
     stream.set_read_timeout(Some(Duration::from_millis(IDLE_WAIT)))?;
@@ -120,8 +127,8 @@ fn ends_of<S: Read + OpenStream + Drop>(stream: S) -> io::Result<(TcpInput<S>, S
     Ok((input, other))
 }
 
-/// Whether the error says that the client gave up the connection before it was accepted. The next connection can then
-/// still be accepted.
+/// Whether the next connection can still be accepted after this error. This is so if the error says that the client
+/// gave up its connection before the listener accepted it, or that the call was interrupted.
 fn is_given_up(error: &io::Error) -> bool {
     match error.kind() {
         io::ErrorKind::ConnectionAborted
@@ -131,8 +138,8 @@ fn is_given_up(error: &io::Error) -> bool {
     }
 }
 
-/// The input and output of the next connection. It skips each connection that the client gives up before the
-/// connection is accepted and set up.
+/// Accepts the next connection, and returns its input and its output. Skips each connection that the client gives up
+/// before the connection is accepted, or that can't be set up.
 fn accept_on<S: Read + OpenStream + Drop, L: OpenListener<Stream = S> + Drop>(
     listener: &Option<L>,
 ) -> io::Result<(TcpInput<S>, S)> {
@@ -157,7 +164,7 @@ fn accept_on<S: Read + OpenStream + Drop, L: OpenListener<Stream = S> + Drop>(
 }
 
 impl<R: Net> TcpDoor<R> {
-    /// A listener that doesn't listen yet. It will listen only at the address 127.0.0.1.
+    /// Returns a listener that doesn't listen yet. `listen` will make it listen only at the address 127.0.0.1.
     pub fn new(rt: R) -> TcpDoor<R>
         ensures { result.faults ≡ 0 }
     {

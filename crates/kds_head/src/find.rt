@@ -1,4 +1,5 @@
-//! Finds a request's head at the front of a connection's bytes.
+//! Finds the head of a request at the beginning of a connection's bytes. The head is the part of a request before its
+//! body.
 ghost use Rattle.std.specs.Prelude.{◌≡◌, length, take, None, IfOk, IfSome};
 ghost use Rattle.httparse.specs.Spans.{RequestExceeds};
 ghost use Rattle.kds_head.specs.Find.{IsFoundIn, IsFound, IsWithinLimits};
@@ -13,11 +14,11 @@ use httparse::{Error, Status};
 use kds_base::Memory;
 use std::alloc::Global;
 
-/// The number of headers for which the first parse has space. It is small since initialising the space takes time. Most
-/// heads have fewer headers; a head with more is parsed again with more space.
+/// The number of headers for which the first parse of a head has space. The number is small because initialising the
+/// space takes time. Most heads have fewer headers. A head with more headers is parsed again with more space.
 const FEW_HEADERS: usize = 16;
 
-/// The first `HEAD_BYTES` of the bytes: a whole head must lie within them.
+/// Returns the first `HEAD_BYTES` bytes, or all bytes if there are fewer. A whole head must lie within these bytes.
 fn head_bytes(bytes: &[u8]) -> &[u8]
     ensures { result.now ≡ take HEAD_BYTES bytes.now }
 {
@@ -29,7 +30,8 @@ fn head_bytes(bytes: &[u8]) -> &[u8]
     }
 }
 
-/// The finding if the bytes aren't a whole head, but may become one when more bytes follow.
+/// Returns what is found if the bytes aren't a whole head, but could become one with more bytes. The result is a
+/// refusal with the status 431 if there are already `HEAD_BYTES` bytes. Otherwise it is `Need`.
 fn undecided(front: &[u8]) -> Found
     ensures { result ≡ spec.undecided (length front.now) }
 {
@@ -40,7 +42,8 @@ fn undecided(front: &[u8]) -> Found
     }
 }
 
-/// The finding in the bytes `front`, with space for as many headers as `spans` has. `None` if there are more headers.
+/// Returns what is found in `front`, the first bytes of a connection. `None` means that the head has more headers than
+/// `spans` has elements.
 fn find_in(alloc: Global, front: &[u8], spans: &mut [HeaderSpan]) -> Result<Option<Found>, Memory>
     ensures found { IfOk result (λ o. IfSome o (IsFoundIn front.now)) }
     ensures room { IfOk result (λ o. o ≡ None → RequestExceeds (length spans.old) front.now) }
@@ -53,7 +56,8 @@ fn find_in(alloc: Global, front: &[u8], spans: &mut [HeaderSpan]) -> Result<Opti
         Ok(Status::Partial) => Ok(Some(undecided(front))),
         Err(Error::TooManyHeaders) => Ok(None),
         Err(_) => {
-            // A target's UTF-8 is only decided at the target's end, since its last character may be incomplete.
+            // A request's target must be valid UTF-8. An incomplete target isn't refused for this reason, because its
+            // last character may be cut off.
             if ends_in_target(front) {
                 Ok(Some(undecided(front)))
             } else {
@@ -63,8 +67,8 @@ fn find_in(alloc: Global, front: &[u8], spans: &mut [HeaderSpan]) -> Result<Opti
     }
 }
 
-/// The finding in the bytes `front`, with any number of headers. The space suffices, since a header has at least three
-/// bytes: a name, a colon and a line feed.
+/// Returns what is found in `front`, for any number of headers. There is space for one header per three bytes. This
+/// suffices, since each header has at least three bytes: a name, a colon and a line feed.
 fn find_long(alloc: Global, front: &[u8]) -> Result<Found, Memory>
     ensures { IfOk result (IsFoundIn front.now) }
 {
@@ -75,8 +79,8 @@ fn find_long(alloc: Global, front: &[u8]) -> Result<Found, Memory>
     }
 }
 
-/// The finding in the bytes `front`. It first tries space for `HEADERS` + 1 headers. This suffices to decide unless
-/// there are even further headers.
+/// Returns what is found in `front`, for a head with more than `FEW_HEADERS` headers. The head is first parsed with
+/// space for `HEADERS` + 1 headers. If it has even more headers, it is parsed again with more space.
 fn find_many(alloc: Global, front: &[u8]) -> Result<Found, Memory>
     ensures { IfOk result (IsFoundIn front.now) }
 {
@@ -87,11 +91,11 @@ fn find_many(alloc: Global, front: &[u8]) -> Result<Found, Memory>
     }
 }
 
-/// What the bytes of a connection begin with: a head that the service accepts, a refusal with its status, or too few
-/// bytes to decide (RFC 9112, sections 2 to 6).
+/// Returns what the bytes of a connection begin with: the head of a request that the service accepts (`Whole`), bytes
+/// that the service refuses with a status (`Refused`), or too few bytes to decide (`Need`) (RFC 9112, sections 2 to 6).
 ///
-/// `Memory` means that memory ran out: for the operation's name, or for the headers if there are more than
-/// `FEW_HEADERS`. No clause states that `Memory` is returned only in these cases.
+/// The error means that memory ran out. Memory is allocated for the operation's name, and for the headers if there are
+/// more than `HEADERS` + 1. The contract doesn't state that these are the only causes of the error.
 pub fn head(alloc: Global, bytes: &[u8]) -> Result<Found, Memory>
     ensures found { IfOk result (IsFound bytes.now) }
     ensures limits { IfOk result (IsWithinLimits bytes.now) }

@@ -1,4 +1,5 @@
-//! One pass over the headers of a head, which finds the headers that the service reads.
+//! Finds the headers that the service reads, in one pass over all headers of a head. The head is the part of a request
+//! before its body.
 ghost use Rattle.std.specs.Prelude.{◌≡◌, map, fold};
 ghost use Rattle.std.specs.Option.{option_map};
 ghost use Rattle.httparse.specs.Spans.{header_bytes};
@@ -8,7 +9,7 @@ ghost use Rattle.kds_head.specs.Findings.{seen_after, findings_after, no_finding
 use crate::fields::{covered, same_word};
 use httparse::spans::{HeaderSpan, Span};
 
-/// How often a header name was seen, with the value if it was seen once.
+/// How many headers with a certain name were seen: none, exactly one (with its value), or several.
 #[derive(Clone, Copy)]
 pub enum Seen {
     /// No header has the name.
@@ -20,7 +21,8 @@ pub enum Seen {
 }
 
 impl Seen {
-    /// The result after one further header with the value `value`. `named` is true if that header has the name.
+    /// Counts one more header, and returns the new value. `named` is true if this header has the name, and `value` is
+    /// its value.
     fn after(self, named: bool, value: Span) -> Seen
         ensures { result ≡ seen_after self named value }
     {
@@ -44,18 +46,18 @@ impl Seen {
     }
 }
 
-/// The headers that the service reads, as found so far.
+/// What was seen so far of the headers that the service reads.
 #[derive(Clone, Copy)]
 pub struct Findings {
-    /// The Transfer-Encoding headers.
+    /// What was seen of Transfer-Encoding headers.
     pub encoding: Seen,
-    /// The Content-Length headers.
+    /// What was seen of Content-Length headers.
     pub length: Seen,
-    /// The X-Amz-Target headers.
+    /// What was seen of X-Amz-Target headers.
     pub target: Seen,
-    /// The Content-Type headers.
+    /// What was seen of Content-Type headers.
     pub media_type: Seen,
-    /// Whether there is a Connection header with the value `close`.
+    /// Whether a Connection header with the value `close` was seen.
     pub close: bool,
 }
 
@@ -68,14 +70,15 @@ const NO_FINDINGS: Findings = Findings {
     close: false,
 };
 
-/// Whether `word` is the header name `name`. Most names differ in length, so the lengths are compared first.
+/// Whether `word` is the header name `name`, ignoring ASCII case. Most names differ in length, so the lengths are
+/// compared first.
 fn is_name(word: &[u8], name: &[u8]) -> bool
     ensures { result ≡ same_word word.now name.now }
 {
     word.len() == name.len() && same_word(word, name)
 }
 
-/// The findings `found`, updated by one further header.
+/// Returns the findings `found`, updated with the header `header`.
 fn after(front: &[u8], found: Findings, header: &HeaderSpan) -> Findings
     ensures { result ≡ findings_after front.now found header.now }
 {
@@ -108,14 +111,15 @@ fn all_read(front: &[u8], headers: &[HeaderSpan]) -> Findings
         .fold(NO_FINDINGS, |found, header| after(front, found, header))
 }
 
-/// The findings in `headers`. Each header is read once.
+/// Returns the findings after all of `headers`. Each header is read once.
 pub fn read_headers(front: &[u8], headers: &[HeaderSpan]) -> Findings
     ensures { AreFindings front.now (map (header_bytes front.now) headers.now) result }
 {
     all_read(front, headers)
 }
 
-/// The value of the header seen as `seen`, if there is exactly one such header, otherwise `None`.
+/// Returns the value of the only header with a certain name. `seen` says how many such headers there are. If there
+/// isn't exactly one, the result is `None`.
 pub fn only_value(front: &[u8], seen: Seen) -> Option<&[u8]>
     ensures { option_map (λ v. v.now) result ≡ value_in front.now seen }
 {

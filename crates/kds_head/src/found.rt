@@ -1,4 +1,4 @@
-//! What was found at the front of a connection's bytes.
+//! What is found at the beginning of a connection's bytes.
 
 use kds_base::Octets;
 
@@ -11,13 +11,13 @@ pub struct Head {
     /// The number of bytes of the body, given by Content-Length (RFC 9110, section 8.6).
     pub body: u64,
     /// The text after `Kinesis_20131202.` in the X-Amz-Target header. It is empty if there isn't exactly one such
-    /// header, or if its value has another beginning.
+    /// header, or if the value of this header doesn't begin with `Kinesis_20131202.`.
     pub operation: Octets,
     /// Whether there is exactly one Content-Type header, and its value is `application/x-amz-json-1.1`, alone or
     /// followed by `;` and parameters (RFC 9110, section 8.3).
     pub json: bool,
-    /// Whether the connection closes after the answer. It does if the request is HTTP/1.0, or if a Connection header is
-    /// `close` (RFC 9112, section 9.3).
+    /// Whether the connection closes after the response. It closes if the request is HTTP/1.0, or if a Connection
+    /// header has the value `close` (RFC 9112, section 9.3).
     pub close: bool,
 }
 

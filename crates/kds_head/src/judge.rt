@@ -1,4 +1,4 @@
-//! Decides whether a whole head is accepted or refused.
+//! Decides whether a whole head of a request is accepted or refused. The head is the part of a request before its body.
 ghost use Rattle.std.specs.Prelude.{◌≡◌, length, map, slice_range, IfOk, nat_lt, codes};
 ghost use Rattle.std.specs.Str.{bytes_eq};
 ghost use Rattle.httparse.specs.Spans.{header_bytes};
@@ -31,8 +31,8 @@ fn is_root(front: &[u8], target: Span) -> bool
     covered(front, target) == b"/".as_slice()
 }
 
-/// Decides on a whole head: the checks below run in the order of the service's table, and the first that fails gives
-/// the status of the refusal.
+/// Decides whether a whole head is accepted. The checks are made in the order of the definition `judged_by`. The first
+/// check that fails determines the status of the refusal.
 pub fn judge(
     alloc: Global,
     front: &[u8],

@@ -1,5 +1,5 @@
-//! Finds the heads of HTTP/1.x requests at the front of a connection's bytes, checks them against the service's table
-//! of refusals, and writes the text of responses (RFC 9110, RFC 9112).
+//! Finds the heads of HTTP/1.x requests at the beginning of a connection's bytes, decides which heads the service
+//! refuses, and writes the text of responses (RFC 9110, RFC 9112). The head is the part of a request before its body.
 #![tactic(auto)]
 
 mod fields;

@@ -1,20 +1,22 @@
-//! The numeric limits on heads and bodies.
+//! The limits on the heads and bodies of requests.
 ghost use Rattle.std.specs.Prelude.{◌≡◌};
 ghost use Rattle.kds_head.specs.declared.numbers.TheConstants as number;
 
-/// The most bytes of a request's head (RFC 9112, section 3; longer heads are refused as in RFC 6585, section 5).
+/// The most bytes that a request's head may have (RFC 9112, section 3). A longer head is refused with the status 431
+/// (RFC 6585, section 5).
 pub const HEAD_BYTES: usize = 16_384;
 
-/// The most headers of a request's head (RFC 9110, section 5.4).
+/// The most headers that a request's head may have (RFC 9110, section 5.4).
 pub const HEADERS: usize = 64;
 
-/// The most bytes of a request's body (RFC 9110, section 15.5.14).
+/// The most bytes that a request's body may have (RFC 9110, section 15.5.14).
 pub const BODY_BYTES: u64 = 16_777_216;
 
-/// The most digits of a Content-Length (RFC 9110, section 8.6). A number of so few digits always fits into 64 bits.
+/// The most digits that the value of Content-Length may have (RFC 9110, section 8.6). A number of 19 digits always fits
+/// into 64 bits.
 pub const LENGTH_DIGITS: usize = 19;
 
-/// States the limits as numbers, since the definitions refer to the code's constants by name.
+/// States the limits as plain numbers, because the definitions in contracts use only the names of these constants.
 pub fn limits()
     ensures head { number.HEAD_BYTES ≡ 16384 }
     ensures headers { number.HEADERS ≡ 64 }

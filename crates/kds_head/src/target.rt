@@ -1,14 +1,14 @@
-//! Decides whether bytes end inside a request's target (RFC 9112, section 3.2).
+//! Decides whether the bytes that have arrived so far end inside a request's target (RFC 9112, section 3.2).
 ghost use Rattle.std.specs.Prelude.{◌≡◌, ◌↔◌, IsTrue, fold};
 ghost use Rattle.httparse.specs.Grammar.{EndsInTarget};
 ghost use Rattle.kds_head.specs.Target.{after_byte};
 
 use httparse::{is_header_name_token, is_uri_token};
 
-/// The part of a request in which its bytes end.
+/// The part of a request in which the bytes so far end.
 #[derive(Clone, Copy)]
 pub enum Reached {
-    /// In the empty lines before the request, or before any byte.
+    /// Among the empty lines before the request, or before the first byte.
     Blank,
     /// After the CR of an empty line, before its LF.
     CarriageReturn,
@@ -20,7 +20,7 @@ pub enum Reached {
     Other,
 }
 
-/// The part that is reached after the next byte `b`.
+/// Returns the part of the request that is reached after the next byte `b`.
 fn after(reached: Reached, b: u8) -> Reached
     ensures { result ≡ after_byte reached b }
 {

@@ -1,4 +1,5 @@
-//! Reads header values: the length of the body, the operation, and whether the body is JSON.
+//! Reads header values: the length of the body, the operation, whether the body is JSON, and whether the connection
+//! closes.
 ghost use Rattle.std.specs.Prelude.{◌≡◌, ◌==◌, ◌||◌, [], false, option_and_then};
 ghost use Rattle.std.specs.Option.{option_map_or};
 ghost use Rattle.kds_head.specs.Findings.{value_in};
@@ -8,7 +9,7 @@ use crate::findings::{Seen, only_value};
 use crate::numbers::LENGTH_DIGITS;
 use kds_base::read_digits;
 
-/// The number that `text` spells in 1 to `LENGTH_DIGITS` digits, otherwise `None`.
+/// Reads a number of 1 to `LENGTH_DIGITS` digits. `None` means that `text` isn't such a number.
 fn byte_count(text: &[u8]) -> Option<u64>
     ensures { result ≡ value.byte_count text.now }
 {
@@ -19,7 +20,8 @@ fn byte_count(text: &[u8]) -> Option<u64>
     }
 }
 
-/// The number of bytes of the body. `None` if there isn't exactly one Content-Length, or if its value isn't a number.
+/// Returns the number of bytes of the body, as Content-Length states it. The result is `None` if there isn't exactly
+/// one such header, or if its value isn't a number of 1 to `LENGTH_DIGITS` digits.
 pub fn body_length(front: &[u8], lengths: Seen) -> Option<u64>
     ensures { result ≡ option_and_then value.byte_count (value_in front.now lengths) }
 {
@@ -29,8 +31,8 @@ pub fn body_length(front: &[u8], lengths: Seen) -> Option<u64>
     }
 }
 
-/// The operation's name in a target: the text after `Kinesis_20131202.`. It is empty if the target has another
-/// beginning.
+/// Returns the operation's name in the value of an X-Amz-Target header: the text after `Kinesis_20131202.`. The name is
+/// empty if the value begins differently.
 fn named_operation(target: &[u8]) -> &[u8]
     ensures { result.now ≡ value.named_operation target.now }
 {
@@ -42,8 +44,8 @@ fn named_operation(target: &[u8]) -> &[u8]
     }
 }
 
-/// The operation's name in the only X-Amz-Target header. It is empty if there isn't exactly one such header, or if its
-/// value names no operation.
+/// Returns the operation's name in the only X-Amz-Target header. The name is empty if there isn't exactly one such
+/// header, or if its value names no operation.
 pub fn operation(front: &[u8], targets: Seen) -> &[u8]
     ensures { result.now ≡ option_map_or value.named_operation (value_in front.now targets) [] }
 {
@@ -60,7 +62,8 @@ fn is_json(media_type: &[u8]) -> bool
         || media_type.starts_with(b"application/x-amz-json-1.1;".as_slice())
 }
 
-/// Whether there is exactly one Content-Type header, and it is the service's JSON type.
+/// Whether there is exactly one Content-Type header, and its value is the service's JSON type,
+/// `application/x-amz-json-1.1`, alone or followed by `;`.
 pub fn says_json(front: &[u8], media_types: Seen) -> bool
     ensures { result ≡ option_map_or value.is_json (value_in front.now media_types) false }
 {
@@ -70,8 +73,8 @@ pub fn says_json(front: &[u8], media_types: Seen) -> bool
     }
 }
 
-/// Whether the connection closes after the answer. It does if `said` is true, which means that a Connection header is
-/// `close`, or if `minor` is 0, which means HTTP/1.0.
+/// Whether the connection closes after the response. It closes if the minor version of HTTP (`minor`) is 0, or if
+/// `said` is true, which means that a Connection header has the value `close`.
 pub fn closes(minor: u8, said: bool) -> bool
     ensures { result ≡ (minor == 0 || said) }
 {

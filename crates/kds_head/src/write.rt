@@ -7,10 +7,10 @@ use itoa::Buffer;
 use kds_base::{Memory, Octets};
 use std::alloc::Global;
 
-/// An upper bound for the number of a response's bytes without its body.
+/// An upper bound for the number of bytes in a response before its body.
 pub const FRONT_BYTES: usize = 256;
 
-/// The status line of a response with this status.
+/// Returns the status line of a response with the status `status`.
 fn status_line(status: u16) -> &'static [u8]
     requires { is_status status ≡ true }
     ensures line { result.now ≡ line (codes "HTTP/1.1 " ++ decimal status ++ codes " " ++ reason_phrase status) }
@@ -28,7 +28,7 @@ fn status_line(status: u16) -> &'static [u8]
     }
 }
 
-/// The Content-Type line if `json` is true, otherwise no bytes.
+/// Returns the Content-Type line if `json` is true, and no bytes otherwise.
 fn content_type_line(json: bool) -> &'static [u8]
     ensures line { result.now ≡ content_type json }
     ensures short { length result.now ≤ 50 }
@@ -40,7 +40,7 @@ fn content_type_line(json: bool) -> &'static [u8]
     }
 }
 
-/// The line `Connection: close` if `close` is true, otherwise no bytes.
+/// Returns the line `Connection: close` if `close` is true, and no bytes otherwise.
 fn connection_line(close: bool) -> &'static [u8]
     ensures line { result.now ≡ connection close }
     ensures short { length result.now ≤ 50 }
@@ -48,7 +48,7 @@ fn connection_line(close: bool) -> &'static [u8]
     if close { b"Connection: close\r\n" } else { b"" }
 }
 
-/// Appends `bytes`. Precondition: the vector's capacity suffices.
+/// Appends `bytes` to `to`. Precondition: the capacity of `to` suffices.
 fn add(to: &mut Vec<u8>, bytes: &[u8])
     requires { vec_len to.old + length bytes.now ≤ vec_capacity to.old }
     ensures items { to.new.items ≡ to.old.items ++ bytes.now }
@@ -61,7 +61,7 @@ fn add(to: &mut Vec<u8>, bytes: &[u8])
     }
 }
 
-/// Appends a response to a vector. If memory runs out, nothing is added.
+/// Appends a response to `to`. If memory runs out, nothing is added.
 #[tactic(auto, unfolding(crate::specs::Response::response_text))]
 fn add_response(
     status: u16,
@@ -87,9 +87,9 @@ fn add_response(
     Ok(())
 }
 
-/// Appends a response. If `json` is true, it is an answer of the service with the status 200 or 400 and a JSON body.
-/// Otherwise it refuses the connection, has no body, and the connection closes after it (RFC 9112, section 9.6). The
-/// body is copied once. If memory runs out, nothing is added.
+/// Appends a response. If `json` is true, the response is an answer of the service, with the status 200 or 400 and a
+/// JSON body. If `json` is false, the response refuses the connection: it has no body, and the connection closes after
+/// it (RFC 9112, section 9.6). The body is copied only once. If memory runs out, nothing is added.
 pub fn response(
     _alloc: Global,
     status: u16,
@@ -108,7 +108,7 @@ pub fn response(
     added
 }
 
-/// Writes `piece` so that it ends before the index `at`, and returns the index at which it starts.
+/// Writes the bytes `piece` into `text`, directly before the index `at`. Returns the index at which these bytes start.
 fn write_before(text: &mut [u8], at: usize, piece: &[u8]) -> usize
     requires within { at ≤ length text.old }
     requires room { length piece.now ≤ at }
@@ -121,10 +121,10 @@ fn write_before(text: &mut [u8], at: usize, piece: &[u8]) -> usize
     start
 }
 
-/// Writes the status line and headers of a response directly before its body, so that the body needn't be copied. The
-/// body is in `text` from index `body` to the end. Returns the index at which the response begins. Preconditions:
-/// `status` and the body are those of a response (see `response`), and there are at least `FRONT_BYTES` bytes before
-/// the body.
+/// Writes the status line and the headers of a response into the bytes directly before its body, so that the body
+/// needn't be copied. The body is in `text` from the index `body` to the end. Returns the index at which the response
+/// begins. Preconditions: `status`, `json`, `close` and the body meet the precondition of `response`, and at least
+/// `FRONT_BYTES` bytes precede the body.
 #[tactic(auto, unfolding(crate::specs::Response::response_text))]
 pub fn put_front(status: u16, json: bool, close: bool, text: &mut [u8], body: usize) -> usize
     requires response { IsResponse status (drop body text.old) json close }

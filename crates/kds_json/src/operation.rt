@@ -20,13 +20,14 @@ pub enum Operation {
     IncreaseRetention,
     DecreaseRetention,
     UpdateShardCount,
-    /// This project's own operation LocalEnforceLimits.
+    /// The operation LocalEnforceLimits, which only this project has.
     EnforceLimits,
 }
 
-// The names are matched in four functions of four tests each: the prover takes far longer for one chain of sixteen.
+// The sixteen names are compared in four functions with four comparisons each, because the prover takes far longer for
+// a single function with sixteen comparisons.
 
-/// The operation called `name`, if there is one.
+/// Returns the operation called `name`, or `None` if there is no such operation.
 pub fn operation_named(name: &[u8]) -> Option<Operation>
     ensures { result ≡ named name.now }
 {
@@ -43,7 +44,8 @@ pub fn operation_named(name: &[u8]) -> Option<Operation>
     }
 }
 
-/// The operation called `name` among those that read shards and records, or among those of the two functions below.
+/// Returns the operation called `name` if it is one of twelve operations. This function itself finds the four
+/// operations that read streams, shards and records. The two functions below find the other eight.
 fn reading_named(name: &[u8]) -> Option<Operation>
     ensures { result ≡ reads name.now }
 {
@@ -60,7 +62,8 @@ fn reading_named(name: &[u8]) -> Option<Operation>
     }
 }
 
-/// The operation called `name` among those that write records or change shards, or among those of the function below.
+/// Returns the operation called `name` if it is one of eight operations. This function itself finds the four operations
+/// that write records or change shards. The function below finds the other four.
 fn writing_named(name: &[u8]) -> Option<Operation>
     ensures { result ≡ writes name.now }
 {
@@ -77,7 +80,7 @@ fn writing_named(name: &[u8]) -> Option<Operation>
     }
 }
 
-/// The operation called `name` among those that set up a stream.
+/// Returns the operation called `name` if it is one of the four operations that change the settings of a stream.
 fn setting_named(name: &[u8]) -> Option<Operation>
     ensures { result ≡ sets name.now }
 {

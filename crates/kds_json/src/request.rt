@@ -1,4 +1,4 @@
-//! Reads a command from an operation's name and a request's body.
+//! Reads the command of a request from the name of the request's operation and from the request's body.
 ghost use Rattle.std.specs.Prelude.{◌≡◌, ℕ, List, Ok, IsUtf8, IfOk, IfErr, option_map};
 ghost use Rattle.kds_defs.specs.declared.command.Command.{Command};
 ghost use Rattle.serde_json.specs.View.{view};
@@ -20,7 +20,8 @@ use kds_json_members::{Fault, FaultKind, Stop, object_members, stop_at};
 use serde_json::{Map, Value};
 use std::alloc::Global;
 
-/// Parses a body as JSON. `None` if it isn't JSON in UTF-8.
+/// Parses a body as JSON. Returns `None` if the body isn't JSON in UTF-8, or if its values are nested deeper than 127
+/// levels.
 fn parsed(alloc: Global, body: &[u8]) -> Result<Option<Value>, Memory>
     ensures { IfOk result (λ o. option_map view o ≡ read_body body.now) }
 {
@@ -30,7 +31,7 @@ fn parsed(alloc: Global, body: &[u8]) -> Result<Option<Value>, Memory>
     }
 }
 
-/// Parses a body that must be a JSON object, and returns its members.
+/// Parses a body that must be a JSON object, and returns the object's members.
 #[tactic(auto, using(crate::proofs::Objects::objects))]
 fn parse_object(alloc: Global, body: &[u8]) -> Result<Map<String, Value>, Stop>
     ensures { Gives object_view result (object_of body.now) }
@@ -44,7 +45,7 @@ fn parse_object(alloc: Global, body: &[u8]) -> Result<Map<String, Value>, Stop>
     }
 }
 
-/// Reads the command of `operation` from its members.
+/// Reads the command of the operation `operation` from the members of the request's body.
 fn members(
     alloc: Global,
     operation: Operation,
@@ -72,7 +73,8 @@ fn members(
     }
 }
 
-/// Reads the command of an operation from its name and body. An unknown operation is refused before the body is read.
+/// Reads the command of a request from the name of its operation and from its body. An unknown operation is refused
+/// before the body is parsed.
 #[tactic(auto, unfolding(crate::specs::Asked::asked))]
 fn command(alloc: Global, operation: &[u8], body: &[u8]) -> Result<Command, Stop>
     ensures { Gives (λ c. c) result (asked operation.now body.now) }
@@ -86,14 +88,15 @@ fn command(alloc: Global, operation: &[u8], body: &[u8]) -> Result<Command, Stop
     }
 }
 
-/// Reads the command of an operation from its name and body, or finds the first fault of the request (Kinesis API
-/// Reference, Actions and Common Errors). A body nested deeper than 127 levels isn't parsed: its fault is
-/// `Serialization`. The outer error `Memory` means that memory ran out.
+/// Reads the command of a request from the name of its operation and from its body, or returns the first fault of the
+/// request (Kinesis API Reference, Actions and Common Errors). A body that is nested deeper than 127 levels isn't
+/// parsed: its fault is `Serialization`. The outer error `Memory` means that memory ran out.
 pub fn ask(alloc: Global, operation: &[u8], body: &[u8]) -> Result<Result<Command, Fault>, Memory>
     ensures value { IfOk result (λ r. r ≡ asked operation.now body.now) }
 
-    // If the result is a command, it meets the preconditions of a machine's turn, and the stream service answers it.
-    // If the result is a fault of the request, the name of the member at fault is printable.
+    // A returned command can be applied as a turn (a command with a sender and a time), because its arguments meet the
+    // preconditions of a turn. The command is for the stream service, not for the lease table. The member name in a
+    // returned fault is valid UTF-8, so that it can be printed.
     ensures lawful { IfOk result (λ r. IfOk r IsRequest) }
     ensures text { IfOk result (λ r. IfErr r (λ fault. IsUtf8 fault.member)) }
 {
@@ -104,7 +107,8 @@ pub fn ask(alloc: Global, operation: &[u8], body: &[u8]) -> Result<Result<Comman
     }
 }
 
-/// The command of any request meets the preconditions of a machine's turn, and the stream service answers it.
+/// States that the command of any request can be applied as a turn (a command with a sender and a time), because its
+/// arguments meet the preconditions of a turn. The command is for the stream service, not for the lease table.
 pub fn asks_lawfully()
     ensures { (operation body : List ℕ) (what : Command) → asked operation body ≡ Ok what → IsRequest what }
 {}

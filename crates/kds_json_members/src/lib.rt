@@ -1,5 +1,6 @@
-//! Reads the members of a JSON request: required, optional and forbidden ones, each as a value of its kind, or the
-//! first fault (Kinesis API Reference, Request Parameters of each action, and Common Errors).
+//! Reads the members of the JSON object in a request's body. A member is required, optional or forbidden, and its value
+//! has a kind, such as a number or a stream name. Each function returns the member's value or its fault (Kinesis API
+//! Reference, Request Parameters of each action, and Common Errors).
 #![tactic(auto)]
 
 mod member;

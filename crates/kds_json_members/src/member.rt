@@ -1,5 +1,5 @@
-//! Required, optional and forbidden members of a request, borrowed from its JSON object. A member whose value is null
-//! counts as absent.
+//! Finds required, optional and forbidden members in the JSON object of a request. A member whose value is null counts
+//! as absent.
 ghost use Rattle.std.specs.Prelude.{◌≡◌, is_some, option_map};
 ghost use Rattle.serde_json.specs.Data.{object};
 ghost use Rattle.serde_json.specs.Find.{as_object};
@@ -12,7 +12,7 @@ use kds_base::Octets;
 use serde_json::{Map, Value};
 use std::alloc::Global;
 
-/// The fault of this kind at the member `name`.
+/// Returns a fault of the kind `kind` that names the member `name`. If memory runs out, returns `Stop::Memory` instead.
 pub fn stop_at(alloc: Global, kind: FaultKind, name: &str) -> Stop
     ensures { IsStop result (fault_of kind name.now) }
 {
@@ -22,7 +22,8 @@ pub fn stop_at(alloc: Global, kind: FaultKind, name: &str) -> Stop
     }
 }
 
-/// The value `value`, or a fault of this kind at the member `name` if `value` is `None`.
+/// Returns the value inside the option `value`. If `value` is `None`, returns a fault of the kind `kind` that names the
+/// member `name`.
 pub fn value_at<T: Drop>(
     alloc: Global,
     kind: FaultKind,
@@ -37,7 +38,7 @@ pub fn value_at<T: Drop>(
     }
 }
 
-/// The members of a JSON value that is an object, otherwise `None`.
+/// Returns the members of `value` if it is a JSON object, and otherwise `None`.
 pub fn object_members(value: Value) -> Option<Map<String, Value>>
     ensures { option_map object_view result ≡ option_map object (as_object (view value)) }
 {
@@ -47,7 +48,7 @@ pub fn object_members(value: Value) -> Option<Map<String, Value>>
     }
 }
 
-/// The value of the member `name`. `None` if the member is absent or null.
+/// Returns the value of the member `name`, or `None` if the member is absent or null.
 pub fn member<'a>(object: &'a Map<String, Value>, name: &str) -> Option<&'a Value>
     ensures { option_map (λ v. view v.now) result ≡ member_of name.now (object_view object.now) }
 {
@@ -64,7 +65,7 @@ pub fn has_member(object: &Map<String, Value>, name: &str) -> bool
     member(object, name).is_some()
 }
 
-/// The value of the required member `name`. The fault is `Missing` if the member is absent or null.
+/// Returns the value of the required member `name`. The fault is `Missing` if the member is absent or null.
 pub fn required_member<'a>(
     alloc: Global,
     object: &'a Map<String, Value>,
@@ -78,7 +79,7 @@ pub fn required_member<'a>(
     }
 }
 
-/// Refuses a request with the forbidden member `name`: the fault is `Invalid` if the member is present and not null.
+/// Checks that the forbidden member `name` is absent or null. Otherwise the fault is `Invalid`.
 pub fn absent_member(alloc: Global, object: &Map<String, Value>, name: &str) -> Result<(), Stop>
     ensures { Gives (λ u. u) result (absent_at name.now (object_view object.now)) }
 {

@@ -1,4 +1,5 @@
-//! Reads members that are numbers, moments, hash keys, sequence numbers or shard IDs.
+//! Reads members that are numbers, moments, hash keys, sequence numbers or shard IDs. The fault is `Missing` if a
+//! required member is absent or null, and `Invalid` if the value of a member isn't of the described kind.
 ghost use Rattle.std.specs.Prelude.{◌≡◌, None};
 ghost use Rattle.serde_json.specs.View.{view};
 ghost use Rattle.kds_json_members.specs.Reading.{Gives};
@@ -38,7 +39,8 @@ pub fn number_member(
     value_at(alloc, FaultKind::Invalid, name, number)
 }
 
-/// Reads the optional member `name` as a whole number from 1 to `high`; an absent member gives `default`.
+/// Reads the optional member `name` as a whole number from 1 to `high`. Returns `default` if the member is absent or
+/// null.
 #[tactic(auto, unfolding(crate::specs::Member::optional_at))]
 pub fn optional_limit(
     alloc: Global,
@@ -69,7 +71,8 @@ fn moment_value(value: &Value) -> Option<Moment>
     }
 }
 
-/// Reads the required member `name` as a moment in whole seconds (Kinesis API Reference, GetShardIterator, Timestamp).
+/// Reads the required member `name` as a moment. The member's value is a whole number of seconds, at most
+/// `MOST_SECONDS` (Kinesis API Reference, GetShardIterator, Timestamp).
 #[tactic(auto, unfolding(crate::specs::Member::required_at))]
 pub fn moment_member(alloc: Global, object: &Map<String, Value>, name: &str) -> Result<Moment, Stop>
     ensures { Gives (λ x. x) result (required_at moment_in name.now (object_view object.now)) }
@@ -87,7 +90,7 @@ fn hash_value(value: &Value) -> Option<u128>
     }
 }
 
-/// Reads the required member `name` as a hash key.
+/// Reads the required member `name` as a hash key, which is a decimal number in a string.
 #[tactic(auto, unfolding(crate::specs::Member::required_at))]
 pub fn hash_member(alloc: Global, object: &Map<String, Value>, name: &str) -> Result<u128, Stop>
     ensures { Gives (λ x. x) result (required_at hash_in name.now (object_view object.now)) }
@@ -96,8 +99,8 @@ pub fn hash_member(alloc: Global, object: &Map<String, Value>, name: &str) -> Re
     value_at(alloc, FaultKind::Invalid, name, hash_value(value))
 }
 
-/// The hash key of a record: the explicit one in the member `name` if present, otherwise the hash of the partition key
-/// `key` (Kinesis API Reference, PutRecord, ExplicitHashKey).
+/// Returns the hash key of a record. If the member `name` is present and not null, it is the explicit hash key in this
+/// member. Otherwise it is the hash of the partition key `key` (Kinesis API Reference, PutRecord, ExplicitHashKey).
 #[tactic(auto, unfolding(crate::specs::Kinds::hash_at, crate::specs::Member::optional_at))]
 pub fn record_hash(
     alloc: Global,
@@ -125,7 +128,7 @@ fn sequence_value(value: &Value) -> Option<Seq>
     }
 }
 
-/// Reads the required member `name` as a sequence number.
+/// Reads the required member `name` as a sequence number, which is a decimal number in a string.
 #[tactic(auto, unfolding(crate::specs::Member::required_at))]
 pub fn sequence_member(alloc: Global, object: &Map<String, Value>, name: &str) -> Result<Seq, Stop>
     ensures { Gives (λ x. x) result (required_at sequence_in name.now (object_view object.now)) }
@@ -143,7 +146,7 @@ fn id_value(value: &Value) -> Option<ShardNo>
     }
 }
 
-/// Reads the required member `name` as a shard's ID.
+/// Reads the required member `name` as a shard ID, and returns the shard's number.
 #[tactic(auto, unfolding(crate::specs::Member::required_at))]
 pub fn id_member(alloc: Global, object: &Map<String, Value>, name: &str) -> Result<ShardNo, Stop>
     ensures { Gives (λ x. x) result (required_at id_in name.now (object_view object.now)) }
@@ -152,7 +155,8 @@ pub fn id_member(alloc: Global, object: &Map<String, Value>, name: &str) -> Resu
     value_at(alloc, FaultKind::Invalid, name, id_value(value))
 }
 
-/// Reads the optional member `name` as a shard's ID; an absent member gives `None`.
+/// Reads the optional member `name` as a shard ID, and returns the shard's number. Returns `None` if the member is
+/// absent or null.
 #[tactic(auto, unfolding(crate::specs::Member::optional_at))]
 pub fn optional_id(
     alloc: Global,

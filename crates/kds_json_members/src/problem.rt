@@ -1,34 +1,34 @@
-//! The faults for which a request is refused before it becomes a command.
+//! The faults in a request. A faulty request is refused before it becomes a command.
 ghost use Rattle.std.specs.Prelude.{◌≡◌};
 ghost use Rattle.kds_json_members.specs.declared.problem.Stop.TheVariants.{Memory as OutOfMemory};
 
 use kds_base::{Memory, Octets};
 use std::alloc::AllocError;
 
-/// The kind of a request's fault (Kinesis API Reference, Common Errors).
+/// The kind of a fault in a request (Kinesis API Reference, Common Errors).
 #[derive(Clone, Copy, Debug, PartialEq, Eq)]
 pub enum FaultKind {
-    /// No operation has this name.
+    /// The request names an operation that the service doesn't have.
     Unknown,
     /// The body isn't a JSON object in UTF-8.
     Serialization,
-    /// A required member is missing.
+    /// A required member is absent or null.
     Missing,
-    /// A member's value has the wrong type, is out of range, or has the wrong form.
+    /// The value of a member has the wrong type, range or form, or a forbidden member is present.
     Invalid,
-    /// A member that must be a shard iterator or a NextToken isn't a token of this service.
+    /// The string in a ShardIterator or NextToken member isn't a valid token of this service.
     Token,
 }
 
-/// The first fault of a request. `member` is the name of the faulty member in UTF-8; it is empty for `Unknown` and
-/// `Serialization`.
+/// The first fault that is found in a request. `member` is the name of the member with this fault, in UTF-8. The name
+/// is empty if the kind of the fault is `Unknown` or `Serialization`.
 #[derive(Drop)]
 pub struct Fault {
     pub kind: FaultKind,
     pub member: Octets,
 }
 
-/// Why a request gives no command: memory ran out, or the request has a fault.
+/// Why no command can be read from a request: memory ran out, or the request has a fault.
 #[derive(Drop)]
 pub enum Stop {
     Memory,

@@ -1,4 +1,5 @@
-//! Reads members that are names, modes, booleans, partition keys or payloads.
+//! Reads members that are strings, names, modes, booleans, partition keys or payloads. The fault is `Missing` if a
+//! required member is absent or null, and `Invalid` if the value of a member isn't of the described kind.
 ghost use Rattle.std.specs.Prelude.{◌≡◌, ◌+◌, length, chars, nat_le, None, IfOk};
 ghost use Rattle.serde_json.specs.Find.{as_str, as_bool};
 ghost use Rattle.serde_json.specs.View.{view};
@@ -40,7 +41,7 @@ fn name_value(alloc: Global, value: &Value) -> Result<Option<Name>, Memory>
     }
 }
 
-/// Reads the required member `name` as a stream's name.
+/// Reads the required member `name` as the name of a stream.
 #[tactic(auto, unfolding(crate::specs::Member::required_at))]
 pub fn name_member(alloc: Global, object: &Map<String, Value>, name: &str) -> Result<Name, Stop>
     ensures { Gives (λ x. x) result (required_at name_in name.now (object_view object.now)) }
@@ -50,7 +51,7 @@ pub fn name_member(alloc: Global, object: &Map<String, Value>, name: &str) -> Re
     value_at(alloc, FaultKind::Invalid, name, stream)
 }
 
-/// Reads the optional member `name` as a stream's name; an absent member gives `None`.
+/// Reads the optional member `name` as the name of a stream. Returns `None` if the member is absent or null.
 #[tactic(auto, unfolding(crate::specs::Member::optional_at))]
 pub fn optional_name(
     alloc: Global,
@@ -78,8 +79,8 @@ fn mode_value(value: &Value) -> Option<()>
     }
 }
 
-/// Checks the stream's mode in the optional member `name`. Only provisioned streams exist, so any other mode is a fault
-/// (Kinesis API Reference, StreamModeDetails).
+/// Checks the stream mode in the optional member `name`. Only provisioned streams exist, so the fault is `Invalid` if
+/// the mode isn't PROVISIONED (Kinesis API Reference, StreamModeDetails).
 #[tactic(auto, unfolding(crate::specs::Member::optional_at))]
 pub fn mode_member(alloc: Global, object: &Map<String, Value>, name: &str) -> Result<(), Stop>
     ensures { Gives (λ u. u) result (optional_at tt mode_in name.now (object_view object.now)) }
@@ -99,8 +100,8 @@ fn scaling_value(value: &Value) -> Option<()>
     }
 }
 
-/// Checks the kind of scaling in the required member `name`. It must be UNIFORM_SCALING, the only kind (Kinesis API
-/// Reference, UpdateShardCount, ScalingType).
+/// Checks the kind of scaling in the required member `name`. The only valid kind is UNIFORM_SCALING. For any other
+/// kind, the fault is `Invalid` (Kinesis API Reference, UpdateShardCount, ScalingType).
 #[tactic(auto, unfolding(crate::specs::Member::required_at))]
 pub fn scaling_member(alloc: Global, object: &Map<String, Value>, name: &str) -> Result<(), Stop>
     ensures { Gives (λ u. u) result (required_at scaling_in name.now (object_view object.now)) }
@@ -124,7 +125,8 @@ fn character_count(text: &str) -> usize
     text.chars().count()
 }
 
-/// Whether `text` is a valid partition key (Kinesis API Reference, PutRecord, PartitionKey).
+/// Whether `text` is a valid partition key, which has 1 to 256 characters (Kinesis API Reference, PutRecord,
+/// PartitionKey).
 fn is_partition_key(text: &str) -> bool
     ensures { result ≡ is_key text.now }
 {
@@ -145,7 +147,7 @@ fn key_value(alloc: Global, value: &Value) -> Result<Option<Octets>, Memory>
     }
 }
 
-/// Reads the required member `name` as a partition key.
+/// Reads the required member `name` as a partition key, and returns the key in UTF-8.
 #[tactic(auto, unfolding(crate::specs::Member::required_at))]
 pub fn key_member(alloc: Global, object: &Map<String, Value>, name: &str) -> Result<Octets, Stop>
     ensures { Gives (λ x. x) result (required_at key_in name.now (object_view object.now)) }
@@ -155,8 +157,8 @@ pub fn key_member(alloc: Global, object: &Map<String, Value>, name: &str) -> Res
     value_at(alloc, FaultKind::Invalid, name, key)
 }
 
-/// Whether a payload of `payload_bytes` and a partition key of `key_bytes` together are within the limit for a record
-/// (Kinesis API Reference, PutRecord, Data).
+/// Whether a payload of `payload_bytes` bytes and a partition key of `key_bytes` bytes are together within the limit on
+/// the bytes of a record (Kinesis API Reference, PutRecord, Data).
 fn fits(payload_bytes: usize, key_bytes: usize) -> bool
     ensures { result ≡ nat_le (payload_bytes + key_bytes) most_bytes }
 {
@@ -182,7 +184,8 @@ fn blob_value(alloc: Global, value: &Value, key_bytes: usize) -> Result<Option<O
     }
 }
 
-/// Reads the required member `name` as the payload of a record whose partition key has `key_bytes` bytes.
+/// Reads the required member `name`, a base64 string, as the payload of a record. The payload and the record's
+/// partition key, which has `key_bytes` bytes, must together be within the limit on the bytes of a record.
 #[tactic(auto, unfolding(crate::specs::Member::required_at))]
 pub fn blob_member(
     alloc: Global,

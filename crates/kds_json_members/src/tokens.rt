@@ -1,4 +1,5 @@
-//! Reads members that are tokens of this service: shard iterators and NextTokens.
+//! Reads members that are tokens of this service: shard iterators and NextTokens. If the string in a member isn't such
+//! a token, the fault is `Token`.
 ghost use Rattle.std.specs.Prelude.{◌≡◌};
 ghost use Rattle.kds_token.specs.Tokens.{iter_of, page_of};
 ghost use Rattle.kds_json_members.specs.Reading.{Gives};

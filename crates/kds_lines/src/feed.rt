@@ -1,4 +1,5 @@
-//! Splits a piece of the input into lines.
+//! Splits a piece of the input into lines, and hands the lines to a taker. A piece is the bytes of one read. The taker
+//! is the consumer of the lines. The pending output is the output that waits to be written.
 ghost use Rattle.std.specs.Prelude.{◌≡◌, [], ◌∷◌, ◌++◌, ◌+◌, ◌≤◌, ◌<◌, List, ℕ, length, true, false, OnOk, OnErr, IfOk, IfErr, IsErrOf, MatchOption};
 ghost use Rattle.std.specs.declared.option.Option.{Option};
 ghost use Rattle.kds_ends.specs.Causes.{Rose};
@@ -17,21 +18,22 @@ use kds_ends::Sink;
 use memchr::memchr;
 use std::alloc::Global;
 
-/// The index of the first line feed in `bytes`, if any.
+/// Returns the index of the first line feed in `bytes`, or `None` if `bytes` has no line feed.
 fn first_feed(bytes: &[u8]) -> Option<usize>
     ensures { MatchOption result (NoFeed bytes.now) (HasFeedAt bytes.now) }
 {
     memchr(b'\n', bytes)
 }
 
-/// Whether a line of `len` bytes exceeds the limit of a line, or an input of `total` bytes the limit of an input.
+/// Whether a line of `len` bytes is longer than `LINE_BYTES`, or an input of `total` bytes is longer than
+/// `INPUT_BYTES`.
 fn over(len: usize, total: u64) -> bool
     ensures { result ≡ is_over len total }
 {
     len as u64 > LINE_BYTES || total > INPUT_BYTES
 }
 
-/// The length of the held line once `tail` is appended.
+/// Returns the length, in bytes, of the line that consists of `held` followed by `tail`.
 fn joined_length(held: &Octets, tail: &[u8]) -> usize
     requires { length held.now ≤ LINE_BYTES }
     ensures { result ≡ length (held.now ++ tail.now) }
@@ -39,7 +41,8 @@ fn joined_length(held: &Octets, tail: &[u8]) -> usize
     held.as_slice().len() + tail.len()
 }
 
-/// Hands the line that consists of `held` and `tail` to the taker. If `held` is empty, no bytes are copied.
+/// Hands a line to the taker: the bytes of `held`, followed by those of `tail`. Returns whether the reading of the
+/// input continues. If `held` is empty, no bytes are copied.
 fn take_joined<T: Taker>(
     alloc: Global,
     taker: &mut T,
@@ -64,7 +67,9 @@ fn take_joined<T: Taker>(
     taker.take(alloc, held.as_slice(), output)
 }
 
-/// Completes the held line with `tail` and a line feed, and hands it to the taker.
+/// Completes the unfinished line in `reading`, and hands the whole line to the taker. `tail` is the rest of the line,
+/// without its line feed. Fails if the line or the input is too long, if the taker stops the reading, or if memory runs
+/// out.
 fn end_line<T: Taker>(
     alloc: Global,
     taker: &mut T,
@@ -96,7 +101,8 @@ fn end_line<T: Taker>(
     }
 }
 
-/// Completes a line as `end_line` does, and then writes the pending output if it has `OUTPUT_BYTES` bytes or more.
+/// Completes the unfinished line in `reading`, and hands the whole line to the taker. Then writes the pending output if
+/// it has `OUTPUT_BYTES` bytes or more. `tail` is the rest of the line, without its line feed.
 fn next_line<T: Taker, K: Sink>(
     alloc: Global,
     taker: &mut T,
@@ -122,8 +128,8 @@ fn next_line<T: Taker, K: Sink>(
     }
 }
 
-/// Completes each line whose line feed is in the piece, and returns the bytes after the last line feed. Precondition:
-/// fewer than `OUTPUT_BYTES` bytes of output are pending.
+/// Completes each line whose line feed is in `piece`, and hands the line to the taker. Returns the bytes after the last
+/// line feed of the piece. Precondition: fewer than `OUTPUT_BYTES` bytes of output wait to be written.
 fn feed_lines<'a, T: Taker, K: Sink>(
     alloc: Global,
     taker: &mut T,
@@ -156,7 +162,8 @@ fn feed_lines<'a, T: Taker, K: Sink>(
     Ok(rest)
 }
 
-/// Appends `rest`, which has no line feed, to the held line.
+/// Appends `rest`, which has no line feed, to the unfinished line that `reading` holds. Fails if the line or the input
+/// becomes too long, or if memory runs out.
 fn hold(reading: &mut LineBuffer, rest: &[u8]) -> Result<(), Outcome>
     ensures ok { OnOk result ((fed : List ℕ) (texts : List (List ℕ)) → Fed fed texts reading.old.used reading.old.held → NoFeed rest.now
         → Fed (fed ++ rest.now) texts reading.new.used reading.new.held) }
@@ -177,8 +184,9 @@ fn hold(reading: &mut LineBuffer, rest: &[u8]) -> Result<(), Outcome>
     }
 }
 
-/// Takes the next piece of the input. Precondition: fewer than `OUTPUT_BYTES` bytes of output are pending. This also
-/// holds afterwards.
+/// Hands to the taker the lines that the next piece of the input completes. Keeps the bytes after the last line feed of
+/// the piece for the next call. Precondition: fewer than `OUTPUT_BYTES` bytes of output wait to be written. This is
+/// true again after a call that succeeds.
 pub fn feed<T: Taker, K: Sink>(
     alloc: Global,
     taker: &mut T,

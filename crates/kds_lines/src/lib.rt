@@ -1,4 +1,5 @@
-//! Reads the lines of an input, within limits, and writes their output.
+//! Reads an input line by line, hands each line to a consumer (`Taker`), and writes the output of the consumer to a
+//! sink (an output stream). The length of a line and the length of the whole input are limited.
 #![tactic(auto)]
 
 mod feed;

@@ -1,4 +1,5 @@
-//! Reads an input to its end.
+//! Reads an input to its end, and hands its lines to a taker, the consumer of the lines. A piece is the bytes of one
+//! read.
 ghost use Rattle.std.specs.Prelude.{◌≡◌, ◌<◌, ◌≤◌, [], List, ℕ, true, false, IfOk, IfErr, IsErrOf, IfSome, if◌then◌else◌, length, ◌==◌, ◌+◌};
 ghost use Rattle.std.specs.declared.option.Option.{Option};
 ghost use Rattle.std.specs.Io.{ReadsAtMost};
@@ -15,8 +16,9 @@ use crate::taker::Taker;
 use kds_ends::{Failed, Sink, Source};
 use std::alloc::Global;
 
-/// Reads a piece of the input. Precondition: no output is pending, because a client that waits for an answer may send
-/// nothing before the answer arrives.
+/// Reads the next bytes of the input into `buffer`, and returns their number. Precondition: no output waits to be
+/// written. Otherwise the read could wait forever, since a client may send nothing more until it has received the
+/// answer to what it sent.
 fn read_piece<S: Source>(
     _reading: &LineBuffer,
     input: &mut S,
@@ -30,8 +32,9 @@ fn read_piece<S: Source>(
     input.read(buffer)
 }
 
-/// The outcome after the output for a piece couldn't be written. It is `Memory` if memory ran out while the piece was
-/// taken, because a line may have been taken in part; otherwise it is `Write`.
+/// Returns the outcome of the reading if the output for a piece of the input couldn't be written. `fed` is the result
+/// of `feed` for this piece. If memory ran out in `feed`, the outcome is `Memory`, because a line may have been taken
+/// in part. Otherwise the outcome is `Write`.
 fn lost_after(fed: Result<(), Outcome>) -> Outcome
     ensures { result ≡ lost_after fed }
 {
@@ -41,8 +44,8 @@ fn lost_after(fed: Result<(), Outcome>) -> Outcome
     }
 }
 
-/// Reads a piece, hands its lines to the taker, and writes their output. Returns `false` at the end of the input.
-/// Precondition: no output is pending.
+/// Reads the next piece of the input, hands the lines that the piece completes to the taker, and writes the output for
+/// these lines. Returns `false` at the end of the input. Precondition: no output waits to be written.
 fn next_piece<T: Taker, S: Source, K: Sink>(
     alloc: Global,
     taker: &mut T,
@@ -83,7 +86,8 @@ fn next_piece<T: Taker, S: Source, K: Sink>(
     }
 }
 
-/// The outcome at the end of the input: `Unfinished` if a line without a line feed is held, otherwise `Whole`.
+/// Returns the outcome at the end of the input: `Unfinished` if the input ended with a line without a line feed,
+/// otherwise `Whole`.
 fn last(reading: &LineBuffer) -> Outcome
     ensures { result ≡ (if length reading.now.held == 0 then Outcome.Whole else Outcome.Unfinished (reading.now.count + 1)) }
 {
@@ -94,11 +98,12 @@ fn last(reading: &LineBuffer) -> Outcome
     }
 }
 
-/// Hands the lines of the input to the taker, one after another, and writes their output. The output for all lines of
-/// a piece is written before the next piece is read. For each line it first checks the line's length, then the input's
-/// length so far, and then hands the line to the taker. Reading ends at the first line that fails a check or at which
-/// the taker stops. Precondition: the taker took no line before. The outcomes `Read` and `Write` mean that the source
-/// or the sink failed, and `Memory` that memory ran out.
+/// Hands the lines of `input` to the taker, one after another, and writes the output for the lines to `out`. The output
+/// for all lines that one read completes is written before the next read. Before a line is handed to the taker, first
+/// its length and then the length of the input so far are checked against their limits. Reading ends at the end of the
+/// input, at the first line that fails a check, or at the first line at which the taker stops. Precondition: the taker
+/// took no line before. The outcome `Read` means that the source failed, `Write` means that the sink failed, and
+/// `Memory` means that memory ran out.
 pub fn read_lines<T: Taker, S: Source, K: Sink>(
     alloc: Global,
     taker: &mut T,

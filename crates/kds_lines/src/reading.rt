@@ -1,4 +1,4 @@
-//! The state of an input that arrives in pieces.
+//! The state of reading an input that arrives in pieces. A piece is the bytes that one read returns.
 ghost use Rattle.std.specs.Prelude.{◌≡◌, ℕ, List, [], ◌≤◌, ◌<◌, ◌+◌, length, OnOk, OnErr};
 ghost use Rattle.std.specs.declared.option.Option.{Option};
 ghost use Rattle.kds_defs.specs.declared.limits.TheConstants.{LINE_BYTES, INPUT_BYTES};
@@ -10,13 +10,15 @@ use kds_base::Octets;
 use kds_ends::{Failed, Sink, write_all};
 use std::alloc::Global;
 
-/// The line that has no line feed so far, and the pending output.
+/// The state of reading an input: the bytes of the line whose line feed hasn't arrived yet (`held`), and the pending
+/// output, which waits to be written (`output`).
 #[derive(Drop)]
 pub struct LineBuffer {
     pub held: Octets,
     pub output: Octets,
-    /// The number of whole lines so far, and the number of their bytes.
+    /// The number of lines whose line feed has arrived so far.
     pub count: u64,
+    /// The number of bytes of the completed lines, including their line feeds.
     pub used: u64,
     ghost short: { length held ≤ LINE_BYTES },
     ghost within: { used + length held ≤ INPUT_BYTES },
@@ -24,7 +26,7 @@ pub struct LineBuffer {
 }
 
 impl LineBuffer {
-    /// The state before the first piece is read.
+    /// Returns the state before the first piece of the input is read.
     pub fn new(alloc: Global) -> LineBuffer
         ensures held { result.held ≡ [] }
         ensures output { result.output ≡ [] }
@@ -39,7 +41,8 @@ impl LineBuffer {
         }
     }
 
-    /// Writes the pending output. If this fails, the unwritten rest of the output is lost.
+    /// Writes the pending output to `out`. Afterwards no output is pending, even if the write fails: the unwritten rest
+    /// of the output is then lost.
     pub fn flush<K: Sink>(&mut self, out: &mut K) -> Result<(), Failed>
         ensures held { self.new.held ≡ self.old.held }
         ensures output { self.new.output ≡ [] }
@@ -54,8 +57,8 @@ impl LineBuffer {
         written
     }
 
-    /// Writes the pending output if it has `OUTPUT_BYTES` bytes or more, so that fewer than `OUTPUT_BYTES` bytes are
-    /// pending. If this fails, the unwritten rest of the output is lost.
+    /// Writes the pending output to `out` if it has `OUTPUT_BYTES` bytes or more. Afterwards fewer than `OUTPUT_BYTES`
+    /// bytes are pending. If the write fails, the unwritten rest of the output is lost.
     pub fn spill<K: Sink>(&mut self, out: &mut K) -> Result<(), Failed>
         ensures held { self.new.held ≡ self.old.held }
         ensures count { self.new.count ≡ self.old.count }

@@ -1,4 +1,4 @@
-//! Turns an answer into an HTTP status and a body.
+//! Turns an answer of the stream service into an HTTP status and a body.
 ghost use Rattle.std.specs.Prelude.{◌≡◌, ◌++◌, IfOk, OnOk, false, true};
 ghost use Rattle.serde_json.specs.View.{view};
 ghost use Rattle.serde_json.specs.Written.{compact_text, has_float};
@@ -20,7 +20,8 @@ use std::alloc::Global;
 /// The HTTP status of every reply to an accepted command.
 const DONE: u16 = 200;
 
-/// Adds the text of a JSON value without floating-point numbers. If `to` is empty, the text is moved and not copied.
+/// Appends a JSON value as compact text, that is, with no spaces between its parts. Precondition: the value has no
+/// floating-point numbers. If `to` is empty, the text is moved into `to` and not copied.
 fn add_value(to: &mut Vec<u8>, alloc: Global, value: &Value) -> Result<(), Memory>
     requires { has_float (view value.now) ≡ false }
     ensures { OnOk result (to.new.items ≡ to.old.items ++ compact_text (view value.now)) }
@@ -33,7 +34,7 @@ fn add_value(to: &mut Vec<u8>, alloc: Global, value: &Value) -> Result<(), Memor
     push_piece(to, text.as_slice())
 }
 
-/// Adds the reply to ListStreams.
+/// Appends the body of the reply to ListStreams.
 fn add_streams(to: &mut Vec<u8>, alloc: Global, names: &[Name], more: bool) -> Result<(), Memory>
     ensures { OnOk result (to.new.items ≡ to.old.items ++ compact_text (streams_data names.now more)) }
 {
@@ -41,7 +42,7 @@ fn add_streams(to: &mut Vec<u8>, alloc: Global, names: &[Name], more: bool) -> R
     add_value(to, alloc, &value)
 }
 
-/// Adds the reply to DescribeStream.
+/// Appends the body of the reply to DescribeStream.
 fn add_described(
     to: &mut Vec<u8>,
     alloc: Global,
@@ -55,7 +56,7 @@ fn add_described(
     add_value(to, alloc, &value)
 }
 
-/// Adds the reply to DescribeStreamSummary.
+/// Appends the body of the reply to DescribeStreamSummary.
 fn add_summary(
     to: &mut Vec<u8>,
     alloc: Global,
@@ -68,7 +69,7 @@ fn add_summary(
     add_value(to, alloc, &value)
 }
 
-/// Adds the reply to UpdateShardCount.
+/// Appends the body of the reply to UpdateShardCount.
 fn add_scaled(
     to: &mut Vec<u8>,
     alloc: Global,
@@ -82,7 +83,7 @@ fn add_scaled(
     add_value(to, alloc, &value)
 }
 
-/// Adds the reply to ListShards.
+/// Appends the body of the reply to ListShards.
 fn add_shards(
     to: &mut Vec<u8>,
     alloc: Global,
@@ -95,7 +96,7 @@ fn add_shards(
     add_value(to, alloc, &value)
 }
 
-/// Adds the body of a reply to an accepted command.
+/// Appends the body of the reply to an accepted command. The body of `Reply::Done` is empty.
 fn add_body(to: &mut Vec<u8>, alloc: Global, reply: &Reply) -> Result<(), Memory>
     requires { is_service_reply reply.now ≡ true }
     ensures { OnOk result (to.new.items ≡ to.old.items ++ reply_text reply.now) }
@@ -136,9 +137,9 @@ fn add_body(to: &mut Vec<u8>, alloc: Global, reply: &Reply) -> Result<(), Memory
     }
 }
 
-/// Adds the body of an answer, and returns its HTTP status: 200, or 400 for a refusal (Kinesis API Reference, Response
-/// Elements and Errors of each action). Precondition: the answer is one of the stream service, and not one to a command
-/// for leases. `Memory` means out of memory; a part of the body may have been added.
+/// Appends the body of an answer, and returns its HTTP status: 200, or 400 for a refusal (Kinesis API Reference,
+/// Response Elements and Errors of each action). Precondition: the answer is one of the stream service, not an answer
+/// to a command on leases. If memory runs out, the error is `Memory`, and a part of the body may have been appended.
 pub fn add_reply(alloc: Global, answer: &Answer, to: &mut Vec<u8>) -> Result<u16, Memory>
     requires { is_service_answer answer.now ≡ true }
     ensures status { IfOk result (λ status. status ≡ (reply_of answer.now).0) }
@@ -156,8 +157,8 @@ pub fn add_reply(alloc: Global, answer: &Answer, to: &mut Vec<u8>) -> Result<u16
     }
 }
 
-/// The HTTP status and the body of an answer, with the precondition and the result of `add_reply`. `Memory` means out
-/// of memory.
+/// Returns the HTTP status and the body of an answer. The precondition, the status and the body are as in `add_reply`.
+/// The error `Memory` means that memory ran out.
 pub fn reply(alloc: Global, answer: &Answer) -> Result<(u16, Octets), Memory>
     requires { is_service_answer answer.now ≡ true }
     ensures { IfOk result (λ r. r ≡ reply_of answer.now) }

@@ -8,7 +8,7 @@ use kds_json_members::{Fault, FaultKind};
 use kds_reply_texts::{BAD_REQUEST, error_body};
 use std::alloc::Global;
 
-/// The error name of a kind of fault (Kinesis API Reference, Common Errors).
+/// Returns the error name for a kind of fault (Kinesis API Reference, Common Errors).
 fn fault_name(kind: FaultKind) -> &'static str
     ensures { result.now ≡ name_of kind }
 {
@@ -33,8 +33,8 @@ fn fault_message(alloc: Global, kind: FaultKind, member: &str) -> Result<String,
     }
 }
 
-/// The HTTP status and the body of the response to a faulty request (Kinesis API Reference, Common Errors). `Memory`
-/// means out of memory.
+/// Returns the HTTP status and the body of the response to a faulty request (Kinesis API Reference, Common Errors). The
+/// error `Memory` means that memory ran out.
 pub fn fault(alloc: Global, fault: &Fault) -> Result<(u16, Octets), Memory>
     requires { IsUtf8 fault.now.member }
     ensures { IfOk result (λ r. r ≡ fault_reply fault.now) }

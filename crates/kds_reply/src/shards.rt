@@ -13,7 +13,7 @@ use kds_token::shard_id;
 use serde_json::{Map, Value, json, push, put};
 use std::alloc::Global;
 
-/// A range of hash keys as a JSON object (Kinesis API Reference, HashKeyRange).
+/// Returns a range of hash keys as a JSON object (Kinesis API Reference, HashKeyRange).
 #[tactic(auto, unfolding(kds_reply_texts::specs::Children::range_data))]
 fn range_value(alloc: Global, range: &Range) -> Result<Value, Memory>
     ensures { IfOk result (λ v. view v ≡ range_data range.now) }
@@ -24,8 +24,8 @@ fn range_value(alloc: Global, range: &Range) -> Result<Value, Memory>
     Ok(json!(in alloc; {"EndingHashKey": ending_key, "StartingHashKey": starting_key})?)
 }
 
-/// The range of a shard's sequence numbers as a JSON object. The ending number is included only if the shard is closed
-/// (Kinesis API Reference, SequenceNumberRange).
+/// Returns the range of a shard's sequence numbers as a JSON object. The ending number is included only if the shard is
+/// closed (Kinesis API Reference, SequenceNumberRange).
 #[tactic(auto, unfolding(crate::specs::Shards::sequence_data))]
 fn sequence_value(alloc: Global, start: Seq, end: &Option<Seq>) -> Result<Value, Memory>
     ensures { IfOk result (λ v. view v ≡ sequence_data start end.now) }
@@ -49,7 +49,7 @@ fn id_value(alloc: Global, shard: ShardNo) -> Result<Value, Memory>
     Ok(Value::from(id))
 }
 
-/// Adds the member `name` with a shard's ID. It adds nothing if `shard` is `None`.
+/// Adds a member called `name` whose value is the ID of a shard. Adds nothing if `shard` is `None`.
 fn put_id_member(
     alloc: Global,
     members: &mut Map<String, Value>,
@@ -68,7 +68,7 @@ fn put_id_member(
     }
 }
 
-/// A shard as a JSON object (Kinesis API Reference, Shard).
+/// Returns a shard as a JSON object (Kinesis API Reference, Shard).
 #[tactic(auto, unfolding(crate::specs::Shards::shard_data))]
 fn shard_value(alloc: Global, shard: &Shard) -> Result<Value, Memory>
     ensures { IfOk result (λ v. view v ≡ shard_data shard.now) }
@@ -90,7 +90,7 @@ fn shard_value(alloc: Global, shard: &Shard) -> Result<Value, Memory>
     Ok(Value::Object(members))
 }
 
-/// The shards as JSON objects, in their order.
+/// Returns the shards as JSON objects, in their order.
 pub fn shard_values(alloc: Global, shards: &[Shard]) -> Result<Vec<Value>, Memory>
     ensures { IfOk result (λ vs. map view vs.items ≡ map shard_data shards.now) }
 {
@@ -102,8 +102,8 @@ pub fn shard_values(alloc: Global, shards: &[Shard]) -> Result<Vec<Value>, Memor
     Ok(values)
 }
 
-/// A listing of shards as a JSON object, with the token of the next page if more shards follow (Kinesis API Reference,
-/// ListShards, Response Elements).
+/// Returns a listing of shards as a JSON object, with the token for the next page if more shards follow (Kinesis API
+/// Reference, ListShards, Response Elements).
 #[tactic(auto, unfolding(crate::specs::Shards::shards_data))]
 pub fn shards_value(alloc: Global, shards: &[Shard], next: &Option<Page>) -> Result<Value, Memory>
     ensures { IfOk result (λ v. view v ≡ shards_data shards.now next.now) }

@@ -1,4 +1,4 @@
-//! Streams and lists of stream names as JSON values.
+//! Descriptions of streams and lists of stream names as JSON values.
 ghost use Rattle.std.specs.Prelude.{◌≡◌, ◌++◌, codes, map, IfOk, string_bytes};
 ghost use Rattle.serde_json.specs.Data.{string};
 ghost use Rattle.serde_json.specs.View.{view, members_view};
@@ -11,7 +11,7 @@ use kds_reply_texts::seconds;
 use serde_json::{Map, Value, json, push, put};
 use std::alloc::Global;
 
-/// A stream's name as text. It is ASCII, so no character is replaced.
+/// Returns a stream's name as a string. The name is ASCII, so the conversion to UTF-8 replaces no character.
 fn name_text(alloc: Global, name: &Name) -> Result<String, Memory>
     ensures { IfOk result (λ s. string_bytes s ≡ name.now) }
 {
@@ -29,8 +29,8 @@ fn name_values(alloc: Global, names: &[Name]) -> Result<Vec<Value>, Memory>
     Ok(values)
 }
 
-/// The names of streams and whether more follow, as a JSON object (Kinesis API Reference, ListStreams, Response
-/// Elements).
+/// Returns the names of streams, and whether more names follow, as a JSON object (Kinesis API Reference, ListStreams,
+/// Response Elements).
 #[tactic(auto, unfolding(crate::specs::Streams::streams_data))]
 pub fn streams_value(alloc: Global, names: &[Name], more: bool) -> Result<Value, Memory>
     ensures { IfOk result (λ v. view v ≡ streams_data names.now more) }
@@ -39,22 +39,23 @@ pub fn streams_value(alloc: Global, names: &[Name], more: bool) -> Result<Value,
     Ok(json!(in alloc; {"HasMoreStreams": more, "StreamNames": names})?)
 }
 
-/// The value of EnhancedMonitoring: no shard-level metrics are kept (Kinesis API Reference, EnhancedMetrics).
+/// Returns the value of the member EnhancedMonitoring. The service keeps no shard-level metrics, so the list of metrics
+/// is empty (Kinesis API Reference, EnhancedMetrics).
 fn monitoring_value(alloc: Global) -> Result<Value, Memory>
     ensures { IfOk result (λ v. view v ≡ monitoring_data) }
 {
     Ok(json!(in alloc; [{"ShardLevelMetrics": []}])?)
 }
 
-/// The ARN of the stream called `name` (Kinesis API Reference, StreamDescription, StreamARN).
+/// Returns the ARN of the stream called `name` (Kinesis API Reference, StreamDescription, StreamARN).
 fn arn_text(alloc: Global, name: &str) -> Result<String, Memory>
     ensures { IfOk result (λ s. string_bytes s ≡ codes "arn:aws:kinesis:local:000000000000:stream/" ++ name.now) }
 {
     Ok(format!(in alloc; "arn:aws:kinesis:local:000000000000:stream/{name}")?)
 }
 
-/// The members that are common to both descriptions of a stream (Kinesis API Reference, StreamDescription and
-/// StreamDescriptionSummary).
+/// Returns the members that a stream's description and its summary have in common (Kinesis API Reference,
+/// StreamDescription and StreamDescriptionSummary).
 fn common_members(alloc: Global, about: &About) -> Result<Map<String, Value>, Memory>
     ensures { IfOk result (λ m. members_view m.entries ≡ about_members about.now) }
 {
@@ -78,8 +79,8 @@ fn common_members(alloc: Global, about: &About) -> Result<Map<String, Value>, Me
     Ok(members)
 }
 
-/// The description of a stream with its shards, and whether more shards follow (Kinesis API Reference,
-/// StreamDescription).
+/// Returns the description of a stream as a JSON object. The object has the shards in `shards`, and says whether more
+/// shards follow (Kinesis API Reference, StreamDescription).
 #[tactic(auto, unfolding(crate::specs::Streams::description_data))]
 fn description_value(
     alloc: Global,
@@ -96,7 +97,8 @@ fn description_value(
     Ok(Value::Object(members))
 }
 
-/// The summary of a stream with the number of its open shards (Kinesis API Reference, StreamDescriptionSummary).
+/// Returns the summary of a stream as a JSON object, with the number of its open shards (Kinesis API Reference,
+/// StreamDescriptionSummary).
 #[tactic(auto, unfolding(crate::specs::Streams::description_summary_data))]
 fn description_summary_value(
     alloc: Global,
@@ -115,7 +117,7 @@ fn description_summary_value(
     Ok(Value::Object(members))
 }
 
-/// The reply to DescribeStream (Kinesis API Reference, DescribeStream, Response Elements).
+/// Returns the body of the reply to DescribeStream (Kinesis API Reference, DescribeStream, Response Elements).
 #[tactic(auto, unfolding(crate::specs::Streams::described_data))]
 pub fn described_value(
     alloc: Global,
@@ -129,7 +131,8 @@ pub fn described_value(
     Ok(json!(in alloc; {"StreamDescription": description})?)
 }
 
-/// The reply to DescribeStreamSummary (Kinesis API Reference, DescribeStreamSummary, Response Elements).
+/// Returns the body of the reply to DescribeStreamSummary (Kinesis API Reference, DescribeStreamSummary, Response
+/// Elements).
 #[tactic(auto, unfolding(crate::specs::Streams::summary_data))]
 pub fn summary_value(alloc: Global, about: &About, open_shards: u32) -> Result<Value, Memory>
     ensures { IfOk result (λ v. view v ≡ summary_data about.now open_shards) }
@@ -138,8 +141,8 @@ pub fn summary_value(alloc: Global, about: &About, open_shards: u32) -> Result<V
     Ok(json!(in alloc; {"StreamDescriptionSummary": summary})?)
 }
 
-/// The number of the stream's shards before a scaling, and the target number (Kinesis API Reference, UpdateShardCount,
-/// Response Elements).
+/// Returns the body of the reply to UpdateShardCount as a JSON object: the stream's name, its number of open shards
+/// before the scaling, and the target number (Kinesis API Reference, UpdateShardCount, Response Elements).
 #[tactic(auto, unfolding(crate::specs::Streams::scaled_data))]
 pub fn scaled_value(alloc: Global, name: &Name, before: u32, target: u32) -> Result<Value, Memory>
     ensures { IfOk result (λ v. view v ≡ scaled_data name.now before target) }

@@ -1,4 +1,4 @@
-//! The reply to GetRecords, written directly as text.
+//! Writes the reply to GetRecords directly as JSON text.
 ghost use Rattle.std.specs.Prelude.{◌≡◌, ◌++◌, Some, None, List, OnOk};
 ghost use Rattle.serde_json.specs.Written.{compact_text};
 ghost use Rattle.kds_defs.specs.declared.reply.Shard.{Shard};
@@ -12,7 +12,8 @@ use kds_base::Memory;
 use kds_defs::{Iter, Shard, Stored};
 use std::alloc::Global;
 
-/// The most bytes that the text of the records takes if no partition key needs escaping.
+/// Returns how many bytes to reserve for the reply. If no partition key needs escaping, they are enough for the
+/// records.
 fn size_of_batch(batch: &[Stored]) -> usize {
     let mut size = ITERATOR_BYTES;
     for stored in batch {
@@ -22,7 +23,8 @@ fn size_of_batch(batch: &[Stored]) -> usize {
     size
 }
 
-/// Adds the reply for a shard that isn't at its end: the records, MillisBehindLatest, and the next iterator.
+/// Appends the body of the reply to a read that didn't reach the end of a closed shard: the records,
+/// MillisBehindLatest, and the next iterator.
 fn put_open(
     out: &mut Vec<u8>,
     alloc: Global,
@@ -43,7 +45,8 @@ fn put_open(
     Ok(())
 }
 
-/// Adds the reply at the end of a closed shard: the records, MillisBehindLatest, and the shard's children.
+/// Appends the body of the reply to a read that reached the end of a closed shard: the records, MillisBehindLatest, and
+/// the shard's children.
 fn put_end(
     out: &mut Vec<u8>,
     alloc: Global,
@@ -64,9 +67,9 @@ fn put_end(
     Ok(())
 }
 
-/// Adds the reply to GetRecords: the records, MillisBehindLatest, and the next iterator. If `next` is `None`, the end
-/// of a closed shard is reached: then the next iterator is null, and the shard's children are included (Kinesis API
-/// Reference, GetRecords, Response Elements).
+/// Appends the body of the reply to GetRecords: the records, MillisBehindLatest, and the next iterator. At the end of a
+/// closed shard, `next` is `None`. The next iterator in the reply is then null, and the shard's children are included
+/// (Kinesis API Reference, GetRecords, Response Elements).
 pub fn add_batch(
     out: &mut Vec<u8>,
     alloc: Global,

@@ -1,4 +1,4 @@
-//! The children of a closed shard, written directly as text.
+//! Writes the child shards of a closed shard directly as JSON text.
 ghost use Rattle.std.specs.Prelude.{◌≡◌, ◌++◌, IfOk, OnOk};
 ghost use Rattle.serde_json.specs.Written.{compact_text};
 ghost use Rattle.kds_reply_texts.specs.Bodies.{id_data, list_data};
@@ -14,10 +14,10 @@ use kds_defs::Shard;
 use kds_token::shard_id;
 use std::alloc::Global;
 
-/// The most bytes that the text of one child takes.
+/// An upper bound on the bytes of the JSON text of one child shard.
 const CHILD_BYTES: usize = 320;
 
-/// Adds a range of hash keys (Kinesis API Reference, HashKeyRange).
+/// Writes a range of hash keys as a JSON object (Kinesis API Reference, HashKeyRange).
 fn put_range(out: &mut Writer, range: &Range) -> Result<(), Memory>
     ensures ok { OnOk result (out.new.tokens ≡ out.old.tokens ++ tokens_of (range_data range.now)) }
     ensures before { out.new.before ≡ out.old.before }
@@ -29,7 +29,7 @@ fn put_range(out: &mut Writer, range: &Range) -> Result<(), Memory>
     Ok(())
 }
 
-/// Adds a shard's ID as a string. It adds nothing if `shard` is `None`.
+/// Writes the ID of a shard as a JSON string. Writes nothing if `shard` is `None`.
 fn put_id(out: &mut Writer, shard: &Option<ShardNo>) -> Result<(), Memory>
     ensures ok { OnOk result (out.new.tokens ≡ out.old.tokens ++ id_tokens shard.now) }
     ensures before { out.new.before ≡ out.old.before }
@@ -43,7 +43,7 @@ fn put_id(out: &mut Writer, shard: &Option<ShardNo>) -> Result<(), Memory>
     }
 }
 
-/// Adds the IDs of a shard's parents as an array, with the adjacent parent last.
+/// Writes the IDs of the parents of a shard as a JSON array, with the adjacent parent last.
 fn put_parents(out: &mut Writer, shard: &Shard) -> Result<(), Memory>
     ensures ok { OnOk result (out.new.tokens ≡ out.old.tokens ++ tokens_of (list_data id_data (parents_of shard.now))) }
     ensures before { out.new.before ≡ out.old.before }
@@ -55,7 +55,7 @@ fn put_parents(out: &mut Writer, shard: &Shard) -> Result<(), Memory>
     Ok(())
 }
 
-/// Adds one child shard as an object (Kinesis API Reference, ChildShard).
+/// Writes one child shard as a JSON object (Kinesis API Reference, ChildShard).
 fn put_child(out: &mut Writer, shard: &Shard) -> Result<(), Memory>
     ensures ok { OnOk result (out.new.tokens ≡ out.old.tokens ++ tokens_of (child_data shard.now)) }
     ensures before { out.new.before ≡ out.old.before }
@@ -71,7 +71,7 @@ fn put_child(out: &mut Writer, shard: &Shard) -> Result<(), Memory>
     Ok(())
 }
 
-/// Adds the child shards as an array.
+/// Writes child shards as a JSON array.
 fn put_children(out: &mut Writer, shards: &[Shard]) -> Result<(), Memory>
     ensures ok { OnOk result (out.new.tokens ≡ out.old.tokens ++ tokens_of (list_data child_data shards.now)) }
     ensures before { out.new.before ≡ out.old.before }
@@ -84,7 +84,7 @@ fn put_children(out: &mut Writer, shards: &[Shard]) -> Result<(), Memory>
     Ok(())
 }
 
-/// The text of an array of child shards.
+/// Returns the JSON text of an array of child shards.
 pub fn children_text(alloc: Global, shards: &[Shard]) -> Result<Octets, Memory>
     ensures { IfOk result (λ o. o ≡ compact_text (list_data child_data shards.now)) }
 {

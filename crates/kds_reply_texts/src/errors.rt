@@ -9,13 +9,13 @@ use json::Writer;
 use kds_base::{Memory, Octets};
 use std::alloc::Global;
 
-/// The HTTP status of every error response (Kinesis API Reference, Common Errors).
+/// The HTTP status of every response to a refused command or a faulty request (Kinesis API Reference, Common Errors).
 pub const BAD_REQUEST: u16 = 400;
 
-/// The number of bytes of an error's body besides its name and message.
+/// An upper bound on the bytes of an error's body besides the error's name and message.
 const ERROR_BYTES: usize = 32;
 
-/// Adds an error as an object with its name and its message.
+/// Writes an error as a JSON object with the error's name and message.
 fn put_error(out: &mut Writer, name: &str, message: &str) -> Result<(), Memory>
     ensures ok { OnOk result (out.new.tokens ≡ out.old.tokens ++ tokens_of (error_data name.now message.now)) }
     ensures before { out.new.before ≡ out.old.before }
@@ -27,7 +27,7 @@ fn put_error(out: &mut Writer, name: &str, message: &str) -> Result<(), Memory>
     Ok(())
 }
 
-/// The body of an error response: an object with the error's name and its message.
+/// Returns the body of an error response: a JSON object with the error's name and message.
 pub fn error_body(alloc: Global, name: &str, message: &str) -> Result<Octets, Memory>
     ensures { IfOk result (λ o. o ≡ compact_text (error_data name.now message.now)) }
 {

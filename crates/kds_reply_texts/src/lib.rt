@@ -1,7 +1,7 @@
-//! The bodies of the frequent replies and of refusals, written directly as text (decision 35): records with the
-//! children of a shard, results of puts, iterators and refusals. Building a tree of JSON values for them would cost
-//! time and memory for each record. All other replies are built as such a tree in `kds_reply` (Kinesis API Reference,
-//! Response Elements and Errors of each action).
+//! Writes the bodies of the frequent replies and of refusals directly as JSON text (decision 35): records, child
+//! shards, results of puts, shard iterators and refusals. Building a tree of JSON values for them would cost time and
+//! memory for each record. `kds_reply` builds the bodies of all other replies as such a tree (see Kinesis API
+//! Reference, Response Elements and Errors of each action).
 #![tactic(auto)]
 
 mod batches;

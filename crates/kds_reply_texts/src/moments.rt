@@ -3,10 +3,10 @@ ghost use Rattle.std.specs.Prelude.{◌≡◌, ◌/◌};
 
 use kds_base::Moment;
 
-/// The milliseconds in a second.
+/// The number of milliseconds in a second.
 const SECOND: u64 = 1000;
 
-/// The moment in whole seconds, rounded down (Kinesis API Reference, Record, ApproximateArrivalTimestamp).
+/// Returns the moment in whole seconds, rounded down (Kinesis API Reference, Record, ApproximateArrivalTimestamp).
 pub fn seconds(moment: Moment) -> u64
     ensures { result ≡ moment / 1000 }
 {

@@ -1,5 +1,5 @@
-//! Writes pieces of text over existing bytes of a buffer. The buffer is longer than the text written so far, which ends
-//! at the index `at`.
+//! Writes pieces of JSON text over existing bytes of a buffer. The text that is already written ends at the index `at`,
+//! and the buffer is longer than this text.
 ghost use Rattle.std.specs.Prelude.{◌≡◌, ◌+◌, ◌≤◌, ◌++◌, true, length, take, decimal};
 ghost use Rattle.base64.specs.Engines.{standard};
 ghost use Rattle.base64.specs.GeneralPurpose.{encode_of};
@@ -11,7 +11,7 @@ use base64::engine::general_purpose::GeneralPurpose;
 use itoa::Buffer;
 use kds_base::Seq;
 
-/// Writes a piece at the index `at`, and returns the index after it.
+/// Writes the bytes `piece` at the index `at`, and returns the index after them.
 #[inline(always)]
 pub fn write_piece(buffer: &mut [u8], at: usize, piece: &[u8]) -> usize
     requires { at + length piece.now ≤ length buffer.old }
@@ -24,7 +24,8 @@ pub fn write_piece(buffer: &mut [u8], at: usize, piece: &[u8]) -> usize
     end
 }
 
-/// Writes a comma at `at` if `later` is true, and returns the index after it, or `at` if nothing was written.
+/// Writes a comma at the index `at` if `later` is true. Returns the index after the comma, or `at` if no comma was
+/// written.
 #[inline(always)]
 pub fn write_comma(buffer: &mut [u8], at: usize, later: bool) -> usize
     requires { at + 1 ≤ length buffer.old }
@@ -39,7 +40,8 @@ pub fn write_comma(buffer: &mut [u8], at: usize, later: bool) -> usize
     }
 }
 
-/// Writes a number in decimal, at most 20 digits, at `at`, and returns the index after it.
+/// Writes the number `n` in decimal at the index `at`, and returns the index after the number. The number has at most
+/// 20 digits.
 #[inline(always)]
 pub fn write_decimal(buffer: &mut [u8], at: usize, n: u64) -> usize
     requires { at + 20 ≤ length buffer.old }
@@ -51,7 +53,8 @@ pub fn write_decimal(buffer: &mut [u8], at: usize, n: u64) -> usize
     write_piece(buffer, at, digits.format(n).as_bytes())
 }
 
-/// Writes a number in decimal for use inside a JSON string, where no digit needs escaping. Returns the index after it.
+/// Writes the number `n` in decimal at the index `at`, as a part of a JSON string, in which no digit needs escaping.
+/// Returns the index after the number.
 #[inline(always)]
 fn write_digits(buffer: &mut [u8], at: usize, n: u64) -> usize
     requires { at + 20 ≤ length buffer.old }
@@ -62,7 +65,8 @@ fn write_digits(buffer: &mut [u8], at: usize, n: u64) -> usize
     write_decimal(buffer, at, n)
 }
 
-/// Writes a sequence number for use inside a JSON string, and returns the index after it.
+/// Writes a sequence number in decimal at the index `at`, as a part of a JSON string, and returns the index after the
+/// number.
 #[inline(always)]
 pub fn write_seq(buffer: &mut [u8], at: usize, seq: Seq) -> usize
     requires { at + 20 ≤ length buffer.old }
@@ -73,8 +77,8 @@ pub fn write_seq(buffer: &mut [u8], at: usize, seq: Seq) -> usize
     write_digits(buffer, at, seq.0)
 }
 
-/// Writes bytes as base64 (RFC 4648, section 4) for use inside a JSON string, and returns the index after the text. The
-/// engine is a parameter because otherwise its tables would be copied for each text.
+/// Writes `bytes` as base64 (RFC 4648, section 4) at the index `at`, as a part of a JSON string, and returns the index
+/// after the text. The engine is a parameter because otherwise its tables would be copied for each text.
 #[inline(always)]
 pub fn write_base64(buffer: &mut [u8], at: usize, engine: &GeneralPurpose, bytes: &[u8]) -> usize
     requires standard { engine.now ≡ standard }

@@ -1,4 +1,4 @@
-//! Appends pieces of text to a body in a vector.
+//! Appends pieces of JSON text to the body of a reply, which is a vector of bytes.
 ghost use Rattle.std.specs.Prelude.{◌≡◌, ◌+◌, ◌++◌, ℕ, List, length, take, vec_len, decimal, IsUtf8, OnOk, IfOk};
 ghost use Rattle.std.specs.Bool.{OnTrue};
 ghost use Rattle.std.specs.Str.Lossy.{utf8_lossy};
@@ -14,10 +14,10 @@ use json::Writer;
 use kds_base::{Memory, Seq};
 use std::alloc::Global;
 
-/// The bytes of one block that `push_zeros` appends.
+/// One block of zero bytes. `push_zeros` appends such blocks.
 static ZEROS: [u8; 1024] = [0; 1024];
 
-/// Reserves memory for `size` bytes beyond the present ones.
+/// Reserves memory for `size` bytes beyond those that the vector has.
 pub fn reserve(out: &mut Vec<u8>, size: usize) -> Result<(), Memory>
     ensures { OnOk result (out.new.items ≡ out.old.items) }
 {
@@ -25,7 +25,7 @@ pub fn reserve(out: &mut Vec<u8>, size: usize) -> Result<(), Memory>
     Ok(())
 }
 
-/// Appends the bytes of a piece.
+/// Appends the bytes `piece`.
 #[inline(always)]
 pub fn push_piece(out: &mut Vec<u8>, piece: &[u8]) -> Result<(), Memory>
     ensures { OnOk result (out.new.items ≡ out.old.items ++ piece.now) }
@@ -42,7 +42,7 @@ pub fn put_comma(out: &mut Vec<u8>, later: bool) -> Result<(), Memory>
     if later { push_piece(out, b",") } else { Ok(()) }
 }
 
-/// Appends a number in decimal.
+/// Appends the number `n` in decimal.
 #[inline(always)]
 pub fn put_decimal(out: &mut Vec<u8>, n: u64) -> Result<(), Memory>
     ensures { OnOk result (out.new.items ≡ out.old.items ++ decimal n) }
@@ -52,7 +52,7 @@ pub fn put_decimal(out: &mut Vec<u8>, n: u64) -> Result<(), Memory>
     Ok(())
 }
 
-/// Appends a number in decimal for use inside a JSON string: no digit needs escaping.
+/// Appends the number `n` in decimal as a part of a JSON string, in which no digit needs escaping.
 #[inline(always)]
 fn put_digits(out: &mut Vec<u8>, n: u64) -> Result<(), Memory>
     ensures { OnOk result (out.new.items ≡ out.old.items ++ escape (decimal n)) }
@@ -61,7 +61,7 @@ fn put_digits(out: &mut Vec<u8>, n: u64) -> Result<(), Memory>
     Ok(())
 }
 
-/// Appends a sequence number for use inside a JSON string.
+/// Appends a sequence number in decimal as a part of a JSON string.
 #[inline(always)]
 pub fn put_seq(out: &mut Vec<u8>, seq: Seq) -> Result<(), Memory>
     ensures { OnOk result (out.new.items ≡ out.old.items ++ escape (decimal seq)) }
@@ -70,8 +70,8 @@ pub fn put_seq(out: &mut Vec<u8>, seq: Seq) -> Result<(), Memory>
     Ok(())
 }
 
-/// Appends `size` zero bytes, which the caller overwrites. It copies whole blocks, which is faster than `resize`, since
-/// `resize` stores byte by byte.
+/// Appends `size` zero bytes, which the caller overwrites. Whole blocks are copied, because this is faster than
+/// `resize`, which stores byte by byte.
 pub fn push_zeros(out: &mut Vec<u8>, size: usize) -> Result<(), Memory>
     ensures front { take (vec_len out.old) out.new.items ≡ out.old.items }
     ensures len { OnOk result (vec_len out.new ≡ vec_len out.old + size) }
@@ -85,7 +85,8 @@ pub fn push_zeros(out: &mut Vec<u8>, size: usize) -> Result<(), Memory>
     Ok(())
 }
 
-/// Appends bytes as base64 (RFC 4648, section 4) for use inside a JSON string: no character needs escaping.
+/// Appends `bytes` as base64 (RFC 4648, section 4), as a part of a JSON string, in which no character of base64 needs
+/// escaping.
 pub fn put_base64(out: &mut Vec<u8>, bytes: &[u8]) -> Result<(), Memory>
     ensures { OnOk result (out.new.items ≡ out.old.items ++ escape (encode_of standard bytes.now)) }
 {
@@ -100,7 +101,7 @@ pub fn put_base64(out: &mut Vec<u8>, bytes: &[u8]) -> Result<(), Memory>
     }
 }
 
-/// Whether `bytes` are valid UTF-8. It is called only if they aren't all ASCII.
+/// Whether `bytes` are valid UTF-8. This function is called only if some byte isn't ASCII.
 fn is_text(bytes: &[u8]) -> bool
     ensures { OnTrue result (IsUtf8 bytes.now) }
 {
@@ -110,9 +111,9 @@ fn is_text(bytes: &[u8]) -> bool
     }
 }
 
-/// Whether bytes can be copied into a JSON string unchanged. This holds if no byte needs escaping (RFC 8259, section
-/// 7), and the bytes are valid UTF-8, so that no character is replaced. Most texts are ASCII, and the same pass over
-/// the bytes checks for it.
+/// Whether `bytes` can be copied into a JSON string unchanged. This is so if no byte needs escaping (RFC 8259, section
+/// 7), and the bytes are valid UTF-8, so that no character is replaced. One loop looks for bytes that need escaping and
+/// for bytes that aren't ASCII. Most texts are ASCII. Only a text that isn't ASCII is then checked for valid UTF-8.
 pub fn stands_as_it_is(bytes: &[u8]) -> bool
     ensures { OnTrue result (escape (utf8_lossy bytes.now) ≡ bytes.now) }
 {
@@ -125,7 +126,8 @@ pub fn stands_as_it_is(bytes: &[u8]) -> bool
     plain && (ascii || is_text(bytes))
 }
 
-/// Appends text for use inside a JSON string, escaped. It is called only for text that can't be copied unchanged.
+/// Appends `bytes` as a part of a JSON string, with characters escaped and invalid UTF-8 replaced. This function is
+/// called only if `bytes` can't be copied unchanged.
 pub fn put_replaced(out: &mut Vec<u8>, alloc: Global, bytes: &[u8]) -> Result<(), Memory>
     ensures { OnOk result (out.new.items ≡ out.old.items ++ escape (utf8_lossy bytes.now)) }
 {
@@ -135,7 +137,8 @@ pub fn put_replaced(out: &mut Vec<u8>, alloc: Global, bytes: &[u8]) -> Result<()
     Ok(())
 }
 
-/// Appends bytes as text for use inside a JSON string. Invalid UTF-8 is replaced.
+/// Appends `bytes` as a part of a JSON string. Characters are escaped if JSON requires it, and invalid UTF-8 is
+/// replaced.
 fn put_escaped(out: &mut Vec<u8>, alloc: Global, bytes: &[u8]) -> Result<(), Memory>
     ensures { OnOk result (out.new.items ≡ out.old.items ++ escape (utf8_lossy bytes.now)) }
 {
@@ -146,7 +149,7 @@ fn put_escaped(out: &mut Vec<u8>, alloc: Global, bytes: &[u8]) -> Result<(), Mem
     }
 }
 
-/// Appends a string's text for use inside a JSON string.
+/// Appends the string `text` as a part of a JSON string. Characters are escaped if JSON requires it.
 pub fn put_str(out: &mut Vec<u8>, alloc: Global, text: &str) -> Result<(), Memory>
     ensures { OnOk result (out.new.items ≡ out.old.items ++ escape text.now) }
 {
@@ -154,7 +157,8 @@ pub fn put_str(out: &mut Vec<u8>, alloc: Global, text: &str) -> Result<(), Memor
     Ok(())
 }
 
-/// The JSON string of the bytes as text, with its quotes. It is called only if a character is escaped or replaced.
+/// Returns `bytes` as a JSON string, with its quotes. Characters are escaped and invalid UTF-8 is replaced. This
+/// function is called only if a character is escaped or replaced.
 #[inline(never)]
 fn string_of(alloc: Global, bytes: &[u8]) -> Result<Vec<u8>, Memory>
     ensures { IfOk result (λ s. s.items ≡ quoted (utf8_lossy bytes.now)) }

@@ -1,4 +1,4 @@
-//! The results of PutRecord and PutRecords, written directly as text.
+//! Writes the replies to PutRecord and PutRecords directly as JSON text.
 ghost use Rattle.std.specs.Prelude.{◌≡◌, ◌++◌, OnOk};
 ghost use Rattle.serde_json.specs.Written.{compact_text};
 ghost use Rattle.kds_reply_texts.specs.Bodies.{list_data, place_data, failed_data, outcome_data, has_failed, failed_count as count_of_failed, outcomes_data};
@@ -10,7 +10,8 @@ use kds_defs::{Outcome, Place, Refusal};
 use kds_token::shard_id;
 use std::alloc::Global;
 
-/// The most bytes that the result of one record takes. The text around all results together takes no more either.
+/// An upper bound on the bytes of the result of one record. The text around the results of a PutRecords request also
+/// has at most this many bytes.
 const PLACE_BYTES: usize = 96;
 
 fn failed(outcome: &Outcome) -> bool
@@ -19,7 +20,7 @@ fn failed(outcome: &Outcome) -> bool
     matches!(outcome, Outcome::Throttled(_))
 }
 
-/// The number of records that weren't stored.
+/// Returns how many records of the request weren't stored.
 fn failed_count(outcomes: &[Outcome]) -> u64
     ensures { result ≡ count_of_failed outcomes.now }
 {
@@ -32,8 +33,8 @@ fn failed_count(outcomes: &[Outcome]) -> u64
     count
 }
 
-/// Adds the shard's ID and the sequence number of a stored record (Kinesis API Reference, PutRecord, Response
-/// Elements).
+/// Appends the sequence number and the shard ID of a stored record as a JSON object (Kinesis API Reference, PutRecord,
+/// Response Elements).
 fn put_place(out: &mut Vec<u8>, alloc: Global, place: &Place) -> Result<(), Memory>
     ensures { OnOk result (out.new.items ≡ out.old.items ++ compact_text (place_data place.now)) }
 {
@@ -46,7 +47,7 @@ fn put_place(out: &mut Vec<u8>, alloc: Global, place: &Place) -> Result<(), Memo
     Ok(())
 }
 
-/// Adds the result of a record of PutRecords that wasn't stored: the error's name and message.
+/// Appends the result of a record of PutRecords that wasn't stored: a JSON object with the error's name and message.
 fn put_failed(out: &mut Vec<u8>, alloc: Global, name: &str, message: &str) -> Result<(), Memory>
     ensures { OnOk result (out.new.items ≡ out.old.items ++ compact_text (failed_data name.now message.now)) }
 {
@@ -58,7 +59,7 @@ fn put_failed(out: &mut Vec<u8>, alloc: Global, name: &str, message: &str) -> Re
     Ok(())
 }
 
-/// Adds the result of one record of PutRecords (Kinesis API Reference, PutRecordsResultEntry).
+/// Appends the result of one record of PutRecords as a JSON object (Kinesis API Reference, PutRecordsResultEntry).
 fn put_outcome(out: &mut Vec<u8>, alloc: Global, outcome: &Outcome) -> Result<(), Memory>
     ensures { OnOk result (out.new.items ≡ out.old.items ++ compact_text (outcome_data outcome.now)) }
 {
@@ -76,7 +77,7 @@ fn put_outcome(out: &mut Vec<u8>, alloc: Global, outcome: &Outcome) -> Result<()
     }
 }
 
-/// Adds the results of the records as an array.
+/// Appends the results of the records of PutRecords as a JSON array.
 fn put_outcomes(out: &mut Vec<u8>, alloc: Global, outcomes: &[Outcome]) -> Result<(), Memory>
     ensures { OnOk result (out.new.items ≡ out.old.items ++ compact_text (list_data outcome_data outcomes.now)) }
 {
@@ -91,7 +92,7 @@ fn put_outcomes(out: &mut Vec<u8>, alloc: Global, outcomes: &[Outcome]) -> Resul
     Ok(())
 }
 
-/// Adds the reply to PutRecord.
+/// Appends the body of the reply to PutRecord.
 pub fn add_place(out: &mut Vec<u8>, alloc: Global, place: &Place) -> Result<(), Memory>
     ensures { OnOk result (out.new.items ≡ out.old.items ++ compact_text (place_data place.now)) }
 {
@@ -99,7 +100,7 @@ pub fn add_place(out: &mut Vec<u8>, alloc: Global, place: &Place) -> Result<(), 
     put_place(out, alloc, place)
 }
 
-/// Adds the reply to PutRecords (Kinesis API Reference, PutRecords, Response Elements).
+/// Appends the body of the reply to PutRecords (Kinesis API Reference, PutRecords, Response Elements).
 pub fn add_outcomes(out: &mut Vec<u8>, alloc: Global, outcomes: &[Outcome]) -> Result<(), Memory>
     ensures { OnOk result (out.new.items ≡ out.old.items ++ compact_text (outcomes_data outcomes.now)) }
 {

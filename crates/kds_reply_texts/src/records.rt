@@ -1,6 +1,6 @@
-//! Records, written directly as text. A record whose partition key needs no escaping is written over zero bytes that
-//! were appended for many records at once. Nearly all records are written in this way. Neither the record nor its
-//! pieces check the capacity then.
+//! Writes records directly as JSON text. If the partition key of a record needs no escaping, the record is written over
+//! zero bytes that were appended for many records at once. The capacity then isn't checked for each piece of the
+//! record. Nearly all records are written in this way.
 ghost use Rattle.std.specs.Prelude.{◌≡◌, ◌+◌, ◌/◌, ◌^◌, ◌<◌, ◌≤◌, ◌++◌, length, take, vec_len, IfOk, OnOk};
 ghost use Rattle.base64.specs.Engines.{standard};
 ghost use Rattle.serde_json.specs.Written.{comma_if, compact_text};
@@ -19,19 +19,19 @@ use kds_base::{Memory, Seq};
 use kds_defs::Stored;
 use std::alloc::Global;
 
-/// The most bytes before a record's payload: 20 digits and 40 other bytes.
+/// The greatest number of bytes that a record's JSON text has before the payload: 20 digits and 40 other bytes.
 const FRONT_BYTES: usize = 60;
 
-/// The most bytes of a record besides its key and payload: a comma, the text before the payload, 38 bytes of two names
-/// with their punctuation, 20 digits, a quote and a brace.
+/// An upper bound on the bytes of a record's JSON text besides its key and payload: a comma, the text before the
+/// payload, 38 bytes for the names of two members with their punctuation, 20 digits, a quote and a brace.
 const RECORD_BYTES: usize = 128;
 
-/// The number of bytes that are appended at once and then overwritten. It is small enough that they are still in the
-/// first-level cache when they are overwritten.
+/// How many zero bytes are appended at once, if the capacity allows and no record needs more. The number is so small
+/// that the bytes are still in the first-level cache when text is written over them.
 const BLOCK_BYTES: usize = 4096;
 
-/// The most bytes of a record's text if its key needs no escaping. Base64 has four characters for every three bytes of
-/// the payload.
+/// Returns an upper bound on the bytes of a record's JSON text if the record's key needs no escaping. Base64 has four
+/// characters for every three bytes of the payload.
 #[inline(always)]
 pub fn record_size(payload: &[u8], key: &[u8]) -> usize
     ensures { result < 2 ^ 63 → record_room payload.now key.now ≤ result }
@@ -39,7 +39,8 @@ pub fn record_size(payload: &[u8], key: &[u8]) -> usize
     ((payload.len() + 2) / 3 * 4).saturating_add(key.len() + RECORD_BYTES)
 }
 
-/// Writes the text before the payload of a record that arrived in this second, and returns its length.
+/// Writes the part of a record's JSON text that comes before the payload, and returns the length of this part. `second`
+/// is the arrival time of the record in whole seconds.
 #[tactic(auto, unfolding(crate::specs::Room::front_text))]
 fn write_front(front: &mut [u8], second: u64) -> usize
     requires { 60 ≤ length front.old }
@@ -52,8 +53,10 @@ fn write_front(front: &mut [u8], second: u64) -> usize
     write_piece(front, at, b",\"Data\":\"")
 }
 
-/// Ensures that `front` holds the text before the payload of a record that arrived in the second `second`, and returns
-/// its length. If `last` is the same second, the text is kept: all records of one second share it.
+/// Makes `front` begin with the text that comes before a record's payload, and returns the length of this text.
+/// `second` is the arrival time of the record in whole seconds. Before the call, `front` begins with the text for the
+/// arrival time `last`. If the two times are equal, nothing is written, because records that arrived in the same second
+/// of time share the text.
 #[inline(always)]
 fn renew_front(front: &mut [u8], size: usize, last: u64, second: u64) -> usize
     requires room { 60 ≤ length front.old }
@@ -70,7 +73,8 @@ fn renew_front(front: &mut [u8], size: usize, last: u64, second: u64) -> usize
     }
 }
 
-/// Writes a record whose key needs no escaping at `at`, and returns the index after it.
+/// Writes the JSON text of a record into `buffer` at the index `at`, and returns the index after the text. The record's
+/// key needs no escaping.
 #[inline(always)]
 fn write_record(
     buffer: &mut [u8],
@@ -97,8 +101,8 @@ fn write_record(
     write_piece(buffer, at, b"\"}")
 }
 
-/// Ensures that `size` bytes can be overwritten from `at` on. If the vector is too short, it appends zero bytes, more
-/// than needed if the capacity allows.
+/// Ensures that the vector has at least `size` bytes from the index `at` on, so that they can be overwritten. If the
+/// vector is too short, zero bytes are appended. If the capacity allows, more zero bytes are appended than needed.
 #[inline(always)]
 fn ensure_length(out: &mut Vec<u8>, at: usize, size: usize) -> Result<(), Memory>
     requires { at ≤ vec_len out.old }
@@ -113,7 +117,7 @@ fn ensure_length(out: &mut Vec<u8>, at: usize, size: usize) -> Result<(), Memory
     push_zeros(out, spare.min(BLOCK_BYTES).max(size - left))
 }
 
-/// Appends a record whose key may need escaping.
+/// Appends the JSON text of a record whose key may need escaping.
 fn put_record(out: &mut Vec<u8>, alloc: Global, stored: &Stored) -> Result<(), Memory>
     ensures { OnOk result (out.new.items ≡ out.old.items ++ compact_text (record_data stored.now)) }
 {
@@ -129,7 +133,8 @@ fn put_record(out: &mut Vec<u8>, alloc: Global, stored: &Stored) -> Result<(), M
     Ok(())
 }
 
-/// Truncates the vector at `at`, appends a record as `put_record` does, and returns the index after it.
+/// Truncates the vector at the index `at`, appends a comma if `later` is true, appends a record as `put_record` does,
+/// and returns the index after the record.
 #[inline(never)]
 fn add_escaped_record(
     out: &mut Vec<u8>,
@@ -148,8 +153,8 @@ fn add_escaped_record(
     Ok(out.len())
 }
 
-/// Adds a record at `at`, and returns the index after it. `front` is the text before its payload, which is already
-/// complete.
+/// Writes a record at the index `at` of the vector, with a comma before it if `later` is true, and returns the index
+/// after the record. `front` is the complete text that comes before the record's payload.
 #[inline(always)]
 fn add_record(
     out: &mut Vec<u8>,
@@ -177,7 +182,7 @@ fn add_record(
     Ok(write_record(buffer, at, engine, front, payload, key, stored.seq))
 }
 
-/// Adds the records as an array. `engine` is the standard base64 engine.
+/// Appends the records as a JSON array. `engine` is the standard base64 engine.
 fn fill_records(
     out: &mut Vec<u8>,
     alloc: Global,
@@ -205,14 +210,14 @@ fn fill_records(
     Ok(())
 }
 
-/// The standard base64 engine (RFC 4648, section 4).
+/// Returns the standard base64 engine (RFC 4648, section 4).
 fn standard_engine() -> GeneralPurpose
     ensures { result ≡ standard }
 {
     STANDARD
 }
 
-/// Adds the records as an array.
+/// Appends the records as a JSON array.
 pub fn put_records(out: &mut Vec<u8>, alloc: Global, batch: &[Stored]) -> Result<(), Memory>
     ensures { OnOk result (out.new.items ≡ out.old.items ++ compact_text (list_data record_data batch.now)) }
 {

@@ -1,4 +1,4 @@
-//! The names, messages and bodies of the service's refusals.
+//! The error names, error messages and bodies of the responses to refused commands.
 ghost use Rattle.std.specs.Prelude.{◌≡◌, IfOk, true};
 ghost use Rattle.kds_defs.specs.Kinds.{is_service_refusal};
 ghost use Rattle.kds_reply_texts.specs.Errors.{refusal_name as name_of, refusal_message as message_of, refusal_text};
@@ -8,7 +8,7 @@ use kds_base::{Memory, Octets};
 use kds_defs::Refusal;
 use std::alloc::Global;
 
-/// The name of a refusal (Kinesis API Reference, Errors of each action).
+/// Returns the error name for a refusal of the stream service (Kinesis API Reference, Errors of each action).
 pub fn refusal_name(refusal: &Refusal) -> &'static str
     requires { is_service_refusal refusal.now ≡ true }
     ensures { result.now ≡ name_of refusal.now }
@@ -31,7 +31,7 @@ pub fn refusal_name(refusal: &Refusal) -> &'static str
     }
 }
 
-/// The message of a refusal.
+/// Returns the error message for a refusal of the stream service.
 pub fn refusal_message(refusal: &Refusal) -> &'static str
     requires { is_service_refusal refusal.now ≡ true }
     ensures { result.now ≡ message_of refusal.now }
@@ -54,7 +54,7 @@ pub fn refusal_message(refusal: &Refusal) -> &'static str
     }
 }
 
-/// The body of a refusal.
+/// Returns the body of the error response for a refusal of the stream service.
 pub fn refusal_body(alloc: Global, refusal: &Refusal) -> Result<Octets, Memory>
     requires { is_service_refusal refusal.now ≡ true }
     ensures { IfOk result (λ o. o ≡ refusal_text refusal.now) }

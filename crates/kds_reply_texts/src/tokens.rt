@@ -1,4 +1,4 @@
-//! The text of the service's tokens.
+//! The text of the tokens that the service issues: shard iterators, and NextTokens of listings.
 ghost use Rattle.std.specs.Prelude.{◌≡◌, ◌<◌, ◌^◌, IfOk, IsUtf8, string_bytes};
 ghost use Rattle.json.specs.Print.{escape};
 ghost use Rattle.serde_json.specs.Written.{compact_text};
@@ -11,10 +11,10 @@ use kds_defs::{Iter, Page};
 use kds_token::{write_iter, write_page};
 use std::alloc::Global;
 
-/// The most bytes that an iterator's token and the text around it take.
+/// How many bytes to reserve for an iterator's token and the text around it.
 pub const ITERATOR_BYTES: usize = 160;
 
-/// The bytes as a string. Precondition: the bytes are valid UTF-8.
+/// Returns `bytes` as a string. Precondition: `bytes` are valid UTF-8.
 pub fn text_of(bytes: &[u8]) -> &str
     requires { IsUtf8 bytes.now }
     ensures { result.now ≡ bytes.now }
@@ -25,7 +25,8 @@ pub fn text_of(bytes: &[u8]) -> &str
     }
 }
 
-/// The token of a listing's next page. It is ASCII, so no character is replaced.
+/// Returns the NextToken for the next page of a listing. The token is ASCII, so no character is replaced when it
+/// becomes a string.
 pub fn listing_token(alloc: Global, page: &Page) -> Result<String, Memory>
     ensures { IfOk result (λ s. string_bytes s ≡ page_token page.now) }
 {
@@ -33,13 +34,14 @@ pub fn listing_token(alloc: Global, page: &Page) -> Result<String, Memory>
     Ok(String::from_utf8_lossy(alloc, token.as_slice())?)
 }
 
-/// If `issued` is below 2^62, the numbers of an iterator are within the ranges of their types.
+/// States that an iterator with these numbers is valid if `issued` is below 2^62. The other numbers may have any value
+/// of their types.
 fn numbers_fit(stream: u64, shard: u64, position: u64, issued: u64)
     requires { issued < 2 ^ 62 }
     ensures { IsIter (record { stream = stream; shard = shard; position = position; issued = issued }) }
 {}
 
-/// The token of an iterator, for use inside a JSON string: no character needs escaping.
+/// Returns the token of a shard iterator as a part of a JSON string, in which no character of the token needs escaping.
 pub fn quoted_iter(alloc: Global, iter: &Iter) -> Result<Octets, Memory>
     ensures { IfOk result (λ o. o ≡ escape (iter_token iter.now)) }
 {
@@ -48,7 +50,7 @@ pub fn quoted_iter(alloc: Global, iter: &Iter) -> Result<Octets, Memory>
     Ok(token)
 }
 
-/// The reply to GetShardIterator (Kinesis API Reference, GetShardIterator, Response Elements).
+/// Returns the body of the reply to GetShardIterator (Kinesis API Reference, GetShardIterator, Response Elements).
 pub fn iterator_text(alloc: Global, iter: &Iter) -> Result<Octets, Memory>
     ensures { IfOk result (λ o. o ≡ compact_text (iterator_data iter.now)) }
 {

@@ -1,4 +1,4 @@
-//! Writes JSON members and values with the kit's `json::Writer`.
+//! Writes JSON objects and their members with `json::Writer`, which is part of the Rattle kit.
 ghost use Rattle.std.specs.Prelude.{◌≡◌, ◌++◌, ◌∷◌, [], decimal, OnOk, IfOk};
 ghost use Rattle.json.specs.Token.{begin_object, end_object, key, string};
 ghost use Rattle.serde_json.specs.Data.{Data};
@@ -10,7 +10,7 @@ use json::Writer;
 use kds_base::{Memory, Octets};
 use std::alloc::Global;
 
-/// A new writer that has reserved `capacity` bytes.
+/// Returns a new writer, with memory reserved for `capacity` bytes.
 pub fn new_writer(alloc: Global, capacity: usize) -> Result<Writer, Memory>
     ensures nothing { IfOk result (λ out. out.tokens ≡ []) }
     ensures before { IfOk result (λ out. out.before ≡ []) }
@@ -18,7 +18,8 @@ pub fn new_writer(alloc: Global, capacity: usize) -> Result<Writer, Memory>
     Ok(Writer::new(Vec::with_capacity(alloc, capacity)?))
 }
 
-/// The text that a writer holds once a whole value was written.
+/// Returns the text that was written with `out`. If one whole JSON value was written, the result is the compact text of
+/// this value.
 pub fn written(out: Writer) -> Octets
     requires { out.before ≡ [] }
     ensures { (d : Data) → out.tokens ≡ tokens_of d → result ≡ compact_text d }
@@ -26,7 +27,7 @@ pub fn written(out: Writer) -> Octets
     Octets::unshared(out.into_inner())
 }
 
-/// Writes the start of an object.
+/// Writes the start of a JSON object.
 pub fn begin_object(out: &mut Writer) -> Result<(), Memory>
     ensures ok { OnOk result (out.new.tokens ≡ out.old.tokens ++ begin_object ∷ []) }
     ensures before { out.new.before ≡ out.old.before }
@@ -35,7 +36,7 @@ pub fn begin_object(out: &mut Writer) -> Result<(), Memory>
     Ok(())
 }
 
-/// Writes the end of an object.
+/// Writes the end of a JSON object.
 pub fn end_object(out: &mut Writer) -> Result<(), Memory>
     ensures ok { OnOk result (out.new.tokens ≡ out.old.tokens ++ end_object ∷ []) }
     ensures before { out.new.before ≡ out.old.before }
@@ -44,7 +45,7 @@ pub fn end_object(out: &mut Writer) -> Result<(), Memory>
     Ok(())
 }
 
-/// Writes the name of a member.
+/// Writes the name of a member, before its value is written.
 pub fn put_name(out: &mut Writer, name: &str) -> Result<(), Memory>
     ensures ok { OnOk result (out.new.tokens ≡ out.old.tokens ++ key name.now ∷ []) }
     ensures before { out.new.before ≡ out.old.before }
@@ -53,7 +54,7 @@ pub fn put_name(out: &mut Writer, name: &str) -> Result<(), Memory>
     Ok(())
 }
 
-/// Writes a member that is a hash key, as a decimal string.
+/// Writes a member called `name` whose value is the hash key `hash` as a decimal string.
 pub fn put_hash_key(out: &mut Writer, name: &str, hash: u128) -> Result<(), Memory>
     ensures ok { OnOk result (out.new.tokens ≡ out.old.tokens ++ key name.now ∷ string (decimal hash) ∷ []) }
     ensures before { out.new.before ≡ out.old.before }
@@ -64,7 +65,7 @@ pub fn put_hash_key(out: &mut Writer, name: &str, hash: u128) -> Result<(), Memo
     Ok(())
 }
 
-/// Writes a member that is a string.
+/// Writes a member called `name` whose value is the string `text`.
 pub fn put_text(out: &mut Writer, name: &str, text: &str) -> Result<(), Memory>
     ensures ok { OnOk result (out.new.tokens ≡ out.old.tokens ++ key name.now ∷ string text.now ∷ []) }
     ensures before { out.new.before ≡ out.old.before }

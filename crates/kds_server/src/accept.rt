@@ -1,4 +1,5 @@
-//! Accepts connections, and serves each in a thread of its own.
+//! Accepts connections, and serves each in a thread of its own. The connections share a hall: one machine with a lock
+//! around it. A pass is the right of one thread to make turns, which apply commands to this machine.
 ghost use Rattle.std.specs.Prelude.{ℕ, ◌≡◌, ◌≤◌, ◌⊎◌, length, All};
 ghost use Rattle.kds_ends.specs.Causes.{Rose, RoseOnceAtMost};
 ghost use Rattle.kds_server.specs.Texts.{IsCrewStatus};
@@ -14,13 +15,13 @@ use std::sync::{Condvar, Mutex, Wait};
 use std::thread;
 use std::thread::{Scope, Threads};
 
-/// The data that the connection threads share.
+/// The data that the accepting thread and the connection threads share.
 #[derive(Drop)]
 struct Shared<'c, R, M: Machine, C> {
     rt: &'c R,
     alloc: Global,
     clock: &'c Mutex<C>,
-    /// The free passes, without the one that was taken out for the next connection.
+    /// The free passes. A pass that was taken for the next connection isn't among them.
     idle: Mutex<Vec<FreePass<'c, M>>>,
     /// Notified when a pass becomes free.
     freed: Condvar,
@@ -29,7 +30,7 @@ struct Shared<'c, R, M: Machine, C> {
 }
 
 impl<'c, R: Wait, M: Machine, C: Clock> Shared<'c, R, M, C> {
-    /// Serves a connection on the calling thread, and then closes the connection.
+    /// Serves a connection on the calling thread, closes the connection, and returns the pass that served it.
     fn serve_connection<S: Source + Drop, K: Sink + Drop>(
         &self,
         free: FreePass<'c, M>,
@@ -46,7 +47,8 @@ impl<'c, R: Wait, M: Machine, C: Clock> Shared<'c, R, M, C> {
         FreePass { hall, pass }
     }
 
-    /// Serves a connection on the calling thread, closes the connection, and returns its pass to the free ones.
+    /// Serves a connection on the calling thread, closes the connection, and then adds the pass `free` to the free
+    /// passes.
     fn serve_and_return_pass<S: Source + Drop, K: Sink + Drop>(
         &self,
         free: FreePass<'c, M>,
@@ -60,7 +62,7 @@ impl<'c, R: Wait, M: Machine, C: Clock> Shared<'c, R, M, C> {
         self.freed.notify_one();
     }
 
-    /// Waits for a free pass, and takes it. `None` if memory has run out on a connection.
+    /// Waits until a pass is free, and takes it. Returns `None` if memory has run out on a connection.
     fn next_pass(&self) -> Option<FreePass<'c, M>> {
         let mut idle = self
             .freed
@@ -94,8 +96,8 @@ where
     }
 }
 
-/// Accepts connections until the door fails or memory runs out on a connection. Before it accepts one, it waits for a
-/// free pass.
+/// Accepts connections until the listener `door` fails or memory runs out on a connection. Before each connection, the
+/// function waits for a free pass.
 fn accept_all<'s, 'e: 's, 'c: 'e, R, M, C, D>(
     scope: &'s Scope<'s, &'e ()>,
     crew: &'e Shared<'c, R, M, C>,
@@ -129,12 +131,12 @@ where
     unreachable!()
 }
 
-/// Serves the connections of a door, each in a thread of its own, with a pass that no other connection uses (decision
-/// 114). The calling thread waits for free passes and accepts connections; if no thread can be started, it serves the
-/// connection itself. After the door's first failure no connection is accepted. The status is Door if the door failed;
-/// the connections that were open then have ended. The status is Memory if memory ran out before the first connection,
-/// or on a connection; no further connection is served afterwards. Precondition: there is at least one pass, and all
-/// passes belong to the hall.
+/// Serves the connections that the listener `door` accepts. Each connection has a thread of its own, and a pass that no
+/// other connection uses at the same time (decision 114). The calling thread waits for a free pass before it accepts a
+/// connection. If no thread can be started, the calling thread serves the connection itself. No connection is accepted
+/// after the first failure of `door`. No further connection is served after memory has run out. The function returns
+/// when all open connections have ended. If memory ran out (before the first connection or on a connection), the status
+/// is `Memory`. Otherwise it is `Door`. Precondition: there is at least one pass, and all passes belong to the hall.
 pub fn crew<R, M, C, D>(
     rt: &R,
     alloc: Global,
@@ -168,7 +170,7 @@ where
         freed: Condvar::new(),
         out_of_memory: AtomicBool::new(false),
     };
-    // The scope gives the door back, so that its contract about failures can be used after the scope.
+    // The scope returns the door, so that the door's contract about failures can be used after the scope.
     let (status, _door) = thread::scope(thread::scope_env(), rt, move |scope| {
         let status = accept_all(scope, shared, &mut *door);
         (status, door)

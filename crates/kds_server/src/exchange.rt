@@ -1,4 +1,5 @@
-//! Moves bytes between a connection and its session.
+//! Moves bytes from a connection's source (its input stream) into its session, and from the session to the connection's
+//! sink (its output stream). A piece is the bytes of one read.
 ghost use Rattle.std.specs.Prelude.{◌≡◌, ◌≢◌, ◌≤◌, ◌<◌, ◌⊎◌, [], ◌++◌, List, ℕ, length, true, false, None, Some, IfOk, IfErr, IfSome, OnOk, IsErrOf};
 ghost use Rattle.std.specs.declared.option.Option.{Option};
 ghost use Rattle.std.specs.Io.KnownBytes.{Appends, IsAtEnd, Keeps};
@@ -17,7 +18,7 @@ use kds_ends::{Sink, Source, Status, write_all};
 use kds_session::limits::PIECE_BYTES;
 use kds_session::{Session, Standing};
 
-/// Writes all of the session's output.
+/// Writes the session's whole output to the sink. If the sink fails, a prefix of the output may have been written.
 fn flush<K: Sink>(session: &mut Session, out: &mut K) -> Result<(), Status>
     ensures written { OnOk result (Appends (K.held out.old) (K.held out.new) session.old.output) }
     ensures stands { OnOk result (Passes session.old session.new (sent_more session.old.output)) }
@@ -36,7 +37,8 @@ fn flush<K: Sink>(session: &mut Session, out: &mut K) -> Result<(), Status>
     }
 }
 
-/// Writes the session's output if it has at least `PIECE_BYTES` bytes. So fewer than `PIECE_BYTES` remain to be sent.
+/// Writes the session's output if it has at least `PIECE_BYTES` bytes. Afterwards fewer than `PIECE_BYTES` bytes remain
+/// to be sent.
 pub fn write_early<K: Sink>(session: &mut Session, out: &mut K) -> Result<(), Status>
     ensures goes_on { OnOk result ((left : Option (List ℕ)) → ReadsOn left session.old (K.held out.old) left session.new (K.held out.new)) }
     ensures ended { IfErr result (λ s. (left : Option (List ℕ)) → EndsThere left session.old (K.held out.old) left (K.held out.new) s) }
@@ -57,9 +59,9 @@ pub fn write_early<K: Sink>(session: &mut Session, out: &mut K) -> Result<(), St
     }
 }
 
-/// Reads a piece into the buffer and feeds it to the session. Returns `false` at the end of the input. Preconditions: a
-/// whole piece may be fed to the session, and the session's output is empty, since a client may wait for its response
-/// before it sends more.
+/// Reads a piece of at most `PIECE_BYTES` bytes into the buffer, and feeds it to the session. Returns `false` at the
+/// end of the input. Preconditions: `PIECE_BYTES` bytes may be fed to the session, and the session's output is empty.
+/// The output must be written first, since a client may wait for its response before it sends more.
 fn read_piece<S: Source>(
     session: &mut Session,
     input: &mut S,
@@ -90,7 +92,8 @@ fn read_piece<S: Source>(
     }
 }
 
-/// The status with which a connection ends if no further bytes are read. Precondition: no command waits for its answer.
+/// Returns the status of a connection that ends here, without reading further bytes. Precondition: no command waits for
+/// its answer.
 fn ending(session: &Session) -> Status
     requires { session.now.waiting ≡ Nothing }
     ensures { result ≡ status_at (end_of session.now) }
@@ -108,9 +111,9 @@ fn ending(session: &Session) -> Status
     }
 }
 
-/// Writes the session's output and, if the connection stays open, reads a piece. If the connection has ended, its
-/// status is returned. Preconditions: no whole message is unread, no command waits for its answer, and if the session
-/// is live, a whole piece may be fed to it.
+/// Writes the session's output. If the connection then stays open, reads a piece and feeds it to the session. Returns
+/// the status of the connection if it has ended. Preconditions: no command waits for its answer. Also, if the session
+/// is live, no whole message is unread and `PIECE_BYTES` bytes may be fed.
 pub fn exchange<S: Source, K: Sink>(
     session: &mut Session,
     input: &mut S,

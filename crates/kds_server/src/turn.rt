@@ -1,4 +1,4 @@
-//! Makes the turn of a command, and appends its response to the output.
+//! Applies a command as a turn (atomically), and appends the response to the session's output.
 ghost use Rattle.std.specs.Prelude.{◌≡◌, ◌≢◌, ◌∷◌, [], ◌++◌, List, ℕ, OnOk, OnErr, true};
 ghost use Rattle.std.specs.declared.option.Option.{Option};
 ghost use Rattle.kds_defs.specs.declared.command.Command.{Command};
@@ -16,8 +16,9 @@ use kds_defs::Command;
 use kds_ends::Clock;
 use kds_session::Session;
 
-/// Makes the turn of a waiting command at the moment that the clock gives for it, and appends the response to the
-/// output. If memory runs out, the turn may or may not have been made.
+/// Applies the command that the session has returned, as a turn at the moment that the clock returns. Appends the
+/// response to the session's output. Memory may run out during the turn, or when the response is appended. So if memory
+/// runs out, the turn may or may not have been made. Precondition: the session waits for the answer to this command.
 pub fn make_turn<T: Turner, C: Clock>(
     turner: &T,
     state: &mut T::State,

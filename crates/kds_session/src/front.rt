@@ -1,4 +1,5 @@
-//! Reads the message at the front of a session's unread bytes.
+//! Finds out what a session's unread bytes begin with: an incomplete, a complete or a refused message. Bytes are unread
+//! if they were fed to the session and not yet consumed.
 ghost use Rattle.std.specs.Prelude.{◌≡◌, nat_le, IfOk};
 ghost use Rattle.kds_head.specs.Find.{IsFound};
 ghost use Rattle.kds_session.specs.Messages.{size};
@@ -11,17 +12,17 @@ use std::alloc::Global;
 /// What the unread bytes begin with.
 #[derive(Drop)]
 pub enum Front {
-    /// The head isn't complete yet.
+    /// An incomplete head, or no bytes.
     Unfinished,
-    /// A complete head, whose body isn't complete yet.
+    /// A complete head, but not yet the complete body.
     Begun(Head),
-    /// A head that is refused with this status.
+    /// A head that is refused with this HTTP status (see `kds_head::Found`).
     Refused(u16),
     /// A complete message with this head.
     Whole(Head),
 }
 
-/// Whether a message with this head is complete if `bytes` bytes of it are there (RFC 9112, section 6.3).
+/// Whether the message with this head, its body included, has at most `bytes` bytes (RFC 9112, section 6.3).
 fn is_whole(bytes: usize, head: &Head) -> bool
     ensures { result ≡ nat_le (size head.now) bytes }
 {
@@ -31,7 +32,8 @@ fn is_whole(bytes: usize, head: &Head) -> bool
     }
 }
 
-/// The head at the front of the unread bytes: `kept` if it is given, otherwise the result of a search.
+/// Finds the head at the front of the unread bytes. `kept` is this head if an earlier search has found it. In this
+/// case, the bytes aren't searched again.
 fn find_head(alloc: Global, unread: &[u8], kept: Option<Head>) -> Result<Found, Memory>
     requires { IsKept unread.now kept }
     ensures { IfOk result (IsFound unread.now) }
@@ -46,7 +48,7 @@ fn find_head(alloc: Global, unread: &[u8], kept: Option<Head>) -> Result<Found, 
     }
 }
 
-/// What the unread bytes begin with. `kept` is the head at their front, if an earlier search found it.
+/// Returns what the unread bytes begin with. `kept` is the head at their front if an earlier search has found it.
 pub fn read_front(alloc: Global, unread: &[u8], kept: Option<Head>) -> Result<Front, Memory>
     requires { IsKept unread.now kept }
     ensures front { IfOk result (IsFront unread.now) }

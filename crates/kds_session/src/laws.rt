@@ -1,10 +1,10 @@
-//! Laws of sessions.
+//! Laws of sessions. A law is a theorem about definitions, stated as the contract of a function that does nothing.
 ghost use Rattle.std.specs.Prelude.{◌≡◌, ◌+◌};
 ghost use Rattle.kds_head.specs.declared.numbers.TheConstants.{HEAD_BYTES, BODY_BYTES};
 ghost use Rattle.kds_session.specs.declared.limits.TheConstants.{REQUESTS, PIECE_BYTES, UNREAD_BYTES};
 ghost use Rattle.kds_session.specs.Laws.{OneReading, WholeText, NothingFollows, FirstPart};
 
-/// Bytes can be split into messages in at most one way.
+/// The bytes of a connection can be split into messages in at most one way.
 pub fn one_reading()
     ensures { OneReading }
 {
@@ -14,28 +14,31 @@ pub fn one_reading()
     kds_head::no_bytes_need_more();
 }
 
-/// Suppose that `next` has returned no command. Then the commands returned so far are exactly the commands in all the
-/// bytes fed to the session. The bytes written so far are exactly the responses, given the answers to these commands.
-/// The session's state shows how the fed bytes end. So nothing depends on the pieces in which the bytes arrived.
+/// Suppose that `Session::next` has just returned `None`. Then the commands returned so far are exactly the commands in
+/// all the bytes fed to the session. The bytes written so far are exactly the responses to all these bytes, with the
+/// answers that the commands got. The session's state says where the fed bytes end: between messages, inside a message,
+/// after the last message, or with a refusal. So neither commands nor responses depend on the pieces in which the bytes
+/// arrived.
 pub fn whole_text()
     ensures { WholeText }
 {}
 
-/// Once the session isn't live, further bytes don't change anything.
+/// Once the connection of a session closes or was refused, further bytes have no effect.
 pub fn nothing_follows()
     ensures { NothingFollows }
 {}
 
-/// At every moment, and whatever bytes and answers follow, the commands returned so far are the first commands of all
-/// bytes, and the bytes written so far are a prefix of the whole output.
+/// At every moment, the commands returned so far are the first commands in the bytes of the connection, whatever bytes
+/// follow. The bytes written so far are a prefix of the whole output, whatever bytes and answers follow.
 pub fn first_part()
     ensures { FirstPart }
 {
     one_reading();
 }
 
-/// States the limits as numbers, since the definitions refer to the code's constants by name. A session keeps at most
-/// an unfinished message and one fed piece.
+/// States the limits as plain numbers. The definitions in `specs` refer to these numbers only by the names of the
+/// code's constants. A session never has more unread bytes than the size of the largest message (a head and a body)
+/// plus the size of one piece.
 pub fn session_limits()
     ensures requests { REQUESTS ≡ 1000000 }
     ensures piece { PIECE_BYTES ≡ 65536 }

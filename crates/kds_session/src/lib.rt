@@ -1,5 +1,6 @@
-//! One connection over HTTP/1.x, without its I/O: bytes are fed in pieces, the commands of their requests come out,
-//! answers go in, and the bytes of the responses come out (RFC 9112).
+//! One HTTP/1.x connection as a state machine without I/O (RFC 9112). The caller feeds it the bytes that arrive, in
+//! pieces. The state machine returns the commands that the requests contain, takes the answers to these commands, and
+//! makes the bytes of the responses.
 #![tactic(auto)]
 
 mod front;

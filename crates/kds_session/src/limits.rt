@@ -1,14 +1,17 @@
 //! The limits of a session.
 
-/// The most requests on one connection. The connection closes after the last of them (RFC 9112, section 9.6).
+/// The maximum number of requests on one connection. The connection closes after the response to the last of them (RFC
+/// 9112, section 9.6).
 pub const REQUESTS: u32 = 1_000_000;
 
-/// The most bytes that are fed at once. If no whole message is unread, a session accepts at least this many.
+/// The greatest number of bytes in a piece. A piece is the bytes that one read from the connection returns. If a
+/// session is live and has no whole message among its unread bytes, it can be fed at least this many bytes.
 pub const PIECE_BYTES: usize = 65_536;
 
-/// If a request has at most this many bytes, its memory is reused for the next request. The memory grows by doubling,
-/// so a connection keeps at most 1.2 MB of it.
+/// If a request has at most this many bytes, its buffer is kept for the next request. The capacity of the buffer grows
+/// by doubling, so it can be larger than the request. A connection keeps at most 1.3 MB for this buffer.
 pub const KEPT_REQUEST_BYTES: usize = 524_288;
 
-/// The most unread bytes of a session: the most bytes of a head, of a body and of a piece together.
+/// The greatest number of unread bytes of a session. It is the sum of the largest sizes of a head, of a body and of a
+/// piece.
 pub const UNREAD_BYTES: usize = 16_859_136;

@@ -1,4 +1,4 @@
-//! The bytes of responses that have yet to be sent.
+//! The queue of the response bytes that have yet to be sent.
 ghost use Rattle.std.specs.Prelude.{◌≡◌, ◌≤◌, [], ◌++◌, drop, length, true, IfOk, OnOk, OnErr};
 ghost use Rattle.kds_defs.specs.Kinds.{is_service_answer};
 ghost use Rattle.kds_head.specs.Response.{IsResponse, response_text};
@@ -12,14 +12,17 @@ use kds_reply::{add_reply, reply};
 use std::alloc::Global;
 use std::marker::Model;
 
-/// A buffer of at most this many bytes is reused.
+/// When all bytes of an output were sent, its buffer is kept for reuse if it contains at most this many bytes, and
+/// freed otherwise.
 const KEPT_BYTES: usize = 1_048_576;
 
-/// Placeholder bytes before a body. The headers are written over them later.
+/// Placeholder bytes before the body of a response. The status line and the headers are later written over the end of
+/// these bytes.
 static GAP: [u8; FRONT_BYTES] = [0; FRONT_BYTES];
 
-/// Writes the response to a command into `text`, and returns the index at which it begins. It appends the body after a
-/// gap, and then writes the headers into the gap, directly before the body.
+/// Writes the response to a command into `text`, and returns the index at which the response begins. The body is
+/// appended after a gap. The status line and the headers are then written into the gap, directly before the body.
+/// Preconditions: `text` is empty, and `answer` is an answer of the stream service.
 fn write_response(
     alloc: Global,
     answer: &Answer,
@@ -36,13 +39,14 @@ fn write_response(
     Ok(put_front(status, true, close, text.as_mut_slice(), GAP.len()))
 }
 
-/// A queue of bytes: they are appended at the end, and removed from the front once they were sent. Contracts see the
-/// remaining bytes.
+/// A queue of response bytes. Bytes are appended at the end, and are removed from the front after they were sent. In a
+/// contract, an output is the list of its remaining bytes.
 #[derive(Drop)]
 pub struct Output {
     alloc: Global,
     text: Octets,
-    /// The number of bytes at the front of `text` that were already sent.
+    /// The index in `text` of the first byte that remains to be sent. The bytes before this index were already sent, or
+    /// are the unused bytes of a gap (see `GAP`).
     sent: usize,
 }
 
@@ -57,7 +61,7 @@ impl Model for Output {
 }
 
 impl Output {
-    /// An empty output. It allocates no memory.
+    /// Returns an empty output. This allocates no memory.
     pub fn new(alloc: Global) -> Output
         ensures { result ≡ [] }
     {
@@ -68,7 +72,7 @@ impl Output {
         }
     }
 
-    /// The remaining bytes.
+    /// Returns the bytes that remain to be sent.
     pub fn as_slice(&self) -> &[u8]
         ensures { result.now ≡ self.now }
     {
@@ -76,8 +80,8 @@ impl Output {
         left
     }
 
-    /// Removes `count` bytes from the front. After the last byte, the buffer is kept for reuse if it is small, and
-    /// otherwise freed.
+    /// Removes `count` bytes from the front. If no byte remains, the buffer is kept for reuse if it contains at most
+    /// `KEPT_BYTES` bytes, and freed otherwise. Precondition: at least `count` bytes remain.
     pub fn advance(&mut self, count: usize)
         requires { count ≤ length self.old }
         ensures { self.new ≡ drop count self.old }
@@ -91,7 +95,7 @@ impl Output {
         }
     }
 
-    /// Removes all bytes. A buffer of at most `KEPT_BYTES` bytes is kept for reuse.
+    /// Removes all bytes. The buffer is kept for reuse if it contains at most `KEPT_BYTES` bytes, and freed otherwise.
     fn empty(&mut self)
         ensures { self.new ≡ [] }
     {
@@ -111,8 +115,9 @@ impl Output {
         self.text.extend(bytes)
     }
 
-    /// Appends the response to a command. Precondition: `answer` is one of the stream service, and not one to a command
-    /// for leases. If memory runs out, the output is unchanged.
+    /// Appends the response that contains `answer`. `close` states whether the connection closes after this response.
+    /// Precondition: `answer` is an answer of the stream service, not an answer to a command on leases. If memory runs
+    /// out, the output is unchanged.
     pub fn answer(&mut self, answer: &Answer, close: bool) -> Result<(), Memory>
         requires { is_service_answer answer.now ≡ true }
         ensures ok { OnOk result (self.new ≡ self.old ++ answered (reply_of answer.now) close) }
@@ -125,8 +130,8 @@ impl Output {
         self.respond(status, body.as_slice(), close)
     }
 
-    /// Does the same as `answer` for an empty output: the body is written in place, and not copied. If memory runs out,
-    /// the buffer is freed.
+    /// Does the same as `answer` for an empty output, but writes the body in place instead of copying it. If memory
+    /// runs out, the output stays empty. If this happens while the response is being written, the buffer is also freed.
     fn begin(&mut self, answer: &Answer, close: bool) -> Result<(), Memory>
         requires nothing { self.old ≡ [] }
         requires own { is_service_answer answer.now ≡ true }
@@ -142,7 +147,8 @@ impl Output {
         Ok(())
     }
 
-    /// Appends a response of the service. If memory runs out, the output is unchanged.
+    /// Appends a response of the stream service with this status and this JSON body. If memory runs out, the output is
+    /// unchanged.
     fn respond(&mut self, status: u16, body: &[u8], close: bool) -> Result<(), Memory>
         requires { IsResponse status body.now true close }
         ensures ok { OnOk result (self.new ≡ self.old ++ response_text status body.now true close) }
@@ -152,8 +158,9 @@ impl Output {
         response(self.alloc, status, body, true, close, &mut self.text)
     }
 
-    /// Drops the sent bytes unless they are fewer than the remaining ones. Afterwards the buffer holds at most twice
-    /// the remaining bytes. `extend` doesn't call it, so between two answers all sent bytes may still be in the buffer.
+    /// Removes the sent bytes from the buffer if the buffer contains at least as many sent bytes as remaining bytes.
+    /// Afterwards the buffer contains at most twice as many bytes as remain to be sent. Since `extend` doesn't call
+    /// this function, the buffer may contain any number of sent bytes until the next answer is appended.
     fn compact(&mut self) -> Result<(), Memory>
         ensures { self.new ≡ self.old }
     {

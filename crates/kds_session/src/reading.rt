@@ -1,4 +1,6 @@
-//! Reads a session's unread bytes up to the next command.
+//! Reads messages from a session's unread bytes until a message contains a command. The unread bytes are those that
+//! were fed to the session and not yet consumed. A message without a valid command is a faulty request, and is answered
+//! with an error.
 ghost use Rattle.std.specs.Prelude.{◌≡◌, ◌<◌, ◌≤◌, ◌^◌, ◌++◌, ◌||◌, [], ℕ, List, drop, length, take, nat_le, true, false, None, IfOk, IfSome, IsUtf8, OnOk};
 ghost use Rattle.kds_defs.specs.declared.command.Command.{Command};
 ghost use Rattle.kds_head.specs.Response.{is_refusal, response_text};
@@ -20,31 +22,31 @@ use kds_json_members::Fault;
 use kds_reply::fault;
 use std::alloc::Global;
 
-/// The progress made so far on the way to the next command. The session takes it over in one step at the end, so that
-/// the session is unchanged if memory runs out on the way.
+/// The progress of a call of `Session::next` on the way to the next command. The session adopts the progress in one
+/// step at the end, so the session is unchanged if memory runs out before that step.
 #[derive(Drop)]
 pub struct Reading {
-    /// The number of the unread bytes that were read.
+    /// The number of bytes consumed so far, out of those that were unread at the start.
     pub read: usize,
-    /// The number of requests that may still arrive.
+    /// How many further requests are allowed on the connection.
     pub left: u32,
-    /// The responses to faulty requests, and the response to a refused head.
+    /// The bytes of the responses to faulty requests, and of the response to a refused head.
     pub answers: Octets,
     pub standing: Standing,
     pub waiting: Waiting,
 }
 
-/// The result of reading one message.
+/// The result of an attempt to read one message.
 #[derive(Drop)]
 pub enum Step {
-    /// Nothing further can be read now.
+    /// No further message can be read now: bytes are missing, or the connection closes.
     Stop,
-    /// A faulty request was answered, and the connection stays open.
+    /// A faulty request was answered with an error, and the connection stays open.
     Answered,
     Command(Command),
 }
 
-/// The bytes after the first `read` bytes.
+/// Returns `bytes` without the first `read` bytes.
 fn after(bytes: &[u8], read: usize) -> &[u8]
     requires { read ≤ length bytes.now }
     ensures { result.now ≡ drop read bytes.now }
@@ -53,7 +55,7 @@ fn after(bytes: &[u8], read: usize) -> &[u8]
     rest
 }
 
-/// The body of the message with this head, which is at the front of the unread bytes.
+/// Returns the body of the complete message at the front of the unread bytes. `head` is the head of this message.
 fn body_of<'a>(unread: &'a [u8], head: &Head) -> &'a [u8]
     requires { IsWhole unread.now head.now }
     ensures { result.now ≡ take head.now.body (drop head.now.length unread.now) }
@@ -63,7 +65,7 @@ fn body_of<'a>(unread: &'a [u8], head: &Head) -> &'a [u8]
     body
 }
 
-/// Appends the response to a faulty request.
+/// Appends to `to` the response to a faulty request. `close` states whether the connection closes after this response.
 fn put_fault(alloc: Global, problem: &Fault, close: bool, to: &mut Octets) -> Result<(), Memory>
     requires { IsUtf8 problem.now.member }
     ensures { OnOk result (to.new ≡ to.old ++ answered (fault_reply problem.now) close) }
@@ -77,7 +79,8 @@ impl Reading {
     ghost use Rattle.kds_session.specs.Next.{GivesNext, IsWaiting, IsFewer};
     ghost use Rattle.kds_session.specs.Steps.{read_state, Steps, IsFree, IsKept, IsPlainly};
 
-    /// The start of a reading, on a live connection that may take `left` further requests.
+    /// Returns the progress at the start, when no byte has been consumed yet. The connection is live and allows `left`
+    /// further requests.
     pub fn new(alloc: Global, left: u32) -> Reading
         ensures { result ≡ record { read = 0; left = left; answers = []; standing = Standing.Live; waiting = Waiting.Nothing } }
     {
@@ -90,14 +93,15 @@ impl Reading {
         }
     }
 
-    /// Whether the connection closes after the message with this head.
+    /// Whether the connection closes after the response to the message with this head. It closes if the head asks for
+    /// this, or if no request is allowed after this message.
     fn closes(&self, head: &Head) -> bool
         ensures { result ≡ (head.now.close || nat_le self.now.left 1) }
     {
         head.close || self.left <= 1
     }
 
-    /// Counts a message of `size` bytes as read. One request fewer may then arrive.
+    /// Records that a message of `size` bytes was consumed. One request fewer is then allowed.
     fn pass(&mut self, size: usize)
         requires { self.old.read + size < 2 ^ 64 }
         ensures { self.new ≡ record self.old { read = self.old.read + size; left = self.old.left - 1 } }
@@ -106,7 +110,7 @@ impl Reading {
         self.left = self.left.saturating_sub(1);
     }
 
-    /// Answers with a refusal of the connection, which then closes.
+    /// Refuses the connection: appends a response with this status and without a body. The connection then closes.
     fn refuse(&mut self, alloc: Global, status: u16) -> Result<(), Memory>
         requires { is_refusal status ≡ true }
         ensures { OnOk result (self.new ≡ record self.old {
@@ -126,7 +130,8 @@ impl Reading {
         Ok(())
     }
 
-    /// Reads the message with this head, which is at the front of the unread bytes.
+    /// Reads the complete message at the front of the unread bytes. `head` is the head of this message. Returns the
+    /// command that the message contains. If the message is a faulty request, it is answered with an error instead.
     fn message(&mut self, alloc: Global, bytes: &[u8], head: &Head) -> Result<Step, Memory>
         requires room { self.old.read ≤ length bytes.now }
         requires whole { IsWhole (drop self.old.read bytes.now) head.now }
@@ -159,8 +164,9 @@ impl Reading {
         }
     }
 
-    /// Reads one message at the front of the unread bytes. `kept` is the head of this message if it was found before.
-    /// If the body isn't complete yet, the head is stored there.
+    /// Reads the message at the front of the unread bytes if the message is complete. If its head is refused, refuses
+    /// the connection instead. `kept` is the message's head if an earlier call found it. If only the head is complete,
+    /// the head is stored in `kept`.
     fn read_message(
         &mut self,
         alloc: Global,
@@ -190,8 +196,9 @@ impl Reading {
         }
     }
 
-    /// Reads messages until a command is found or nothing further can be read; faulty requests are answered on the way.
-    /// If a body isn't complete yet, its head is stored in `kept`.
+    /// Reads messages until one contains a command, and returns this command. The faulty requests before it are
+    /// answered. Returns `None` if no further message can be read. If the next message then has a complete head but an
+    /// incomplete body, this head is stored in `kept`.
     pub fn to_command(
         &mut self,
         alloc: Global,

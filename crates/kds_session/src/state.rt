@@ -5,11 +5,11 @@ ghost use Rattle.kds_session.specs.States as spec;
 /// The state of a connection.
 #[derive(Clone, Copy, Debug, PartialEq, Eq)]
 pub enum Standing {
-    /// Requests may arrive.
+    /// Further requests may arrive.
     Live,
-    /// The last response closes the connection (RFC 9112, section 9.6).
+    /// The last response was added to the output, and the connection closes after it (RFC 9112, section 9.6).
     Closed,
-    /// The connection was refused with this status, one of the statuses that `kds_head::Found` lists.
+    /// The connection was refused with this HTTP status, one of those that `kds_head::Found` lists.
     Refused(u16),
 }
 
@@ -18,11 +18,12 @@ pub enum Standing {
 pub enum Waiting {
     Nothing,
     Answer,
-    /// A command waits, and the connection closes after its answer.
+    /// A command waits for its answer, and the connection closes after this answer.
     LastAnswer,
 }
 
-/// The state in which a command waits. `close` is true if the connection closes after its answer.
+/// Returns the state in which a command waits for its answer. `close` states whether the connection closes after this
+/// answer.
 pub fn waiting_for(close: bool) -> Waiting
     ensures { result ≡ spec.waiting_for close }
 {
@@ -33,7 +34,7 @@ pub fn waiting_for(close: bool) -> Waiting
     }
 }
 
-/// Whether the connection closes after the answer that is waited for.
+/// Whether a command waits for its answer and the connection closes after this answer.
 pub fn is_last(waiting: Waiting) -> bool
     ensures { result ≡ spec.is_last waiting }
 {
@@ -43,7 +44,8 @@ pub fn is_last(waiting: Waiting) -> bool
     }
 }
 
-/// The state of the connection after a response. `close` is true if the response closes the connection.
+/// Returns the state of the connection after a response. `standing` is the state before this response, and `close`
+/// states whether the connection closes after this response.
 pub fn standing_after(close: bool, standing: Standing) -> Standing
     ensures { result ≡ spec.standing_after close standing }
 {

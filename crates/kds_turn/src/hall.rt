@@ -1,4 +1,5 @@
-//! One machine that the holders of passes share. One turn is made at a time.
+//! The hall: a lock around one machine, which several threads share. A turn is one command, applied to the machine as a
+//! whole. A pass is the right of one thread to make turns. A note tells one pass which turns another pass has seen.
 ghost use Rattle.std.specs.Prelude.{◌≡◌, ◌≢◌, ℕ, ◌+◌, ◌-◌, ◌<◌, ◌≤◌, ◌^◌, List, [], ◌∷◌, ◌++◌, length, map, IfOk, IfErr, OnOk, OnErr, Err, IsOk, ◌↔◌, vec_capacity, Some, true, false};
 ghost use Rattle.std.specs.List.{range_with_len};
 ghost use Rattle.kds_defs.specs.Histories.{journal, clock};
@@ -26,12 +27,13 @@ use std::snapshot::Snapshot;
 use std::sync::Wait;
 use std::sync::atomic::AtomicU64;
 
-/// One machine that the holders of passes share. One turn is made at a time. Contracts see the identity of the hall
-/// and its number of passes.
+/// A machine that several threads share, with a lock around it. Each thread uses a pass to apply commands to the
+/// machine, and one command is applied at a time. In contracts, a hall is represented by its identity and its number of
+/// passes.
 #[derive(Drop)]
 pub struct Hall<M: Machine> {
     table: Table<Option<M>, View, u32, InOrder<M>, Global>,
-    /// The number of holders of passes that sleep until the lock is released.
+    /// The number of threads that sleep, or are about to sleep, until the lock is released.
     sleepers: AtomicU64,
 }
 
@@ -47,8 +49,9 @@ impl<M: Machine> Model for Hall<M> {
 }
 
 impl<M: Machine> Hall<M> {
-    /// A hall for the machine, and its passes in the order of their numbers, which begin with 1. If memory runs out,
-    /// the machine is returned.
+    /// Makes a hall for the machine. Returns the hall and its passes, which have the numbers from 1 to `passes`, in
+    /// this order. If memory runs out, the machine is returned. Preconditions: there is at least one pass, and the
+    /// machine has made no turn yet.
     pub fn new(
         alloc: Global,
         machine: M,
@@ -79,7 +82,9 @@ impl<M: Machine> Hall<M> {
         Ok((hall, made))
     }
 
-    /// The passes with the numbers from 1 to `passes`, in order.
+    /// Returns the passes with the numbers from 1 to `passes`, in order. `made` is an empty vector with enough capacity
+    /// for the passes. `first` is the seat (handle of the hall's table) from which the seats of all passes are split
+    /// off.
     fn make_passes(&self, mut made: Vec<Pass<M>>, mut first: Seat<M>, passes: u32) -> Vec<Pass<M>>
         requires some { 1 ≤ passes }
         requires room { (made.items ≡ []) × (passes ≤ vec_capacity made) }
@@ -95,7 +100,8 @@ impl<M: Machine> Hall<M> {
         made
     }
 
-    /// Waits for the lock, and then makes one turn of the machine under the pass's number.
+    /// Waits for the lock, and then applies the command to the machine, as a turn under the pass's number. If an error
+    /// is returned, the turn wasn't made.
     pub fn turn<R: Wait>(
         &self,
         rt: &R,
@@ -141,7 +147,8 @@ impl<M: Machine> Hall<M> {
         }
     }
 
-    /// Joins the pass `other` into `pass`. Afterwards `pass` has seen all turns that either of them had seen.
+    /// Merges the pass `other` into `pass`. Afterwards `pass` has seen all turns that either of the two passes had
+    /// seen.
     pub fn join(&self, pass: &mut Pass<M>, other: Pass<M>)
         requires hall { (pass.old.hall ≡ self.now.id) × (other.hall ≡ self.now.id) }
         ensures kept { (pass.new.hall ≡ pass.old.hall) × (pass.new.by ≡ pass.old.by) × (pass.new.own ≡ pass.old.own) }
@@ -153,7 +160,7 @@ impl<M: Machine> Hall<M> {
         load_turns(&self.table.shared, &mut pass.seat);
     }
 
-    /// A note of the turns that the pass has seen.
+    /// Returns a note of the turns that the pass has seen, for another pass to learn. The result is always `Ok`.
     pub fn tell(&self, pass: &mut Pass<M>) -> Result<Note<M>, Memory>
         requires hall { pass.old.hall ≡ self.now.id }
         ensures same { pass.new ≡ pass.old }
@@ -175,8 +182,8 @@ impl<M: Machine> Hall<M> {
         load_turns(&self.table.shared, &mut pass.seat);
     }
 
-    /// Closes the hall. All other passes must have been joined into `pass`. Returns the machine, and the history that
-    /// the machine stands for.
+    /// Closes the hall. Precondition: all other passes were joined into `pass`. Returns the machine, and the history of
+    /// all turns that the machine has made.
     pub fn close(self, pass: Pass<M>) -> (M, Past<M>)
         requires hall { pass.hall ≡ self.id }
         requires all { HasAll self.passes pass }
@@ -197,7 +204,7 @@ impl<M: Machine> Hall<M> {
     }
 }
 
-/// Takes the machine out of the only slot.
+/// Returns the machine in the only slot of `slots`.
 fn only<M>(mut slots: Vec<Option<M>>) -> M
     requires { (machine : M) × (slots.items ≡ Some machine ∷ []) }
     ensures { slots.items ≡ Some result ∷ [] }

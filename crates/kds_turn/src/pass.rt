@@ -1,12 +1,14 @@
-//! Passes, and the turns that their holders know of.
+//! Passes and notes. A pass is the right of one thread to make turns, which apply commands to the machine of a hall. A
+//! hall is a lock around one machine. A note tells one pass which turns another pass has seen.
 ghost use Rattle.std.specs.Prelude.{◌≡◌, length};
 
 use crate::steps::Seat;
 use std::marker::Model;
 use thiserror::Error;
 
-/// The right to make turns under one number. Contracts see the pass's number, the turns that it has seen, its own
-/// turns, and the turns of the passes that were joined into it.
+/// The right of one thread to make turns. The number of the pass is the sender's number in these turns. In contracts, a
+/// pass is represented by its hall, its number, the turns that it has seen (its causal past), its own turns, and the
+/// numbers and turns of the passes that were joined into it.
 #[derive(Drop)]
 pub struct Pass<M> {
     pub(crate) by: u32,
@@ -35,7 +37,7 @@ impl<M> Model for Pass<M> {
 }
 
 impl<M> Pass<M> {
-    /// The number of the pass.
+    /// Returns the number of the pass.
     pub fn by(&self) -> u32
         ensures { result ≡ self.now.by }
     {
@@ -43,7 +45,7 @@ impl<M> Pass<M> {
     }
 }
 
-/// The turns that a pass had seen when the note was made. A pass that learns the note has seen at least these turns.
+/// The turns that a pass had seen when it made this note. A pass that learns the note has then seen these turns too.
 #[derive(Drop)]
 pub struct Note<M> {
     pub(crate) seat: Seat<M>,
@@ -61,7 +63,8 @@ impl<M> Model for Note<M> {
     ghost invariant = { λ n. IsIdle n.seat.me × (n.seat.me.0.accounts ≡ []) };
 }
 
-/// The history of a closed hall. Contracts see it as a list of turns.
+/// The history of a closed hall. In contracts, it is the list of all turns, the newest first. At run time, only the
+/// number of turns is kept.
 #[derive(Drop)]
 pub struct Past<M> {
     pub(crate) turns: u64,
@@ -80,7 +83,7 @@ impl<M> Model for Past<M> {
 }
 
 impl<M> Past<M> {
-    /// The number of turns in the history.
+    /// Returns the number of turns in the history.
     pub fn turns(&self) -> u64
         ensures { result ≡ length self.now }
     {
@@ -94,7 +97,7 @@ pub enum TurnErr {
     /// Memory ran out.
     #[error("out of memory")]
     Memory,
-    /// The history already has the greatest number of turns that can be counted.
+    /// The history already has 2^64 - 1 turns, the most that can be counted.
     #[error("the history is full")]
     Spent,
 }

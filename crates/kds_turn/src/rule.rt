@@ -1,4 +1,8 @@
-//! The rules of the hall's table: how each kind of step changes what seats know.
+//! A hall is a lock around one machine. A turn is one command, applied to the machine. A pass is the right of one
+//! thread to make turns. A hall has a table with three atomic words and one slot for the machine. A seat is a handle of
+//! the table. This file has the rules of the table. In proofs, a seat has a view: what the seat knows of the history of
+//! turns. The view has accounts. An account is the number of a pass, together with the turns that were made under this
+//! number. Each type of step states how the step changes the view.
 ghost use Rattle.kds_turn.specs.Known.{first_view, note_of, keeps_rest, gets_second, both, nobody};
 ghost use Rattle.kds_turn.specs.Rule.{Orderly};
 ghost use Rattle.kds_turn.specs.Plays.{Grabs, Looked, Appended, Freed};
@@ -8,7 +12,8 @@ use atomic_table::{Join, Play, Split, TableRule};
 use kds_defs::Machine;
 use std::marker::{Brand, PhantomData};
 
-/// The rule of a hall's table. The key of the table is the number of passes.
+/// The invariant that every step on a hall's table preserves. The invariant depends on the key of the table. This key
+/// is the number of passes.
 pub struct InOrder<M> {
     marker: PhantomData<M>,
 }
@@ -19,7 +24,7 @@ impl<M: Machine> TableRule<Option<M>, View, u32> for InOrder<M> {
     ghost first = { first_view };
 }
 
-/// The step that acquires the lock, and with it the slot of the machine.
+/// The step that tries to acquire the lock, and with it the slot that contains the machine.
 pub struct Grab<M> {
     marker: PhantomData<M>,
 }
@@ -28,14 +33,14 @@ impl<M: Machine> Play<Option<M>, View> for Grab<M> {
     ghost then = { Grabs M.stands_for };
 }
 
-/// The step that loads the number of turns. The seat has then seen all these turns.
+/// The step that loads the number of turns in the history. The seat that makes this step has then seen all these turns.
 pub struct Look;
 
 impl<M> Play<Option<M>, View> for Look {
     ghost then = { λ st m found n. Looked m found n };
 }
 
-/// The turn that an `Append` step adds to the history. The caller chooses this turn.
+/// States, for proofs, the turn that an `Append` step adds to the history. The caller of the step chooses this turn.
 pub trait Next {
     ghost use Rattle.kds_defs.specs.declared.command.Turn.{Turn};
 
@@ -48,7 +53,7 @@ impl Next for Brand {
     ghost turn = { record { by = 0; at = 0; what = Survey } };
 }
 
-/// The step that adds a turn to the history.
+/// The step that adds one turn to the history.
 pub struct Append<N> {
     marker: PhantomData<N>,
 }
@@ -57,14 +62,14 @@ impl<M, N: Next> Play<Option<M>, View> for Append<N> {
     ghost then = { λ st m found n. Appended N.turn m n };
 }
 
-/// The step that releases the lock, and with it the slot of the machine.
+/// The step that releases the lock, and with it the slot that contains the machine.
 pub struct Free;
 
 impl<M> Play<Option<M>, View> for Free {
     ghost then = { λ st m found n. Freed m n };
 }
 
-/// The step that makes a new pass, which gets the account of the second number.
+/// The step that makes the seat of a new pass. The second account of the old seat moves to the new seat.
 pub struct Deal;
 
 impl Split<View> for Deal {
@@ -73,7 +78,7 @@ impl Split<View> for Deal {
     ghost right = { gets_second };
 }
 
-/// The step that makes a note, which gets the turns that the seat has seen.
+/// The step that makes the seat of a note. The new seat has seen the same turns as the seat of the pass.
 pub struct Tell;
 
 impl Split<View> for Tell {
@@ -82,7 +87,8 @@ impl Split<View> for Tell {
     ghost right = { note_of };
 }
 
-/// The step by which a pass takes over another seat: the turns that this seat has seen, and its accounts.
+/// The step that joins another seat into the seat of a pass. The pass's seat then has the accounts of both seats, and
+/// knows the turns that either seat had seen.
 pub struct Merge;
 
 impl Join<View> for Merge {

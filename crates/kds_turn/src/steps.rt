@@ -1,4 +1,7 @@
-//! The steps on the hall's table. Each step is made from a seat.
+//! A hall is a lock around one machine. A turn is one command, applied to the machine. A pass is the right of one
+//! thread to make turns. A seat is a handle of the hall's table. This file has the atomic steps that are made on the
+//! table through a seat. In proofs, a seat has accounts. Each account is the number of a pass, together with the turns
+//! that were made under this number.
 ghost use Rattle.std.specs.Prelude.{◌≡◌, ◌≢◌, ℕ, ◌+◌, ◌<◌, ◌^◌, [], ◌∷◌, length, true, false, Some, None};
 ghost use Rattle.kds_defs.specs.Lawful.{IsLawful};
 ghost use Rattle.kds_turn.specs.Known.{first_number, keeps_rest, gets_second, note_of, both};
@@ -13,22 +16,23 @@ use std::snapshot::Snapshot;
 use std::sync::Wait;
 use std::sync::atomic::{AtomicU64, Ordering};
 
-/// A seat at the hall's table, from which steps are made.
+/// A seat at a hall's table: the handle through which steps are made. Each pass and each note has a seat.
 pub type Seat<M> = atomic_table::Seat<Option<M>, View>;
 
-/// The table of a hall: the slot of the hall's machine, and what the seats know.
+/// The table of a hall: three atomic words, the slot that contains the machine, and, in proofs, what each seat knows.
 pub type Board<M> = Shared<Option<M>, View, u32, InOrder<M>>;
 
-/// The index of the word that holds the number of turns. Word 1 holds the number of passes.
+/// The index of the table's word that contains the number of turns in the history. Word 1 contains the number of
+/// passes.
 const TURNS: usize = 0;
 
-/// The index of the word that holds the number of the pass with the lock, or 0 while the lock is free.
+/// The index of the table's word that contains the number of the pass with the lock, or 0 while the lock is free.
 const HOLDER: usize = 2;
 
-/// The number of times that a waiting pass checks whether the lock was released, before it sleeps.
+/// How many times a waiting thread checks whether the lock was released, before the thread sleeps.
 const LOOKS: u32 = 100;
 
-/// Waits until the lock is free, and acquires it.
+/// Waits until the lock is free, and acquires it for the pass with the number `by`.
 pub fn lock<M: Machine, R: Wait>(
     rt: &R,
     board: &Board<M>,
@@ -51,9 +55,9 @@ pub fn lock<M: Machine, R: Wait>(
     unreachable!()
 }
 
-/// Waits while the pass with the number `holder` has the lock: it first spins, and then sleeps. It may return while
-/// that pass still has the lock. No sleeper is missed: a sleeper is counted before it reads the word for the last
-/// time, and `unlock` reads the count after it has written the word.
+/// Waits for the pass with the number `holder` to release the lock: spins first, and then sleeps. May return while that
+/// pass still has the lock. `unlock` overlooks no sleeping thread: a thread is counted in `sleepers` before it reads
+/// the lock's word for the last time, and `unlock` reads this count after it has written the word.
 fn wait<M: Machine, R: Wait>(rt: &R, board: &Board<M>, sleepers: &AtomicU64, holder: u64)
     requires { board.now.table_id.words ≡ 3 }
 {
@@ -68,7 +72,7 @@ fn wait<M: Machine, R: Wait>(rt: &R, board: &Board<M>, sleepers: &AtomicU64, hol
     sleepers.fetch_sub(1, Ordering::SeqCst);
 }
 
-/// Loads the number of turns. The seat has then seen all these turns.
+/// Returns the number of turns in the history. The seat has then seen all these turns.
 pub fn load_turns<M: Machine>(board: &Board<M>, seat: &mut Seat<M>) -> u64
     requires { (seat.old.table_id ≡ board.now.table_id) × (board.now.table_id.words ≡ 3) × (board.now.table_id.slots ≡ 1) }
     ensures seat { (seat.new.table_id ≡ seat.old.table_id) × (seat.new.id ≡ seat.old.id) }
@@ -77,7 +81,7 @@ pub fn load_turns<M: Machine>(board: &Board<M>, seat: &mut Seat<M>) -> u64
     board.load::<Look>(seat, TURNS)
 }
 
-/// Takes the machine out of the slot.
+/// Takes the machine out of the slot. Precondition: the seat has the lock.
 pub fn take_machine<M: Machine>(board: &Board<M>, seat: &mut Seat<M>) -> M
     requires { (seat.old.table_id ≡ board.now.table_id) × HasTurn M.stands_for seat.old.me }
     ensures seat { (seat.new.table_id ≡ seat.old.table_id) × (seat.new.id ≡ seat.old.id) }
@@ -87,7 +91,7 @@ pub fn take_machine<M: Machine>(board: &Board<M>, seat: &mut Seat<M>) -> M
     board.exchange(seat, 0, None).unwrap()
 }
 
-/// Puts the machine back into the slot.
+/// Puts the machine back into the slot. Precondition: the seat has the lock, and the slot is empty.
 pub fn put_machine<M: Machine>(board: &Board<M>, seat: &mut Seat<M>, machine: M)
     requires { (seat.old.table_id ≡ board.now.table_id) × HasEmpty seat.old.me }
     ensures seat { (seat.new.table_id ≡ seat.old.table_id) × (seat.new.id ≡ seat.old.id) }
@@ -97,7 +101,7 @@ pub fn put_machine<M: Machine>(board: &Board<M>, seat: &mut Seat<M>, machine: M)
     let None = empty else { unreachable!() };
 }
 
-/// Adds the turn to the history.
+/// Adds the turn to the history. At run time, this increases the number of turns by one.
 pub fn append<M: Machine, N: Next>(board: &Board<M>, seat: &mut Seat<M>, _turn: &Snapshot<Turn>)
     requires board { (seat.old.table_id ≡ board.now.table_id) × (board.now.table_id.words ≡ 3) × (board.now.table_id.slots ≡ 1) }
     requires seat { (seat.old.me.0.busy ≡ true) × (seat.old.me.0.told ≡ []) }
@@ -109,7 +113,7 @@ pub fn append<M: Machine, N: Next>(board: &Board<M>, seat: &mut Seat<M>, _turn: 
     board.fetch_add::<Append<N>>(seat, TURNS, 1);
 }
 
-/// Releases the lock, and wakes one sleeper, if any.
+/// Releases the lock, and wakes one sleeping thread, if any.
 pub fn unlock<M: Machine>(board: &Board<M>, sleepers: &AtomicU64, seat: &mut Seat<M>)
     requires board { (seat.old.table_id ≡ board.now.table_id) × (board.now.table_id.words ≡ 3) × (board.now.table_id.slots ≡ 1) }
     requires seat { HasTurn M.stands_for seat.old.me }
@@ -122,7 +126,8 @@ pub fn unlock<M: Machine>(board: &Board<M>, sleepers: &AtomicU64, seat: &mut Sea
     }
 }
 
-/// A new seat, which takes over the second account of `seat`.
+/// Splits a new seat off `seat`, and moves the second account of `seat` to the new seat. This account has the number of
+/// another pass.
 pub fn split_seat<M: Machine>(board: &Board<M>, seat: &mut Seat<M>) -> Seat<M>
     requires board { (seat.old.table_id ≡ board.now.table_id) × (board.now.table_id.words ≡ 3) }
     requires seat { IsIdle seat.old.me }
@@ -132,7 +137,7 @@ pub fn split_seat<M: Machine>(board: &Board<M>, seat: &mut Seat<M>) -> Seat<M>
     board.split_seat::<Deal>(seat)
 }
 
-/// A new seat that has seen the same turns as `seat` and has no accounts.
+/// Makes a new seat that has seen the same turns as `seat` and has no accounts.
 pub fn note_seat<M: Machine>(board: &Board<M>, seat: &mut Seat<M>) -> Seat<M>
     requires board { (seat.old.table_id ≡ board.now.table_id) × (board.now.table_id.words ≡ 3) }
     requires seat { IsIdle seat.old.me }
@@ -142,7 +147,8 @@ pub fn note_seat<M: Machine>(board: &Board<M>, seat: &mut Seat<M>) -> Seat<M>
     board.split_seat::<Tell>(seat)
 }
 
-/// Joins the seat `other` into `seat`, which takes over the turns that `other` has seen, and its accounts.
+/// Joins the seat `other` into `seat`. Then `seat` also has the accounts of `other`, and knows the turns that `other`
+/// had seen.
 pub fn join_seats<M: Machine>(board: &Board<M>, seat: &mut Seat<M>, other: Seat<M>)
     requires board { (seat.old.table_id ≡ board.now.table_id) × (other.table_id ≡ board.now.table_id) × (board.now.table_id.words ≡ 3) }
     requires seats { IsIdle seat.old.me × IsIdle other.me }

@@ -1,4 +1,6 @@
-//! What a seat of the hall knows. These types exist only in proofs: no program makes values of them.
+//! A hall is a lock around one machine. A turn is one command, applied to the machine. A pass is the right of one
+//! thread to make turns. A seat is a handle of the hall's table. The types in this file say what is known through a
+//! seat, such as the turns that it has seen. They exist only in proofs: no program makes values of them.
 use kds_defs::Turn;
 use std::collections::LinkedList;
 
@@ -8,8 +10,9 @@ pub struct Account {
     pub turns: LinkedList<Turn>,
 }
 
-/// What a seat knows: the turns that it has seen, the turns that it learnt from another seat, its accounts, and
-/// whether it has the lock.
+/// What a seat knows. `seen` are the turns that the seat has seen. `told` are the turns that joined seats had seen. The
+/// next time the seat loads the number of turns, the turns in `told` are added to `seen`. `accounts` are the seat's
+/// accounts. `busy` says whether the seat has the lock.
 pub struct View {
     pub seen: LinkedList<Turn>,
     pub told: LinkedList<Turn>,
