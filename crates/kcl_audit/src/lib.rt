@@ -1,6 +1,6 @@
-//! Audits the text of a journal: decides whether the bytes are a journal that a machine can write, and if not, which
-//! entry is the first bad one, and which rule it breaks. The audit works on single entries, on lines, and from a source
-//! to a sink.
+//! Audits the text of a journal, which is an event log: decides whether a machine can write this journal. If not, finds
+//! the first bad entry and the rule that this entry breaks. An audit gets its input in one of three forms: as single
+//! entries (`Audit`), as lines (`AuditTaker`), or as a whole text that is read from a source (`run_audit`).
 #![tactic(auto)]
 
 mod laws;

@@ -1,4 +1,5 @@
-//! The audit as a consumer of an input's lines.
+//! The audit as a consumer of the lines of an input. An audit checks whether a journal, which is an event log, is sound
+//! (valid). An entry of a journal is good if it breaks no rule, and bad otherwise.
 ghost use Rattle.std.specs.Prelude.{ℕ, ◌≡◌, List, [], IfOk, OnErr, OnOk};
 ghost use Rattle.kds_defs.specs.Journal.{Journal};
 ghost use Rattle.kcl_journal.specs.Entries.{IsVersion};
@@ -14,7 +15,8 @@ use kds_lines::Taker;
 use std::alloc::Global;
 use std::marker::Model;
 
-/// Judges the line that comes after `count` good entries.
+/// Judges the line `text`, which comes after `count` good entries, and returns the stage of the audit after this line.
+/// `version` is the version of the journal's text.
 fn line(
     alloc: Global,
     audit: &mut Audit,
@@ -52,7 +54,7 @@ fn line(
     })
 }
 
-/// An audit that takes a journal's text line by line. After a bad entry it takes no further line.
+/// An audit that takes the text of a journal line by line. After a bad entry it takes no further line.
 #[derive(Drop)]
 pub struct AuditTaker {
     audit: Audit,
@@ -70,7 +72,7 @@ impl Model for AuditTaker {
 }
 
 impl AuditTaker {
-    /// An audit that has taken no line.
+    /// Returns an audit that has taken no line.
     pub fn new(alloc: Global) -> AuditTaker
         ensures { Took result [] }
     {
@@ -80,15 +82,16 @@ impl AuditTaker {
         }
     }
 
-    /// Whether an entry was bad. The report of a bad entry is written when its line is taken.
+    /// Whether a bad entry was found. The report of this entry was added to the output when the entry's line was taken.
     pub fn is_over(&self) -> bool
         ensures { (texts : List (List ℕ)) → Took self.now texts → result ≡ is_bad (progress texts) }
     {
         is_found(&self.stage)
     }
 
-    /// Ends the audit after the last line, and adds the final report. `unfinished` is true if the text doesn't end with
-    /// a line feed. Returns whether the entries are sound. If memory runs out, nothing is added.
+    /// Ends the audit at the end of the text. Adds the final report if no bad entry was reported before. `unfinished`
+    /// is true if the text doesn't end with a line feed. Returns whether the journal is sound. If memory runs out,
+    /// nothing is added.
     pub fn finish(&self, alloc: Global, unfinished: bool, to: &mut Octets) -> Result<bool, Memory>
         ensures says { (texts : List (List ℕ)) → Took self.now texts → IfOk result (λ says. Finishes (progress texts) (end_by unfinished) says to.old to.new) }
         ensures err { OnErr result (to.new ≡ to.old) }
@@ -96,7 +99,7 @@ impl AuditTaker {
         finish_stage(alloc, &self.stage, unfinished, to)
     }
 
-    /// The stage of the audit after the next line.
+    /// Judges the line `text`, and returns the stage of the audit after this line. The caller stores the stage.
     fn stage_after(&mut self, alloc: Global, text: &[u8]) -> Result<Stage, Memory>
         ensures at { (texts : List (List ℕ)) → Took self.old texts → IfOk result (λ s. IsAt s self.new.judge (step (progress texts) text.now)) }
         ensures kept { (texts : List (List ℕ)) → Took self.old texts → OnErr result (Took self.new texts) }
@@ -123,7 +126,7 @@ impl AuditTaker {
     }
 }
 
-/// An audit takes the lines of a journal's text. After a bad entry it takes no further line.
+/// The audit takes the lines of a journal's text one after another. After a bad entry it takes no further line.
 impl Taker for AuditTaker {
     ghost use Rattle.std.specs.Prelude.{refl};
     ghost use Rattle.kcl_audit.specs.Stages.{Broke, IsOver, Took, texts_report};

@@ -1,4 +1,5 @@
-//! Runs an audit from a source to a sink.
+//! Audits the text of a journal (event log) that is read from a source, and writes the result to a sink. A journal is
+//! legal if some sequence of accepted commands leads to exactly its lines.
 ghost use Rattle.std.specs.Prelude.{◌≡◌, ◌⊎◌, ◌≤◌, ℕ, List, IfSome};
 ghost use Rattle.std.specs.declared.option.Option.{Option};
 ghost use Rattle.kds_ends.specs.Causes.{Rose};
@@ -15,7 +16,8 @@ use kds_ends::{Sink, Source, Status, write_all};
 use kds_lines::{Outcome, read_lines};
 use std::alloc::Global;
 
-/// Writes the final report after the last line. `unfinished` is true if the text doesn't end with a line feed.
+/// Writes the final report at the end of the text, and returns the status of the audit. `unfinished` is true if the
+/// text doesn't end with a line feed.
 fn tell_end<K: Sink>(alloc: Global, taker: &AuditTaker, unfinished: bool, out: &mut K) -> Status
     ensures told { (texts : List (List ℕ)) → Took taker.now texts
         → TellsEnd result (finish (progress texts) (end_by unfinished)) (report (progress texts)) (K.held out.old) (K.held out.new) }
@@ -38,7 +40,8 @@ fn tell_end<K: Sink>(alloc: Global, taker: &AuditTaker, unfinished: bool, out: &
     }
 }
 
-/// Ends the audit, given how reading the input ended. If an entry was bad, later faults of the input don't matter.
+/// Ends the audit, and returns its status. `outcome` says how reading the input ended. If a bad entry was found before
+/// the source failed or the text became too long, the status is still `Unsound`.
 fn end_audit<K: Sink>(alloc: Global, taker: &AuditTaker, outcome: Outcome, out: &mut K) -> Status
     ensures told { (bytes : List ℕ) (left start : Option (List ℕ))
         → Told outcome (Took taker.now) (Broke taker.now) IsOver texts_report bytes left start (K.held out.old)
@@ -61,7 +64,7 @@ fn end_audit<K: Sink>(alloc: Global, taker: &AuditTaker, outcome: Outcome, out: 
         Outcome::Unfinished(_) => tell_end(alloc, taker, true, out),
         Outcome::TooLong => Status::TooLong,
         Outcome::Read => Status::Read,
-        // Reading stops before the end only after a bad entry.
+        // The audit stops reading before the end of the input only after a bad entry.
         Outcome::Stopped(_) => Status::Unsound,
         Outcome::Write => Status::Write,
         Outcome::Memory => Status::Memory,
@@ -69,18 +72,19 @@ fn end_audit<K: Sink>(alloc: Global, taker: &AuditTaker, outcome: Outcome, out: 
 }
 
 /// Audits the text of a journal, and writes the result: `sound N` with the number of entries, or `entry N RULE` for the
-/// first bad entry. Done: all entries are sound. Unsound: exactly if an entry is bad. TooLong: exactly if a line or the
-/// input is longer than the limits, and no entry before it is bad. One of these three is returned unless the source or
-/// the sink failed, or memory ran out, before. Read, Write: the source or the sink failed. Memory: memory ran out.
+/// first bad entry. Returns `Done` if all entries are good, `Unsound` if an entry is bad, and `TooLong` if a line or
+/// the input is longer than the limits and no earlier entry is bad. Returns `Read` if the source fails before one of
+/// these results is known, `Write` if the sink fails, and `Memory` if memory runs out before that. If nothing fails and
+/// memory doesn't run out, the bytes alone decide which of the first three statuses is returned.
 pub fn run_audit<S: Source, K: Sink>(alloc: Global, input: &mut S, out: &mut K) -> Status
     ensures told { IfSome (S.left input.old) (λ bytes. TellsAudit result bytes (K.held out.old) (K.held out.new)) }
 
-    // A text that is found sound is a legal journal, and the state that it describes is safe at the clock of its last
-    // line. The text of a legal journal is never found unsound.
+    // If the audit finds a text sound, the text is that of a legal journal, and the state after this journal is safe
+    // (`IsSafe`) at the clock of the last line. The audit never finds the text of a legal journal unsound.
     ensures safe { result ≡ Status.Done → IfSome (S.left input.old) IsSafely }
     ensures legal { result ≡ Status.Unsound → IfSome (S.left input.old) IsNoJournal }
 
-    // If neither the source nor the sink fails, the bytes decide how the audit ends, unless memory runs out.
+    // If the source and the sink don't fail and memory doesn't run out, the bytes alone decide the status.
     ensures complete { (Rose (S.faults input.old) (S.faults input.new) → ⊥) → (Rose (K.faults out.old) (K.faults out.new) → ⊥)
         → IfSome (S.left input.old) (λ bytes. AuditsAs bytes result) }
     ensures read { result ≡ Status.Read → Rose (S.faults input.old) (S.faults input.new) }

@@ -1,4 +1,5 @@
-//! The progress of an audit.
+//! How far an audit has come in the text of a journal, which is an event log. An entry of a journal is good if it
+//! breaks no rule, and bad otherwise. A valid journal is called sound.
 ghost use Rattle.std.specs.Prelude.{ℕ, ◌≡◌, ◌∷◌, ◌++◌, None, IfOk, OnErr, OnOk};
 ghost use Rattle.std.specs.Option.{option_map};
 ghost use Rattle.kds_defs.specs.Journal.{Journal};
@@ -14,27 +15,28 @@ use kcl_journal::EntryLine;
 use kds_base::{Memory, Moment, Octets};
 use std::alloc::Global;
 
-/// How far an audit has come in a text.
+/// How far an audit has come in the text of a journal.
 #[derive(Clone, Copy)]
 pub enum Stage {
-    /// No line was taken.
+    /// The audit has taken no line.
     Fresh,
-    /// The text has this version, and its first `count` entries are good. No last line has come.
+    /// The text has the version `version`, and its first `count` entries are good. The last line hasn't come yet.
     Going { version: u8, count: u64 },
-    /// The last line has come after `count` good entries.
+    /// The last line, `end CLOCK`, has come after `count` good entries.
     Closed { count: u64 },
-    /// The entry with this number breaks the rule with this name.
+    /// The entry with the number `number`, counted from 1, is bad: it breaks the rule called `name`.
     Found { number: u64, name: &'static str },
 }
 
-/// The number after `count`. Counting stops at the greatest `u64`.
+/// Returns `count` + 1, or `count` if it is the greatest `u64`.
 pub fn next(count: u64) -> u64
     ensures { result ≡ next count }
 {
     count.saturating_add(1)
 }
 
-/// Judges an entry. Returns the name of the rule that it breaks, or `None` if it is good.
+/// Judges the entry in `line`, and applies the entry to the state of the audit if the entry is good. Returns the name
+/// of the rule that the entry breaks, or `None` if the entry is good.
 pub fn entry_name(
     alloc: Global,
     audit: &mut Audit,
@@ -54,7 +56,8 @@ pub fn entry_name(
     }
 }
 
-/// Judges the clock of the last line. Returns the name of the rule that it breaks, or `None` if it is good.
+/// Judges the clock of the last line. Returns the name of the rule that the last line breaks, or `None` if the last
+/// line breaks no rule.
 pub fn end_name(audit: &Audit, clock: Moment) -> Option<&'static str>
     ensures { (log : Journal) → Stands audit.now log → option_map (λ s. s.now) result ≡ name_in (end_verdict log clock) }
 {
@@ -64,14 +67,14 @@ pub fn end_name(audit: &Audit, clock: Moment) -> Option<&'static str>
     }
 }
 
-/// Whether a bad entry was found.
+/// Whether the audit has found a bad entry.
 pub fn is_found(stage: &Stage) -> bool
     ensures { result ≡ is_found stage.now }
 {
     matches!(stage, Stage::Found { .. })
 }
 
-/// Adds the report of a bad entry, if one was found. If memory runs out, nothing is added.
+/// Adds the report of the bad entry, if the audit has found one. If memory runs out, nothing is added.
 pub fn report_stage(alloc: Global, stage: &Stage, to: &mut Octets) -> Result<(), Memory>
     ensures ok { OnOk result (to.new ≡ to.old ++ stage_report stage.now) }
     ensures err { OnErr result (to.new ≡ to.old) }
@@ -82,9 +85,9 @@ pub fn report_stage(alloc: Global, stage: &Stage, to: &mut Octets) -> Result<(),
     Ok(())
 }
 
-/// Adds the final report after the last line. A bad entry was already reported, so nothing is added for it.
-/// `unfinished` is true if the text doesn't end with a line feed. Returns whether the entries are sound. If memory runs
-/// out, nothing is added.
+/// Adds the final report at the end of the text. Nothing is added if the audit has found a bad entry, since this entry
+/// was already reported. `unfinished` is true if the text doesn't end with a line feed. Returns whether the journal is
+/// sound. If memory runs out, nothing is added.
 pub fn finish_stage(
     alloc: Global,
     stage: &Stage,

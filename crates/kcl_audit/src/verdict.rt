@@ -1,4 +1,4 @@
-//! Audits single entries, one after another.
+//! Audits single entries of a journal, which is an event log, one after another.
 ghost use Rattle.std.specs.Prelude.{ℕ, ◌≡◌, ◌∷◌, [], IfOk, OnErr, OnOk};
 ghost use Rattle.kds_defs.specs.Journal.{Journal};
 ghost use Rattle.kcl_journal.specs.Ranges.{IsTellable};
@@ -13,7 +13,8 @@ use kds_base::{Memory, Moment};
 use std::alloc::Global;
 use std::marker::Model;
 
-/// The state after the good entries of a journal. In contracts it is represented by its judge.
+/// An audit of single entries. It holds the state after the good entries so far. A good entry breaks no rule. In
+/// contracts, an audit is represented by its judge.
 #[derive(Drop)]
 pub struct Audit {
     judge: Judge,
@@ -28,7 +29,7 @@ impl Model for Audit {
 }
 
 impl Audit {
-    /// An audit before the first entry.
+    /// Returns an audit that has seen no entry.
     pub fn new(alloc: Global) -> Audit
         ensures { Stands result [] }
     {
@@ -37,10 +38,10 @@ impl Audit {
         }
     }
 
-    /// Judges the next entry of a journal, and adds it if it is good. The entry breaks the rule `Clock` if its clock is
-    /// below the previous entry's clock, `By` if the command for which it stands is refused, and `Entry` if that
-    /// command gives another entry. If it breaks a rule, or memory runs out, the audit is as before. Precondition: a
-    /// journal's text can state the entry.
+    /// Judges the next entry of a journal, and applies the entry to the state if the entry breaks no rule. The entry
+    /// breaks the rule `Clock` if its clock is below the clock of the previous entry. The entry breaks `By` if its
+    /// command is refused, and `Entry` if its command leads to a different entry. If the entry breaks a rule, or memory
+    /// runs out, the state is unchanged. Precondition: the text of a journal can state the entry (`IsTellable`).
     pub fn entry(&mut self, alloc: Global, line: EntryLine) -> Result<Result<(), Rule>, Memory>
         requires told { (version : ℕ) × IsTellable version line.what }
         requires stands { (log : Journal) × Stands self.old log }
@@ -53,8 +54,8 @@ impl Audit {
         self.judge.entry(alloc, clock, by, what)
     }
 
-    /// Judges the clock of the journal's last line. The rule `Clock` is broken exactly if `clock` is below the last
-    /// entry's clock.
+    /// Judges the clock of the journal's last line. Returns the rule `Clock` if `clock` is below the clock of the last
+    /// entry, and `Ok` otherwise.
     pub fn finish(&self, clock: Moment) -> Result<(), Rule>
         ensures { (log : Journal) → Stands self.now log → result ≡ end_verdict log clock }
     {

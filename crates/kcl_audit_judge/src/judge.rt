@@ -1,4 +1,6 @@
-//! Judges the entries of a journal, one after another.
+//! Judges the entries of a journal, which is an event log, one after another. An entry records a command and what this
+//! command changed. An entry is good if it breaks no rule. A row is a lease in the lease table. A tenure is one
+//! worker's hold on a lease.
 ghost use Rattle.std.specs.Prelude.{◌≡◌, ◌∷◌, [], IfOk, OnErr, OnOk};
 ghost use Rattle.kcl_laws.specs.ShownLines.{entry_line};
 ghost use Rattle.kds_defs.specs.Journal.{Journal};
@@ -16,8 +18,8 @@ use kds_defs::Entry;
 use std::alloc::Global;
 use std::marker::Model;
 
-/// The state after the good entries of a journal: the clock of the last entry, the streams, the rows of the leases, and
-/// the tenures.
+/// The state after the good entries that the journal had so far. It consists of the clock of the last good entry, the
+/// streams, the rows of the lease table, and the tenures.
 #[derive(Drop)]
 pub struct Judge {
     streams: ToldStreams,
@@ -25,8 +27,8 @@ pub struct Judge {
     book: Book,
 }
 
-/// Judges an entry about a stream at the streams' clock, and adds it if it is good. If it is bad, or memory runs out,
-/// the streams are as before.
+/// Judges an entry about a stream. The present time is `streams.clock`. If the entry breaks no rule, it is applied to
+/// the streams. If the entry breaks a rule, or memory runs out, the streams are unchanged.
 fn stream_entry(
     alloc: Global,
     streams: &mut ToldStreams,
@@ -55,7 +57,7 @@ impl Model for Judge {
 }
 
 impl Judge {
-    /// A judge before the first entry.
+    /// Returns a judge that has judged no entry yet.
     pub fn new(alloc: Global) -> Judge
         ensures { Stands result [] }
     {
@@ -69,8 +71,9 @@ impl Judge {
         }
     }
 
-    /// Judges an entry at the streams' clock, and adds it if it is good. If it is bad, or memory runs out, nothing has
-    /// changed.
+    /// Judges an entry. The present time is `self.streams.clock`, and `by` is the actor that sent the entry's command.
+    /// If the entry breaks no rule, it is applied to the state. If the entry breaks a rule, or memory runs out, the
+    /// state is unchanged.
     fn judge(&mut self, alloc: Global, by: u32, what: Entry) -> Result<Result<(), Rule>, Memory>
         requires fit { IsFit what }
         requires holds { (log : Journal) × Holds self.old log }
@@ -94,10 +97,11 @@ impl Judge {
         }
     }
 
-    /// Judges the next entry of a journal, made by the actor `by` at a clock, and adds it if it is good. The entry
-    /// breaks the rule `Clock` if its clock is below the previous entry's clock, `By` if the command for which it
-    /// stands is refused, and `Entry` if that command gives another entry. If it breaks a rule, or memory runs out, the
-    /// judge is as before.
+    /// Judges the next entry of a journal. `clock` is the entry's clock, and `by` is the actor that sent the entry's
+    /// command. If the entry breaks no rule, it is applied to the state. The entry breaks the rule `Clock` if its clock
+    /// is below the clock of the previous entry. It breaks the rule `By` if its command would be refused, and the rule
+    /// `Entry` if its command would lead to a different entry. If the entry breaks a rule, or memory runs out, the
+    /// state is unchanged.
     pub fn entry(
         &mut self,
         alloc: Global,
@@ -124,8 +128,8 @@ impl Judge {
         judged
     }
 
-    /// Judges the clock of the journal's last line. The rule `Clock` is broken exactly if `clock` is below the last
-    /// entry's clock.
+    /// Judges the clock of the journal's last line. Returns the rule `Clock` if `clock` is below the clock of the last
+    /// entry, and `Ok` otherwise.
     pub fn finish(&self, clock: Moment) -> Result<(), Rule>
         ensures { (log : Journal) → Stands self.now log → result ≡ end_verdict log clock }
     {

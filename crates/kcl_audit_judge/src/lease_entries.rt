@@ -1,4 +1,7 @@
-//! Judges the entries about leases, and adds good entries to the model.
+//! Judges the entries about leases in a journal, which is an event log, and applies the good entries to the lease table
+//! and to the tenures. An entry records a command and what this command changed. An entry is good if it breaks no rule.
+//! A row is a lease in the lease table. A tenure is one worker's hold on a lease. The origin of a row is the initial
+//! position in the stream.
 ghost use Rattle.std.specs.Prelude.{◌≡◌, ◌+◌, ◌≤◌, ◌==◌, length, None, IfOk, OnErr};
 ghost use Rattle.kds_defs.specs.declared.entry.Entry.TheVariants as entry;
 ghost use Rattle.kds_defs.specs.Journal.{Journal};
@@ -20,8 +23,8 @@ use kds_base::{Items, Memory, Seq, ShardRef, StreamNo, TenureNo, WorkerNo};
 use kds_defs::{Answer, Entry, Origin, Refusal, Shard, Target, place_after_numbers};
 use std::alloc::Global;
 
-/// The verdict on an entry, given the answer to the command for which it stands. It is used if the command can give no
-/// other entry.
+/// Returns the verdict on an entry whose command can lead only to this entry. `answer` is the answer to this command.
+/// If the answer is a refusal, the entry breaks the rule `By`. Otherwise the entry is good.
 fn by_answer(answer: &Answer) -> Result<(), Rule>
     ensures { result ≡ answer_verdict answer.now }
 {
@@ -31,7 +34,7 @@ fn by_answer(answer: &Answer) -> Result<(), Rule>
     }
 }
 
-/// Whether `no` is the number of the next tenure.
+/// Whether `no` is the number that the next tenure gets.
 fn is_next(book: &Book, no: TenureNo) -> bool
     ensures { result ≡ (no == length book.now.tenures + 1) }
 {
@@ -41,8 +44,8 @@ fn is_next(book: &Book, no: TenureNo) -> bool
     book.tenure(no).is_none() && (before == 0 || book.tenure(TenureNo(before)).is_some())
 }
 
-/// Judges an entry about the taking of a lease, and adds it if it is good. The tenure in the entry must have the next
-/// number.
+/// Judges the entry `taken`: a worker took a lease. Applies the entry if it breaks no rule. The tenure number in the
+/// entry must be the next unused tenure number.
 fn on_take(
     shards: &ToldStreams,
     table: &mut Table,
@@ -68,7 +71,7 @@ fn on_take(
     Ok(by_answer(&answer))
 }
 
-/// The read position of a tenure, or 0 if there is no such tenure.
+/// Returns the position at which the tenure `no` reads next, or 0 if there is no such tenure.
 fn reach(book: &Book, no: TenureNo) -> u64
     ensures { result ≡ reach_of (tenure_at book.now.tenures no) }
 {
@@ -78,22 +81,23 @@ fn reach(book: &Book, no: TenureNo) -> u64
     }
 }
 
-/// Whether both lists contain the same sequence numbers.
+/// Whether both lists contain the same sequence numbers in the same order.
 fn same_numbers(a: &[Seq], b: &[Seq]) -> bool
     ensures { result ≡ same_list a.now b.now }
 {
     a == b
 }
 
-/// Whether both reads reached the shard's end, or neither did.
+/// Whether `a` and `b` are equal. Each of the two values says whether a read reached the end of its shard.
 fn same_end(a: bool, b: bool) -> bool
     ensures { result ≡ same_flag a b }
 {
     a == b
 }
 
-/// Judges an entry about a read, and adds it if it is good. The entry must have the sequence numbers of the batch at
-/// the tenure's read position, and must state correctly whether the shard ends after them.
+/// Judges the entry `read`: a worker has read records in a tenure. Applies the entry if it breaks no rule. The entry
+/// must list exactly the sequence numbers of the batch at the tenure's read position, and must state correctly whether
+/// the shard ends after this batch.
 fn on_read(
     alloc: Global,
     shards: &ToldStreams,
@@ -115,7 +119,7 @@ fn on_read(
         Ok(tenure) => tenure,
         Err(refusal) => return Ok(Err(Rule::By(refusal))),
     };
-    // Borrowed, since it is used more than once.
+    // The key is borrowed because it is used more than once.
     let key = &tenure.key;
     let Some(stream) = live(&shards.list, key.stream) else {
         unreachable!()
@@ -131,7 +135,7 @@ fn on_read(
     Ok(Ok(()))
 }
 
-/// Whether both origins are the same.
+/// Whether `a` and `b` are the same origin: both TRIM_HORIZON, both LATEST, or both the same moment.
 fn same_start(a: Origin, b: Origin) -> bool
     ensures { result ≡ same_origin a b }
 {
@@ -145,8 +149,9 @@ fn same_start(a: Origin, b: Origin) -> bool
     }
 }
 
-/// Whether a new row of the shard gets exactly the origin `from`. If the row of a parent shard has reached that
-/// parent's end, the new row's origin must be TRIM_HORIZON.
+/// Whether a new row of `shard` really gets the origin `from` if it is made with this origin. Usually it does. There is
+/// one exception: if a parent of the shard has a row that begins at or below the parent's ending sequence number, the
+/// new row gets TRIM_HORIZON. In this case, the result is true only if `from` is TRIM_HORIZON too.
 fn counts(
     shards: &ToldStreams,
     table: &Table,
@@ -156,13 +161,13 @@ fn counts(
 ) -> bool
     ensures { (log : Journal) → Shows shards.now log → result ≡ same_origin (counting_from log table.now stream shard.now from) from }
 {
-    // Borrowed, since it is used more than once.
+    // The origin is borrowed because it is used more than once.
     let from = &from;
     same_start(counting(shards, table, stream, shard, *from), *from)
 }
 
-/// Judges an entry about the creation of a row, and adds it if it is good. The entry must have the origin that the row
-/// gets.
+/// Judges the entry `lease`: a row of the lease table was made. Applies the entry if it breaks no rule. The entry must
+/// state the origin that the row really gets.
 fn on_make(
     shards: &ToldStreams,
     table: &mut Table,
@@ -191,7 +196,7 @@ fn on_make(
     Ok(by_answer(&answer))
 }
 
-/// Judges an entry about the renewal of a row, and adds it if it is good.
+/// Judges the entry `renewed`: the row of a tenure was renewed. Applies the entry if it breaks no rule.
 fn on_renew(
     shards: &ToldStreams,
     table: &mut Table,
@@ -206,7 +211,7 @@ fn on_renew(
     by_answer(&renew(shards, table, book, by, tenure, counter - 1))
 }
 
-/// Judges an entry about the freeing of a row, and adds it if it is good.
+/// Judges the entry `freed`: the row of a tenure was freed. Applies the entry if it breaks no rule.
 fn on_free(
     shards: &ToldStreams,
     table: &mut Table,
@@ -221,7 +226,7 @@ fn on_free(
     by_answer(&free(shards, table, book, by, tenure, counter - 1))
 }
 
-/// Judges an entry about the opening of a tenure's shard, and adds it if it is good.
+/// Judges the entry `opened`: from then on, a tenure may read its shard. Applies the entry if it breaks no rule.
 fn on_open(
     shards: &ToldStreams,
     table: &Table,
@@ -234,7 +239,8 @@ fn on_open(
     by_answer(&open(shards, table, book, by, tenure))
 }
 
-/// Judges an entry about a delivery, and adds it if it is good.
+/// Judges the entry `given`: the oldest undelivered read of a tenure was delivered to the processor. Applies the entry
+/// if it breaks no rule.
 fn on_give(
     shards: &ToldStreams,
     table: &Table,
@@ -248,7 +254,7 @@ fn on_give(
     by_answer(&give(shards, book, by, tenure))
 }
 
-/// Judges an entry about setting a row's checkpoint, and adds it if it is good.
+/// Judges the entry `marked`: the checkpoint of a tenure's row was set. Applies the entry if it breaks no rule.
 fn on_mark(
     shards: &ToldStreams,
     table: &mut Table,
@@ -264,7 +270,7 @@ fn on_mark(
     by_answer(&mark(shards, table, book, by, tenure, counter - 1, to))
 }
 
-/// Judges an entry about the deletion of a row, and adds it if it is good.
+/// Judges the entry `cut`: a row was removed from the lease table. Applies the entry if it breaks no rule.
 fn on_cut(
     shards: &ToldStreams,
     table: &mut Table,
@@ -279,8 +285,8 @@ fn on_cut(
     by_answer(&cut(shards, table, key, counter))
 }
 
-/// Judges an entry about a lease at the clock of `shards`, and adds it if it is good. If it is bad, or memory runs out,
-/// the rows and the tenures are as before.
+/// Judges an entry about a lease. The present time is `shards.clock`. If the entry breaks no rule, it is applied to the
+/// rows and tenures. If the entry breaks a rule, or memory runs out, the rows and the tenures are unchanged.
 pub fn entry(
     alloc: Global,
     shards: &ToldStreams,

@@ -1,4 +1,6 @@
-//! Judges the entries of a journal, one after another, with plain lists of streams, rows and tenures.
+//! Judges the entries of a journal, which is an event log, one after another. The judge decides whether the command
+//! that an entry records would be accepted, and would lead to exactly this entry. The judge keeps plain lists of
+//! streams, rows of the lease table, and tenures. A tenure is one worker's hold on a lease.
 #![tactic(auto)]
 
 mod judge;

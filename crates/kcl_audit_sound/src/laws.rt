@@ -1,4 +1,7 @@
-//! The law that an audit finds the journal of every history sound.
+//! A turn is a command with its sender and its time. A turn is lawful if the arguments of its command are within the
+//! ranges of the API. A history is a list of lawful turns. The journal of a history is the event log of its turns, and
+//! an audit verifies journals. A law is a theorem about definitions. The law in this file says that the journal of
+//! every history is sound: an audit accepts it.
 ghost use Rattle.std.specs.Prelude.{◌≡◌, ◌≢◌, List};
 ghost use Rattle.std.specs.List.{AllByRecursion};
 ghost use Rattle.kds_defs.specs.declared.command.Turn.{Turn};
@@ -10,9 +13,10 @@ ghost use Rattle.kcl_audit.specs.Progress.{audit_of, over, sound};
 ghost use Rattle.kcl_audit.specs.Text.{IsJournal, counted};
 ghost use Rattle.kcl_audit_sound.specs.Bits.{HaveBits};
 
-/// Suppose that every number in the turns of a history fits its machine type. Then each line of the history's journal
-/// has a text, and the text of the whole journal is legal: an audit finds it sound, unless a line or the input is
-/// longer than the limits.
+/// Consider a history in which every number of a turn fits its machine type (`HaveBits`). Then every line of the
+/// history's journal can be written as text, and the text of the whole journal is that of a legal journal. A journal is
+/// legal if some sequence of accepted commands leaves it. So an audit finds this text sound, unless a line or the whole
+/// text is longer than the limits.
 pub fn sound_histories()
     ensures lines { (h : List Turn) → IsHistory h → HaveBits h → AllByRecursion (IsEntryLine VERSION) (history_entries h) }
     ensures legal { (h : List Turn) → IsHistory h → HaveBits h → IsJournal (journal_text h) (counted 0 (history_entries h)) }

@@ -1,4 +1,6 @@
-//! Proves that every number in a turn fits its machine type. The text of a journal needs this (decision 79).
+//! Proves that the numbers in a turn fit their machine types, such as `u64`. A turn is a command with its time and its
+//! sender. The number of the sender is called the actor. The law `sound_histories` has this fact as a condition. The
+//! law says that an audit, the verifier of journals, accepts the text of a journal (decision 79).
 ghost use Rattle.std.specs.Prelude.{◌<◌, ◌^◌};
 ghost use Rattle.kcl_script_fields.specs.Commands.{AreNumbers, IsKey, IsTarget};
 ghost use Rattle.kcl_script_fields.specs.Origins.{IsOrigin};
@@ -49,7 +51,7 @@ fn is_target(to: &Target)
     }
 }
 
-/// Every number of a command fits its machine type.
+/// Proves that the numbers in a lease command fit their machine types.
 fn are_numbers(what: &Command)
     ensures { AreNumbers what.now }
 {
@@ -92,7 +94,8 @@ fn are_numbers(what: &Command)
     }
 }
 
-/// Every number in a turn that a machine holds fits its type. At run time the function only goes through the numbers.
+/// Proves that the actor of a turn and the numbers in its command fit their machine types. At run time the function
+/// only visits the numbers.
 pub fn has_bits(turn: &Turn)
     ensures { HasBits turn.now }
 {
@@ -100,7 +103,8 @@ pub fn has_bits(turn: &Turn)
     are_numbers(&turn.what);
 }
 
-/// Every number in the turns that a machine holds fits its type. At run time the function only goes through the turns.
+/// Proves for each turn that its actor and the numbers in its command fit their machine types. At run time the function
+/// only visits the turns.
 pub fn have_bits(turns: &[Turn])
     ensures { HaveBits turns.now }
 {

@@ -1,5 +1,6 @@
-//! The streams as the judge of a journal models them: plain lists of streams and of records. Entries about streams are
-//! checked against these lists, and good ones are added to them.
+//! A model of the streams for the judge, which checks the entries of a journal (an event log) one after another. The
+//! model is a plain list of streams, each with a plain list of its records. The judge checks an entry about a stream
+//! against the model. If the entry breaks no rule, the judge applies it to the model.
 #![tactic(auto)]
 
 mod records;

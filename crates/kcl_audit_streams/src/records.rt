@@ -1,4 +1,6 @@
-//! The records of a stream in the judge's model: a plain list (decision 66).
+//! The records of a stream in the judge's model of the streams. The judge checks the entries of a journal, which is an
+//! event log. The model keeps the records in a plain list (see decision 66). A record is trimmed once its retention
+//! period is over.
 ghost use Rattle.std.specs.Prelude.{ℕ, ◌≡◌, ◌==◌, ◌&&◌, IfOk};
 ghost use Rattle.std.specs.List.Sorted.{IsNonDecreasingBy};
 ghost use Rattle.kds_defs.specs.Rates.{is_same_second, is_throttled, is_too_much};
@@ -11,8 +13,8 @@ use kds_base::{Items, Memory, Moment, Seq, ShardNo};
 use kds_defs::limits::{BATCH_BYTES, SECOND, SECOND_BYTES, SECOND_RECORDS};
 use std::alloc::Global;
 
-/// A record without its key and payload: its shard, its sequence number, its arrival, and the number of bytes of its
-/// payload and key together.
+/// What the model keeps of a record: its shard, its sequence number, its arrival time, and the size of its payload and
+/// partition key together, in bytes.
 #[derive(Clone, Copy, Debug, PartialEq, Eq)]
 pub struct Sized {
     pub shard: ShardNo,
@@ -21,15 +23,16 @@ pub struct Sized {
     pub bytes: u64,
 }
 
-/// Whether a record belongs to `shard`, arrived at or after the moment `floor`, so that it isn't trimmed, and is at or
-/// above `position`.
+/// Whether a read of `shard` at `position` can return the record: the record belongs to the shard, isn't trimmed, and
+/// has a sequence number of at least `position`. Records that arrived before the moment `floor` are trimmed.
 fn is_left(item: &Sized, shard: ShardNo, floor: u64, position: u64) -> bool
     ensures { result ≡ (item.now.shard == shard && is_left floor position (logged item.now)) }
 {
     item.shard == shard && item.arrival.ms() >= floor && item.seq.0 >= position
 }
 
-/// The records from the first one at or above `position` on. Precondition: the sequence numbers don't decrease.
+/// Returns the tail of `records` that begins with the first record whose sequence number is at least `position`.
+/// Precondition: `records` is sorted by sequence number.
 pub fn from_position(records: &[Sized], position: u64) -> &[Sized]
     requires { IsNonDecreasingBy (λ r. r.seq) records.now }
     ensures { (shard floor : ℕ) → left_among floor position (records_in result.now shard) ≡ left_among floor position (records_in records.now shard) }
@@ -38,7 +41,9 @@ pub fn from_position(records: &[Sized], position: u64) -> &[Sized]
     &records[start..]
 }
 
-/// The sequence numbers of the batch that a read of the shard at `position` gets (Kinesis API Reference, GetRecords).
+/// Returns the sequence numbers of the batch that a read of `shard` at `position` returns (Kinesis API Reference,
+/// GetRecords). The batch contains the shard's first untrimmed records from `position` on, at most `limit` records and
+/// `BATCH_BYTES` bytes. Records that arrived before the moment `floor` are trimmed.
 pub fn batch(
     alloc: Global,
     records: &[Sized],
@@ -66,7 +71,8 @@ pub fn batch(
     Ok(numbers)
 }
 
-/// Whether the shard has no untrimmed record at or above `position`.
+/// Whether `shard` has no untrimmed record whose sequence number is at least `position`. Records that arrived before
+/// the moment `floor` are trimmed.
 pub fn none_left(records: &[Sized], shard: ShardNo, floor: u64, position: u64) -> bool
     ensures { result ≡ are_none (left_among floor position (records_in records.now shard)) }
 {
@@ -78,8 +84,9 @@ pub fn none_left(records: &[Sized], shard: ShardNo, floor: u64, position: u64) -
     true
 }
 
-/// The sequence number of the shard's first untrimmed record that arrived at or after `moment`, or `otherwise` if there
-/// is no such record (Kinesis API Reference, GetShardIterator, AT_TIMESTAMP).
+/// Returns the sequence number of the shard's first untrimmed record that arrived at or after `moment` (Kinesis API
+/// Reference, GetShardIterator, AT_TIMESTAMP). If there is no such record, returns the value `otherwise`. Records that
+/// arrived before the moment `floor` are trimmed.
 pub fn first_since(
     records: &[Sized],
     shard: ShardNo,
@@ -97,23 +104,24 @@ pub fn first_since(
     otherwise
 }
 
-/// Whether both moments are in the same second.
+/// Whether both moments lie in the same second of the clock.
 fn is_same_second(one: Moment, other: Moment) -> bool
     ensures { result ≡ is_same_second one other }
 {
     one.ms() / SECOND == other.ms() / SECOND
 }
 
-/// Whether a record of `bytes` bytes exceeds the limits of a second in which the shard already took `records` records
-/// with `held` bytes together.
+/// Whether another record of `bytes` bytes would exceed the limits on what a shard accepts in one second. `records` and
+/// `held` are the numbers of records and bytes that the shard has already accepted in this second. The first record of
+/// a second never exceeds the limits.
 fn is_too_much(records: u64, held: u64, bytes: u64) -> bool
     ensures { result ≡ is_too_much records held bytes }
 {
     records >= SECOND_RECORDS || (records > 0 && held.saturating_add(bytes) > SECOND_BYTES)
 }
 
-/// Whether the limits forbid the shard to take, at this clock, a record whose payload and key have `bytes` bytes
-/// together (Kinesis API Reference, ProvisionedThroughputExceededException).
+/// Whether the throughput limits prevent `shard` from accepting a record of `bytes` bytes (payload and partition key
+/// together) at the time `clock` (Kinesis API Reference, ProvisionedThroughputExceededException).
 pub fn is_throttled(records: &[Sized], shard: ShardNo, clock: Moment, bytes: u64) -> bool
     ensures { result ≡ is_throttled (puts_in records.now shard) clock bytes }
 {

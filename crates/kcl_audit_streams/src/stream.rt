@@ -1,4 +1,6 @@
-//! A stream in the judge's model.
+//! A stream in the judge's model of the streams. The judge checks the entries of a journal, which is an event log. An
+//! entry records a command and what this command changed. The trim floor is a time that follows from the retention
+//! period. Records that arrived before the trim floor are trimmed, and no others.
 ghost use Rattle.std.specs.Prelude.{Bool, Ok, ◌≡◌, ◌≢◌, ◌+◌, ◌-◌, ◌*◌, ◌<◌, ◌≤◌, ◌^◌, if◌then◌else◌, slice_get, None, Some, IfOk, OnOk, OnErr};
 ghost use Rattle.std.specs.Option.{option_map};
 ghost use Rattle.std.specs.List.{AllByRecursion};
@@ -22,7 +24,7 @@ use kds_tree::ShardTree;
 use std::alloc::Global;
 use std::marker::Model;
 
-/// A stream that was made, as a journal describes it. It is kept even after the stream was deleted.
+/// A stream, as the entries of a journal describe it. The model keeps deleted streams too.
 #[derive(Drop)]
 pub struct ToldStream {
     pub name: Name,
@@ -31,9 +33,10 @@ pub struct ToldStream {
     pub enforced: bool,
     /// The retention period in hours.
     pub hours: u32,
-    /// Changes of the retention period have trimmed the records that arrived before this moment.
+    /// The trim floor that the stream had right after the last change of its retention period, or 0 if the period was
+    /// never changed. Records that arrived before this floor stay trimmed, even if the period is longer now.
     pub floor: u64,
-    /// The next sequence number of the stream.
+    /// The sequence number that the next record, split or merge of the stream gets.
     pub next: u64,
     pub tree: ShardTree,
     pub records: Vec<Sized>,
@@ -61,8 +64,8 @@ impl Model for ToldStream {
     } };
 }
 
-/// The clock less the retention period, plus 1; 0 if that is negative. Records that arrived before this moment are
-/// trimmed.
+/// Returns the trim floor at the time `clock` for a retention period of `hours` hours. Records that arrived before the
+/// floor are trimmed. The floor is `clock` + 1 ms minus the period, or 0 if this difference is negative.
 fn floor_at(clock: Moment, hours: u32) -> u64
     ensures value { result ≡ floor_at clock (hours * HOUR) }
     ensures least { result ≤ 2 ^ 62 }
@@ -71,14 +74,15 @@ fn floor_at(clock: Moment, hours: u32) -> u64
     next.saturating_sub(hours as u64 * HOUR)
 }
 
-/// The verdict on an entry. `same` is true if the entry is the one that its command gives.
+/// Returns the verdict on an entry whose command is accepted. `same` is true if this command leads to exactly the entry
+/// that is judged. If `same` is false, the entry breaks the rule `Entry`.
 pub fn agrees(same: bool) -> Result<(), Rule>
     ensures { result ≡ agrees same }
 {
     if same { Ok(()) } else { Err(Rule::Entry) }
 }
 
-/// The verdict on an entry whose command is refused.
+/// Returns the verdict on an entry whose command gets the refusal `refusal`: the entry breaks the rule `By`.
 pub fn refused(refusal: Refusal) -> Result<(), Rule>
     ensures { result ≡ refused refusal }
 {
@@ -86,7 +90,7 @@ pub fn refused(refusal: Refusal) -> Result<(), Rule>
 }
 
 impl ToldStream {
-    /// A new stream with this name and number of shards.
+    /// Returns a new stream called `name` with `shards` shards and without records.
     pub fn new(alloc: Global, name: Name, shards: u32) -> Result<ToldStream, Memory>
         requires least { 1 ≤ shards }
         requires most { shards ≤ MOST_SHARDS }
@@ -104,14 +108,14 @@ impl ToldStream {
         })
     }
 
-    /// Whether the stream hasn't been deleted.
+    /// Whether the stream is live, which means that it hasn't been deleted.
     pub fn is_live(&self) -> bool
         ensures { result ≡ self.now.live }
     {
         self.live
     }
 
-    /// Notes that the throughput limits were turned on or off.
+    /// Notes that the stream's throughput limits were turned on (if `on` is true) or off (if not).
     pub fn add_limits(&mut self, on: bool)
         ensures { self.new ≡ with_limits on self.old }
     {
@@ -125,7 +129,7 @@ impl ToldStream {
         self.live = false;
     }
 
-    /// The trim floor at this clock: records that arrived before this moment are trimmed.
+    /// Returns the trim floor at the time `clock`. Records that arrived before the floor are trimmed.
     pub fn floor(&self, clock: Moment) -> u64
         ensures value { result ≡ floor_in self.now clock }
         ensures most { result ≤ 2 ^ 62 }
@@ -133,7 +137,8 @@ impl ToldStream {
         self.floor.max(floor_at(clock, self.hours))
     }
 
-    /// The last moment whose records are trimmed. `None` if no record can be trimmed yet.
+    /// Returns the trim horizon at the time `clock`. Records that arrived at or before the trim horizon are trimmed.
+    /// Returns `None` if no record can be trimmed yet.
     fn trimmed_up_to(&self, clock: Moment) -> Option<Moment>
         ensures { floor_of result ≡ floor_in self.now clock }
     {
@@ -145,7 +150,9 @@ impl ToldStream {
         }
     }
 
-    /// Whether the shard is listed: the shard was made, it hasn't expired, and the stream hasn't been deleted.
+    /// Whether ListShards returns the shard at the time `clock`. This is the case if the stream has such a shard, the
+    /// shard hasn't expired, and the stream hasn't been deleted. A shard expires once it has been closed for the
+    /// retention period.
     pub fn is_listed(&self, clock: Moment, shard: ShardNo) -> bool
         ensures { result ≡ is_listed_in (Some self.now) clock shard }
     {
@@ -154,7 +161,7 @@ impl ToldStream {
             && !self.tree.expired(shard, self.trimmed_up_to(clock))
     }
 
-    /// The shard with this number. `None` if there is no such shard, or if the stream was deleted.
+    /// Returns the shard with the number `shard`, or `None` if there is no such shard or the stream was deleted.
     pub fn shard(&self, shard: ShardNo) -> Option<&Shard>
         ensures { option_map (λ x. x.now) result ≡ (if self.now.live then option_map shown (slice_get self.now.tree shard) else None) }
     {
@@ -165,8 +172,9 @@ impl ToldStream {
         }
     }
 
-    /// Judges a put into this live stream at a clock. The record's hash key is `hash`, and its payload and key together
-    /// have `bytes` bytes.
+    /// Judges the entry `put`, which says that a record was put into this live stream. The present time is `clock`.
+    /// According to the entry, the record is in `shard` with the sequence number `seq`, its hash key is `hash`, and its
+    /// payload and key together have `bytes` bytes.
     pub fn judge_put(
         &self,
         clock: Moment,
@@ -187,14 +195,16 @@ impl ToldStream {
         agrees(home == shard && self.next == seq.0)
     }
 
-    /// Whether the stream has no sequence number left, or can't number `more` further shards.
+    /// Whether the stream has no sequence number left, or too few shard numbers left for `more` + 1 new shards.
     fn is_spent(&self, more: u64) -> bool
         ensures { result ≡ is_spent self.now more }
     {
         self.tree.len() > u64::MAX - more || self.next == u64::MAX
     }
 
-    /// Judges a split of a shard of this live stream. `full` is true if no further shard may be opened.
+    /// Judges the entry `split`, which says that `shard` of this live stream was split at the hash key `at`. The
+    /// present time is `clock`. According to the entry, the split has the sequence number `seq`, and the child shards
+    /// are `low` and `high`. `full` is true if all streams together already have the maximum number of open shards.
     pub fn judge_split(
         &self,
         clock: Moment,
@@ -223,7 +233,9 @@ impl ToldStream {
         agrees(seq.0 == self.next && low.0 == first && high.0 == first + 1)
     }
 
-    /// Judges a merge of two shards of this live stream.
+    /// Judges the entry `merged`, which says that the shards `shard` and `other` of this live stream were merged. The
+    /// present time is `clock`. According to the entry, the merge has the sequence number `seq`, and the child shard is
+    /// `child`.
     pub fn judge_merge(
         &self,
         clock: Moment,
@@ -246,7 +258,8 @@ impl ToldStream {
         agrees(seq.0 == self.next && child.0 == self.tree.len())
     }
 
-    /// The sequence numbers of the batch that a read at `position` gets, and whether the shard ends after the batch.
+    /// Returns the sequence numbers of the batch that a read of `shard` at `position` returns, and whether the shard
+    /// ends after this batch.
     pub fn read(
         &self,
         alloc: Global,
@@ -271,7 +284,8 @@ impl ToldStream {
         Ok((numbers, end))
     }
 
-    /// The position at which reading of a shard begins, given an origin.
+    /// Returns the position in `shard` at which a read from the origin `from` begins at the time `clock`. An origin is
+    /// TRIM_HORIZON, LATEST or a moment.
     pub fn position(&self, clock: Moment, shard: ShardNo, from: Origin) -> u64
         ensures { result ≡ position_in self.now clock shard from }
     {
@@ -284,7 +298,8 @@ impl ToldStream {
         }
     }
 
-    /// Adds a record that was put.
+    /// Adds a record that was put at the time `clock`. Preconditions: `seq` is the stream's next sequence number, and
+    /// isn't the greatest `u64`. If memory runs out, the stream is unchanged.
     pub fn add_put(
         &mut self,
         clock: Moment,
@@ -307,7 +322,9 @@ impl ToldStream {
         Ok(())
     }
 
-    /// Notes that a shard was split.
+    /// Notes that `shard` was split at the time `clock`. The hash key of the split is `at`. Preconditions: the split is
+    /// allowed, `seq` is the stream's next sequence number, and `seq` isn't the greatest `u64`. If memory runs out, the
+    /// stream is unchanged.
     pub fn add_split(
         &mut self,
         clock: Moment,
@@ -330,7 +347,9 @@ impl ToldStream {
         }
     }
 
-    /// Notes that two shards were merged.
+    /// Notes that `shard` and `other` were merged at the time `clock`. Preconditions: the merge is allowed, `seq` is
+    /// the stream's next sequence number, and `seq` isn't the greatest `u64`. If memory runs out, the stream is
+    /// unchanged.
     pub fn add_merge(
         &mut self,
         clock: Moment,
@@ -353,8 +372,8 @@ impl ToldStream {
         }
     }
 
-    /// Notes a change of the retention period. From now on, everything is trimmed that the old or the new period trims
-    /// at this clock.
+    /// Notes that the retention period was changed to `hours` hours at the time `clock`. All records that are trimmed
+    /// at this time, according to the old or the new period, stay trimmed.
     pub fn add_kept(&mut self, clock: Moment, hours: u32)
         ensures { self.new ≡ with_hours clock hours self.old }
     {
@@ -363,7 +382,8 @@ impl ToldStream {
         self.floor = before.max(floor_at(clock, hours));
     }
 
-    /// Adds a good entry about this live stream, other than its creation. If memory runs out, the stream is as before.
+    /// Applies an entry that breaks no rule to this live stream. The entry can be any entry about this stream, except
+    /// the one that creates it. If memory runs out, the stream is unchanged.
     pub fn add(&mut self, clock: Moment, what: &Entry) -> Result<(), Memory>
         requires fit { IsFit what.now }
         requires good { (full : Bool) × (entry_verdict full clock what.now self.old ≡ Ok tt) }

@@ -1,4 +1,5 @@
-//! Judges the entries about streams, and adds good entries to the model.
+//! Judges the entries about streams in a journal, which is an event log, and applies the good entries to the judge's
+//! model of the streams. An entry records a command and what this command changed. It is good if it breaks no rule.
 ghost use Rattle.std.specs.Prelude.{ℕ, Bool, ◌≡◌, ◌≤◌, ◌-◌, ◌∷◌, ◌++◌, [], None, Some, Ok, IfErr, IfOk, OnErr, OnOk};
 ghost use Rattle.kds_defs.specs.declared.limits.TheConstants.{MOST_SHARDS};
 ghost use Rattle.kds_defs.specs.declared.reply.Refusal.TheVariants as refusal;
@@ -14,7 +15,8 @@ use kds_base::{Memory, Moment, Name, Seq, ShardNo, StreamNo};
 use kds_defs::{Entry, Refusal};
 use std::alloc::Global;
 
-/// Judges the creation of a stream.
+/// Judges the entry `made`, which says that a stream with the number `no`, the name `name` and `shards` shards was
+/// created.
 fn judge_made(streams: &[ToldStream], no: StreamNo, name: &Name, shards: u32) -> Result<(), Rule>
     requires { shards ≤ MOST_SHARDS }
     ensures { result ≡ made_verdict streams.now no name.now shards }
@@ -25,7 +27,8 @@ fn judge_made(streams: &[ToldStream], no: StreamNo, name: &Name, shards: u32) ->
     }
 }
 
-/// The live stream with this number, or the rule that an entry about it breaks if there is no such stream.
+/// Returns the live stream with the number `no`. If there is no such stream, returns the rule `By` with the refusal
+/// `NoStream`, because every entry about a missing stream breaks this rule.
 fn in_stream(streams: &[ToldStream], no: StreamNo) -> Result<&ToldStream, Rule>
     ensures some { IfOk result (λ x. live_at streams.now no ≡ Some x.now) }
     ensures none { IfErr result (λ r. (r ≡ rule.By refusal.NoStream) × (live_at streams.now no ≡ None)) }
@@ -36,7 +39,8 @@ fn in_stream(streams: &[ToldStream], no: StreamNo) -> Result<&ToldStream, Rule>
     }
 }
 
-/// Judges a split of a shard of the live stream with this number at a clock.
+/// Judges the entry `split`, which says that a shard of the stream with the number `no` was split. The present time is
+/// `clock`. The entry breaks a rule if there is no live stream with this number.
 fn judge_split(
     streams: &[ToldStream],
     clock: Moment,
@@ -53,7 +57,8 @@ fn judge_split(
     stream.judge_split(clock, shard, at, lacks_room(streams, 1), seq, low, high)
 }
 
-/// Judges an entry about a stream at a clock.
+/// Judges an entry about a stream. The present time is `clock`. Returns the rule that the entry breaks, or `Ok` if the
+/// entry is good.
 pub fn judge(streams: &[ToldStream], clock: Moment, what: &Entry) -> Result<(), Rule>
     requires { IsFit what.now }
     ensures { result ≡ stream_verdict streams.now clock what.now }
@@ -97,7 +102,7 @@ pub fn judge(streams: &[ToldStream], clock: Moment, what: &Entry) -> Result<(), 
     }
 }
 
-/// Adds a new stream, which gets the next number.
+/// Adds a new stream, which gets the next stream number. If memory runs out, the streams are unchanged.
 fn add_made(
     alloc: Global,
     streams: &mut Vec<ToldStream>,
@@ -114,7 +119,8 @@ fn add_made(
     Ok(())
 }
 
-/// Adds a good entry, other than a creation, to the stream with this number.
+/// Applies a good entry to the stream with the number `no`. The entry can be any entry about this stream, except the
+/// one that creates it. If memory runs out, the streams are unchanged.
 fn add_later(
     streams: &mut Vec<ToldStream>,
     clock: Moment,
@@ -129,7 +135,8 @@ fn add_later(
     streams[(no.0 - 1) as usize].add(clock, what)
 }
 
-/// Adds a good entry about a stream at a clock. If memory runs out, the streams are as before.
+/// Applies an entry about a stream. Precondition: `judge` finds this entry good at the time `clock`. If memory runs
+/// out, the streams are unchanged.
 pub fn add(
     alloc: Global,
     streams: &mut Vec<ToldStream>,

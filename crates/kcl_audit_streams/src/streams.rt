@@ -1,4 +1,4 @@
-//! All streams in the judge's model.
+//! All streams in the judge's model of the streams. The judge checks the entries of a journal, which is an event log.
 ghost use Rattle.std.specs.Prelude.{◌≡◌, ◌≤◌, if◌then◌else◌, None, Some};
 ghost use Rattle.std.specs.Option.{option_map};
 ghost use Rattle.kds_defs.specs.declared.limits.TheConstants.{MOST_SHARDS, OPEN_SHARDS};
@@ -12,7 +12,8 @@ use kds_defs::limits::{LIVE_STREAMS, OPEN_SHARDS};
 use kds_defs::{Origin, Refusal, Shard};
 use std::marker::Model;
 
-/// Every stream that was made, in the order of the streams' numbers, which begin with 1; and the clock.
+/// All streams that were ever created (including deleted streams), and the clock of the journal. The stream with the
+/// number n has the index n - 1. The clock is the time of the newest entry, in milliseconds.
 #[derive(Drop)]
 pub struct ToldStreams {
     pub clock: Moment,
@@ -27,7 +28,7 @@ impl Model for ToldStreams {
     ghost view = { λ s. record { clock = s.clock; streams = s.list.items } };
 }
 
-/// The live stream with this number, if there is one.
+/// Returns the live stream with the number `no`, if there is one.
 pub fn live(streams: &[ToldStream], no: StreamNo) -> Option<&ToldStream>
     ensures { option_map (λ x. x.now) result ≡ live_at streams.now no }
 {
@@ -39,7 +40,7 @@ pub fn live(streams: &[ToldStream], no: StreamNo) -> Option<&ToldStream>
     }
 }
 
-/// Whether a live stream is called `name`.
+/// Whether a live stream has the name `name`.
 pub fn is_named(streams: &[ToldStream], name: &Name) -> bool
     ensures { result ≡ is_named streams.now name.now }
 {
@@ -51,7 +52,7 @@ pub fn is_named(streams: &[ToldStream], name: &Name) -> bool
     false
 }
 
-/// The number of live streams.
+/// Returns the number of live streams.
 pub fn live_count(streams: &[ToldStream]) -> u64
     ensures { result ≡ live_count streams.now }
 {
@@ -64,7 +65,7 @@ pub fn live_count(streams: &[ToldStream]) -> u64
     count
 }
 
-/// Whether opening `more` further shards would exceed the maximum number of open shards.
+/// Whether adding `more` open shards would exceed `OPEN_SHARDS`, the maximum number of open shards over all streams.
 pub fn lacks_room(streams: &[ToldStream], more: u64) -> bool
     requires { more ≤ OPEN_SHARDS }
     ensures { result ≡ lacks_room streams.now more }
@@ -81,7 +82,9 @@ pub fn lacks_room(streams: &[ToldStream], more: u64) -> bool
     open > OPEN_SHARDS
 }
 
-/// Why a stream with this name and number of shards can't be made. `None` if it can be made.
+/// Returns why a stream called `name` with `shards` shards can't be created. The reason is `StreamThere` if a live
+/// stream has this name, `Full` if there would be too many live streams or open shards, and `Spent` if no stream number
+/// is left. If the stream can be created, the result is `None`.
 pub fn made_refusal(streams: &[ToldStream], name: &Name, shards: u32) -> Option<Refusal>
     requires { shards ≤ MOST_SHARDS }
     ensures { result ≡ made_refusal streams.now name.now shards }
@@ -98,7 +101,7 @@ pub fn made_refusal(streams: &[ToldStream], name: &Name, shards: u32) -> Option<
     None
 }
 
-/// Whether the shard with this key is listed at a clock.
+/// Whether ListShards returns the shard `key` at the time `clock`.
 fn is_listed(streams: &[ToldStream], clock: Moment, key: ShardRef) -> bool
     ensures { result ≡ is_listed_in (live_at streams.now key.stream) clock key.shard }
 {

@@ -1,4 +1,4 @@
-//! Generates the commands of a drill.
+//! Generates the commands of a drill. A drill is a self-test whose input is generated from a number.
 ghost use Rattle.std.specs.Prelude.{◌≡◌, IfOk, IfSome, OnErr, Some, None};
 ghost use Rattle.kds_defs.specs.declared.command.Command.TheVariants as command;
 ghost use Rattle.kds_defs.specs.Lawful.{IsLawfulCommand};
@@ -12,7 +12,8 @@ use kds_defs::Command;
 use std::alloc::Global;
 use std::marker::Model;
 
-/// Generates a drill's commands, one after another. Contracts see the commands that are still to come.
+/// Generates the commands of a drill, one after another. In contracts, a generator is the list of the commands that are
+/// still to come.
 #[derive(Drop)]
 pub struct Generator {
     state: State,
@@ -30,7 +31,8 @@ impl Model for Generator {
     ghost invariant = { λ g. IsSound g.state };
 }
 
-/// A generator of the commands of the drill `number`, which puts `records` records.
+/// Returns the generator for the drill that is generated from `number`. `records` is the number of records to put. One
+/// command is generated for each record.
 pub fn generate(alloc: Global, number: u64, records: u64) -> Generator
     ensures { result ≡ generated number records }
 {
@@ -40,8 +42,8 @@ pub fn generate(alloc: Global, number: u64, records: u64) -> Generator
 }
 
 impl Generator {
-    /// Returns the next command. `None` exactly if no command is left. If memory runs out, the same commands are still
-    /// to come.
+    /// Returns the next command, or `None` if no command is left. If memory runs out, the commands that are still to
+    /// come don't change.
     pub fn next(&mut self) -> Result<Option<Command>, Memory>
         ensures ok { IfOk result (λ next. GivesNext next self.old self.new) }
         ensures lawful { IfOk result (λ next. IfSome next IsLawfulCommand) }

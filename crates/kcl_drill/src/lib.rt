@@ -1,4 +1,5 @@
-//! A drill: a large valid input that is generated from a number, and the laws by which its text is always the same.
+//! A drill is a self-test whose large, valid input is generated from a number. This crate generates the commands of a
+//! drill, and proves that the text of a drill's summary depends only on this number and on the number of records.
 #![tactic(auto)]
 
 mod generator;

@@ -1,4 +1,4 @@
-//! The constants of a drill.
+//! The constants of a drill. A drill is a self-test whose input is generated from a number.
 ghost use Rattle.std.specs.Prelude.{◌≡◌};
 ghost use Rattle.kcl_drill.specs.declared.limits.TheConstants.{FIRST_SHARDS, MEMBER_TURNS, MOST_OPEN, MOST_RECORDS, MOST_WORKERS, RECORDS_A_TURN, RESHARD_EVERY, TICK};
 
@@ -8,7 +8,8 @@ pub const FIRST_SHARDS: u32 = 4;
 /// A shard is split only while fewer than this many shards are open.
 pub const MOST_OPEN: usize = 16;
 
-/// After every `RESHARD_EVERY` records, a shard is split or two shards are merged.
+/// The number of records from one resharding to the next. A resharding splits a shard or merges two shards, if
+/// possible.
 pub const RESHARD_EVERY: u64 = 500;
 
 /// The maximum number of a drill's records.
@@ -17,16 +18,17 @@ pub const MOST_RECORDS: u64 = 1_000_000;
 /// The maximum number of a drill's workers.
 pub const MOST_WORKERS: u64 = 64;
 
-/// The number of turns of each worker, without the turns for its records.
+/// The fixed part of the number of turns that each worker makes. A turn is one command of the worker. In addition, each
+/// worker makes one turn for every `RECORDS_A_TURN` records of the drill.
 pub const MEMBER_TURNS: u64 = 200;
 
-/// For every `RECORDS_A_TURN` records, each worker makes one further turn.
+/// The number of records for which each worker makes one turn, in addition to its `MEMBER_TURNS` turns.
 pub const RECORDS_A_TURN: u64 = 100;
 
-/// The milliseconds between two turns of a worker.
+/// The time between two consecutive turns of a worker, in milliseconds.
 pub const TICK: u64 = 50;
 
-/// States the constants as numbers, since the definitions refer to the code's constants by name.
+/// States the value of each constant. The definitions in `specs` refer to the constants by name.
 pub fn drill_limits()
     ensures first { FIRST_SHARDS ≡ 4 }
     ensures open { MOST_OPEN ≡ 16 }

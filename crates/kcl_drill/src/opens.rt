@@ -1,4 +1,5 @@
-//! The open shards of a drill's stream, computed from the drill's own commands.
+//! The open shards of a drill's stream, computed from the drill's own commands. A drill is a self-test whose input is
+//! generated from a number.
 ghost use Rattle.std.specs.Prelude.{◌≡◌, ◌+◌, ◌-◌, true, ◌==◌, ◌<◌, IfOk, OnOk, OnErr, [], ◌^◌, Some};
 ghost use Rattle.kds_base.specs.Span.{follows, is_inside};
 ghost use Rattle.kcl_drill.specs.Generated.{first_open, is_lowest, lowest, next_to, without, after_split, after_merge};
@@ -15,7 +16,7 @@ pub struct OpenShard {
     pub range: Range,
 }
 
-/// The open shards in the order of their numbers, and the number that the next shard gets.
+/// The open shards in the order of their numbers, and the number that the next new shard gets.
 #[derive(Drop)]
 pub struct OpenShards {
     all: Vec<OpenShard>,
@@ -30,7 +31,7 @@ impl Model for OpenShards {
     ghost view = { λ o. record { all = o.all.items; next = o.next } };
 }
 
-/// Whether no range in `all` starts before the range of `x`.
+/// Whether the range of `x` starts first: no shard in `all` has a range that starts earlier.
 fn is_lowest_of(all: &[OpenShard], x: &OpenShard) -> bool
     ensures { result ≡ is_lowest all.now x.now }
 {
@@ -44,7 +45,7 @@ fn is_next(r: &Range, s: &Range) -> bool
     r.end < s.start && s.start - r.end == 1
 }
 
-/// The shards in `all` whose number isn't `no`.
+/// Returns the shards in `all` whose number isn't `no`.
 fn all_but(alloc: Global, all: &[OpenShard], no: u64) -> Result<Vec<OpenShard>, Memory>
     ensures { IfOk result (λ others. others.items ≡ without no all.now) }
 {
@@ -58,7 +59,7 @@ fn all_but(alloc: Global, all: &[OpenShard], no: u64) -> Result<Vec<OpenShard>, 
 }
 
 impl OpenShards {
-    /// An empty list of open shards.
+    /// Returns an empty list of open shards. The next new shard gets the number 0.
     pub fn none(alloc: Global) -> OpenShards
         ensures none { result.all ≡ [] }
         ensures next { result.next ≡ 0 }
@@ -69,7 +70,7 @@ impl OpenShards {
         }
     }
 
-    /// The open shards of a stream that has just been created.
+    /// Returns the open shards of a drill's stream that has just been created.
     pub fn first(alloc: Global) -> Result<OpenShards, Memory>
         ensures { IfOk result (λ o. o ≡ first_open) }
     {
@@ -86,14 +87,14 @@ impl OpenShards {
         Ok(OpenShards { all, next })
     }
 
-    /// The open shards in the order in which they were made.
+    /// Returns the open shards in the order in which they were made.
     pub fn as_slice(&self) -> &[OpenShard]
         ensures { result.now ≡ self.now.all }
     {
         self.all.as_slice()
     }
 
-    /// The open shard whose range starts first.
+    /// Returns the open shard whose range starts first, or `None` if no shard is open.
     pub fn lowest(&self) -> Option<OpenShard>
         ensures { result ≡ lowest self.now.all }
     {
@@ -101,7 +102,7 @@ impl OpenShards {
         all.iter().copied().find(|x| is_lowest_of(all, x))
     }
 
-    /// The open shard whose range starts right after `range` ends.
+    /// Returns the open shard whose range starts right after `range` ends, or `None` if there is no such shard.
     pub fn next_to(&self, range: &Range) -> Option<OpenShard>
         ensures { result ≡ next_to range.now self.now.all }
     {
@@ -110,8 +111,9 @@ impl OpenShards {
 }
 
 impl OpenShards {
-    /// Splits the open shard `x` at the hash key `at`: `x` closes, and two new shards with the parts of its range open.
-    /// If memory runs out, nothing has changed.
+    /// Splits the open shard `x` at the hash key `at`: `x` closes, and two new shards open, one for each part of the
+    /// range of `x`. Preconditions: neither part is empty, and two more shard numbers fit into 64 bits. If memory runs
+    /// out, nothing changes.
     pub fn split(&mut self, alloc: Global, x: OpenShard, at: u128) -> Result<(), Memory>
         requires inside { is_inside x.range at ≡ true }
         requires room { self.old.next + 1 < 2 ^ 64 - 1 }
@@ -136,8 +138,9 @@ impl OpenShards {
         Ok(())
     }
 
-    /// Merges the open shards `x` and `y`: both close, and a new shard with their joint range opens. If memory runs
-    /// out, nothing has changed.
+    /// Merges the open shards `x` and `y`: both close, and a new shard opens, whose range joins both ranges.
+    /// Preconditions: the range of `y` starts right after that of `x` ends, and another shard number fits into 64 bits.
+    /// If memory runs out, nothing changes.
     pub fn merge(&mut self, alloc: Global, x: OpenShard, y: OpenShard) -> Result<(), Memory>
         requires adjacent { follows x.range y.range ≡ true }
         requires room { self.old.next < 2 ^ 64 - 1 }

@@ -1,4 +1,5 @@
-//! Chooses the shard that a drill splits, or the two shards that it merges.
+//! Chooses the shard that a drill splits, or the two shards that it merges. A drill is a self-test whose input is
+//! generated from a number.
 ghost use Rattle.std.specs.Prelude.{◌≡◌, ◌<◌, IfOk, IfSome};
 ghost use Rattle.kds_defs.specs.declared.command.Command.{Command};
 ghost use Rattle.kds_defs.specs.Lawful.{IsLawfulCommand};
@@ -12,14 +13,15 @@ use kds_base::{Memory, Range, ShardNo};
 use kds_defs::Command;
 use std::alloc::Global;
 
-/// The planned change: a split of a shard in the middle of its range, or a merge of a shard with its neighbour.
+/// A planned change: a split of a shard in the middle of its range, or a merge of a shard with its neighbour.
 #[derive(Clone, Copy)]
 pub enum Plan {
     Split(OpenShard),
     Merge(OpenShard, OpenShard),
 }
 
-/// The hash key at which the range is split in the middle.
+/// Returns the hash key that splits the range in the middle. The returned key is the first hash key of the upper part.
+/// Precondition: the range has at least two hash keys.
 pub fn middle_of(r: &Range) -> u128
     requires { r.now.start < r.now.end }
     ensures { result ≡ middle r.now }
@@ -27,14 +29,16 @@ pub fn middle_of(r: &Range) -> u128
     r.start + (r.end - r.start) / 2 + 1
 }
 
-/// Whether bit 40 of `x` is 0.
+/// Whether bit 40 of `x` is 0. The lowest bit is bit 0.
 fn is_bit_40_clear(x: u64) -> bool
     ensures { result ≡ is_bit_0 40 x }
 {
     (x >> 40) % 2 == 0
 }
 
-/// Merges the shard whose range starts first with its neighbour. `None` if there is no second shard.
+/// Returns the plan to merge two open shards: the shard whose range starts first, and its upper neighbour, whose range
+/// starts right after the first range ends. Returns `None` if fewer than two shards are open, or if there is no such
+/// neighbour.
 fn find_merge(opens: &OpenShards) -> Option<Plan>
     ensures is { result ≡ merge_lowest opens.now.all }
     ensures possible { IfSome result IsPossible }
@@ -47,7 +51,8 @@ fn find_merge(opens: &OpenShards) -> Option<Plan>
     Some(Plan::Merge(x, y))
 }
 
-/// The change to make after `count` records, if any. `x` is the number that was drawn last.
+/// Returns the change that is due now, or `None` if no change is due. `count` is the number of records made so far, and
+/// `x` is the random number that was drawn last.
 pub fn find_plan(count: u64, x: u64, opens: &OpenShards) -> Option<Plan>
     ensures is { result ≡ plan count x opens.now }
     ensures possible { IfSome result IsPossible }
@@ -67,7 +72,7 @@ pub fn find_plan(count: u64, x: u64, opens: &OpenShards) -> Option<Plan>
 }
 
 impl Plan {
-    /// The command that makes the change.
+    /// Returns the command that makes the planned change.
     pub fn command(&self, alloc: Global) -> Result<Command, Memory>
         requires { IsPossible self.now }
         ensures is { IfOk result (λ c. c ≡ command_of self.now) }

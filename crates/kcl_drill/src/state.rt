@@ -1,4 +1,4 @@
-//! The state of a generator.
+//! The state of the generator of a drill's commands. A drill is a self-test whose input is generated from a number.
 ghost use Rattle.std.specs.Prelude.{◌≡◌, ◌∷◌, IfOk, IfSome, OnErr};
 ghost use Rattle.kds_defs.specs.Lawful.{IsLawfulCommand};
 ghost use Rattle.kcl_drill.specs.declared.state.DrillStage.TheVariants as stage;
@@ -13,7 +13,8 @@ use kds_base::Memory;
 use kds_defs::Command;
 use std::alloc::Global;
 
-/// The next step: CreateStream, a record, or a split or merge that may be due before the next record.
+/// The generator's next step: to create the stream, to put a record, or to split or merge shards before the next record
+/// if such a change is due.
 #[derive(Clone, Copy)]
 pub enum DrillStage {
     Create,
@@ -21,8 +22,8 @@ pub enum DrillStage {
     Reshard,
 }
 
-/// The generator's state: the next step, the number of records made and left, the number drawn last, and the open
-/// shards.
+/// The generator's state: the next step, the number of records made so far (`count`) and still to be made (`left`), the
+/// random number drawn last, and the open shards.
 #[derive(Drop)]
 pub struct State {
     pub alloc: Global,
@@ -34,7 +35,8 @@ pub struct State {
 }
 
 impl State {
-    /// The state before the first command of the drill `number`, with `records` records to come.
+    /// Returns the state before the first command of a drill. The drill is generated from `number`, and `records` is
+    /// the number of records to be made.
     pub fn new(alloc: Global, number: u64, records: u64) -> State
         ensures is { coming result ≡ generated number records }
         ensures sound { IsSound result }
@@ -49,7 +51,8 @@ impl State {
         }
     }
 
-    /// Makes the command CreateStream.
+    /// Returns CreateStream, the first command of a drill. If memory runs out, the commands that are still to come
+    /// don't change.
     pub fn create(&mut self) -> Result<Command, Memory>
         requires sound { IsSound self.old }
         requires stage { self.old.stage ≡ stage.Create }
@@ -67,7 +70,8 @@ impl State {
         })
     }
 
-    /// Makes the command that puts the next record. `None` if no record is left.
+    /// Returns the command that puts the next record, or `None` if no record is left. If memory runs out, the commands
+    /// that are still to come don't change.
     pub fn put(&mut self) -> Result<Option<Command>, Memory>
         requires sound { IsSound self.old }
         requires stage { self.old.stage ≡ stage.Put }
@@ -89,7 +93,8 @@ impl State {
         Ok(Some(Command::Put { name, item }))
     }
 
-    /// Makes the command of the split or merge that is due. `None` if no such change is due.
+    /// Returns the command of the split or merge that is due now, or `None` if neither is due. If memory runs out, the
+    /// commands that are still to come don't change.
     pub fn reshard(&mut self) -> Result<Option<Command>, Memory>
         requires sound { IsSound self.old }
         requires stage { self.old.stage ≡ stage.Reshard }

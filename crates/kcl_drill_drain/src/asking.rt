@@ -1,4 +1,5 @@
-//! Makes a turn on leases.
+//! Sends one command on leases to the machine. The command, together with its sender and its time, is called a turn.
+//! The sender is given as a number, the actor.
 ghost use Rattle.std.specs.Prelude.{◌≡◌, ◌<◌, ◌^◌, List, false};
 ghost use Rattle.kds_defs.specs.declared.command.Turn.{Turn as Asked};
 ghost use Rattle.kds_defs.specs.Kinds.{is_service};
@@ -8,8 +9,9 @@ ghost use Rattle.kcl_drill_drain.specs.Leased.{Answers, HasLeased, turn_of};
 use kds_base::{Memory, Moment};
 use kds_defs::{Answer, Command, Machine, Turn};
 
-/// Makes a turn of a command for leases on the machine. Even if memory runs out, the machine has answered no other
-/// turns.
+/// Sends `what`, a command on leases, to the machine. The sender is the actor `by`, and the time is `at`. Returns the
+/// machine's answer. The error means out of memory. Even then, all commands that the machine has answered since the
+/// call began are commands on leases, with the sender `by` and the time `at`.
 pub fn ask<M: Machine>(
     machine: &mut M,
     by: u32,

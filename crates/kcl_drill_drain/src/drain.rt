@@ -1,4 +1,5 @@
-//! Drains all leases by one actor, without a worker (decision 81).
+//! Reads all listed shards to their ends with commands of one actor (one sender), without a worker (decision 81). A
+//! shard is listed if ListShards returns it. A row is the item of a lease in the lease table.
 ghost use Rattle.std.specs.Prelude.{◌≡◌, List, OnOk};
 ghost use Rattle.kds_defs.specs.declared.command.Turn.{Turn as Asked};
 ghost use Rattle.kcl_drill_drain.specs.Draining.{CanDrain};
@@ -12,7 +13,8 @@ use crate::rows::drain_keys;
 use kds_base::{Memory, Moment};
 use kds_defs::{Answer, Command, Machine, Reply};
 
-/// Makes a row for each shard in a survey that has no row yet.
+/// Makes a row in the lease table for each shard in `survey` that has no row yet. A survey is the machine's answer with
+/// all listed shards and all rows.
 fn make_missing<M: Machine>(
     machine: &mut M,
     by: u32,
@@ -30,7 +32,8 @@ fn make_missing<M: Machine>(
     }
 }
 
-/// Reads the shard of each row in a survey to its end.
+/// Takes the lease of each shard in `survey`, reads the shard to its end, and checkpoints there. A lease whose
+/// checkpoint is already the shard's end is left as it is.
 fn drain_listed<M: Machine>(
     machine: &mut M,
     by: u32,
@@ -48,12 +51,14 @@ fn drain_listed<M: Machine>(
     }
 }
 
-/// Reads every listed shard to its end and checkpoints there, with turns of the actor `by` at the moment `at`. First
-/// it makes the missing rows. Then it takes the rows that aren't at their shard's end, one after another in the order
-/// of their keys, and reads their shards to the end. Afterwards the checkpoint in the row of a closed shard is the
-/// shard's end. The checkpoint of an open shard is the number of its last record, or the trim horizon if it has no
-/// record. Even if memory runs out, the machine has answered no other turns. An error means that memory ran out
-/// (Kinesis Client Library, leases).
+/// Reads every listed shard to its end and checkpoints there (see Kinesis Client Library, leases). The sender of all
+/// commands is the actor `by`, and their time is `at`. First, a row is made in the lease table for each listed shard
+/// that has none. Then each lease whose checkpoint isn't the shard's end is taken, in the order of stream and shard
+/// numbers, and its shard is read to the end. Afterwards the checkpoint of each closed shard is the shard's end. The
+/// checkpoint of each open shard is the sequence number of its last record, or the trim horizon if the shard has no
+/// record. This result is proved only for a machine whose history (the list of its commands so far) meets `CanDrain`.
+/// The error means out of memory. Even then, all commands that the machine has answered since the call began are
+/// commands on leases, with the sender `by` and the time `at`.
 pub fn lone_drain<M: Machine>(machine: &mut M, by: u32, at: Moment) -> Result<(), Memory>
     ensures drained { (h : List Asked) → M.stands_for machine.old h → CanDrain h at → OnOk result (HasDrained (M.stands_for machine.new) by at h) }
     ensures begun { (h : List Asked) → M.stands_for machine.old h → HasLeased (M.stands_for machine.new) by at h }

@@ -1,10 +1,10 @@
-//! The state of a tenure while its shard is drained.
+//! The state of a tenure, one worker's hold on a lease, while the lease's shard is read to the end.
 use kds_base::TenureNo;
 
-/// The number of records that are read at once.
+/// The most records that one read returns.
 pub const READ: u32 = 1_000;
 
-/// A tenure: its number, its read position, and the counter of its row.
+/// The state of a tenure: its number, the position of its next read, and the counter of its row in the lease table.
 #[derive(Clone, Copy)]
 pub struct DrainTenure {
     pub tenure: TenureNo,

@@ -1,4 +1,5 @@
-//! Reads every listed shard to its end and checkpoints there, on any machine.
+//! Reads every listed shard (each shard that ListShards returns) to its end and sets the shard's checkpoint there, on
+//! any `Machine`.
 #![tactic(auto)]
 
 mod asking;

@@ -1,4 +1,5 @@
-//! Makes missing rows of the lease table.
+//! Makes a row in the lease table for each listed shard that has no row yet. A shard is listed if ListShards returns
+//! it. A survey is the machine's answer with all listed shards and all rows.
 ghost use Rattle.std.specs.Prelude.{◌≡◌, List};
 ghost use Rattle.kds_defs.specs.declared.command.Turn.{Turn as Asked};
 ghost use Rattle.kcl_drill_drain.specs.Leased.{HasLeased};
@@ -10,7 +11,8 @@ use kcl_drill_summary::row_among;
 use kds_base::{Memory, Moment, ShardRef};
 use kds_defs::{Command, Machine, Origin, Row};
 
-/// Makes a row for `key` if `seen` is `None`. The new row begins at the trim horizon.
+/// Makes a row in the lease table for the shard `key`, if `seen` is `None`. `seen` is the shard's row in a survey of
+/// the lease table. With the new row, reading of the shard begins at the trim horizon.
 fn make_row<M: Machine>(
     machine: &mut M,
     by: u32,
@@ -29,7 +31,7 @@ fn make_row<M: Machine>(
     Ok(())
 }
 
-/// Makes the rows of those keys that have no row in `among`.
+/// Makes a row in the lease table for each shard in `keys` that has no row in `among`, the rows of a survey.
 pub fn make_keys<M: Machine>(
     machine: &mut M,
     by: u32,

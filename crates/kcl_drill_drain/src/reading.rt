@@ -1,4 +1,4 @@
-//! Reads one shard to its end.
+//! Reads one shard to its end, batch by batch. A tenure is one worker's hold on the shard's lease.
 ghost use Rattle.std.specs.Prelude.{ℕ, ◌≡◌, ◌<◌, Bool, List, Some, Ok, IfOk, IfSome};
 ghost use Rattle.kds_defs.specs.declared.command.Turn.{Turn as Asked};
 ghost use Rattle.kds_defs.specs.declared.reply.Reply.TheVariants as reply;
@@ -15,8 +15,8 @@ use kcl_proc::Tally;
 use kds_base::{Memory, Moment, Seq};
 use kds_defs::{Answer, Machine, Reply, Stored, Target};
 
-/// The result of a read: the number of its last record, the position after that record, and whether the shard ends
-/// there.
+/// The result of one read: the sequence number of the last record, if the read returned a record; the position of the
+/// next read; and whether the shard ends at that position.
 #[derive(Clone, Copy)]
 pub struct Fetch {
     pub last: Option<Seq>,
@@ -24,8 +24,8 @@ pub struct Fetch {
     pub ended: bool,
 }
 
-/// Passes a batch to the processor, unless it is empty. Returns the number of its last record, if it has one and the
-/// processor asks for a checkpoint there.
+/// Passes the batch to the processor, unless the batch is empty. Returns the sequence number of the batch's last
+/// record, at which the processor asks for a checkpoint. Returns `None` if the batch is empty.
 fn process(tally: &mut Tally, batch: &[Stored]) -> Result<Option<Seq>, Memory>
     ensures { IfOk result (λ last. last ≡ last_number_in batch.now) }
 {
@@ -38,7 +38,8 @@ fn process(tally: &mut Tally, batch: &[Stored]) -> Result<Option<Seq>, Memory>
     }
 }
 
-/// Passes the batch of an answer to the processor. `None` if the answer isn't that of a read.
+/// Passes the batch in `answer`, the answer to a read, to the processor. Returns the result of the read, or `None` if
+/// `answer` isn't the reply to a read.
 fn process_answer(tally: &mut Tally, answer: &Answer) -> Result<Option<Fetch>, Memory>
     ensures { (batch : List Stored) (place : ℕ) (ended : Bool) → answer.now ≡ Ok (reply.Read batch place ended)
         → IfOk result (λ f. f ≡ Some (record { last = last_number_in batch; reach = place; ended = ended })) }
@@ -56,7 +57,8 @@ fn process_answer(tally: &mut Tally, answer: &Answer) -> Result<Option<Fetch>, M
     }
 }
 
-/// Sets the row's checkpoint to the batch's last record, if the batch has one. Returns the row's counter.
+/// Sets the checkpoint of the tenure's lease to `last`, the sequence number of the last record in a batch. If the batch
+/// was empty, `last` is `None`, and nothing is done. Returns the lease's present counter.
 fn mark_last<M: Machine>(
     machine: &mut M,
     by: u32,
@@ -74,8 +76,10 @@ fn mark_last<M: Machine>(
     }
 }
 
-/// If the read reached the shard's end, sets the checkpoint to the end. Otherwise reading continues only if the read
-/// position has increased, so that reading terminates on any machine.
+/// Decides whether another read follows the read at the position `place`. If the read reached the shard's end
+/// (`ended`), sets the checkpoint to that end, and returns `None`. Otherwise, if the read position of `held` is above
+/// `place`, returns `held`, the tenure for the next read. If that position isn't above `place`, returns `None`. So the
+/// position rises with each read, and reading terminates on any machine.
 fn finish_or_continue<M: Machine>(
     machine: &mut M,
     by: u32,
@@ -99,7 +103,8 @@ fn finish_or_continue<M: Machine>(
     }
 }
 
-/// Delivers the records of a read, and sets the checkpoint after them.
+/// Reports the records of a read as processed (the command Give). Sets the checkpoint to the last of these records, and
+/// then to the shard's end if the read reached that end. Returns the tenure for the next read, if a read follows.
 fn deliver<M: Machine>(
     machine: &mut M,
     by: u32,
@@ -122,7 +127,8 @@ fn deliver<M: Machine>(
     finish_or_continue(machine, by, at, held.place, next, fetch.ended)
 }
 
-/// Reads once: the batch is processed and delivered, and the checkpoint is set.
+/// Makes one read, processes its records, reports them as processed, and sets the checkpoint. Returns the tenure for
+/// the next read, or `None` if no read follows.
 fn read_batch<M: Machine>(
     machine: &mut M,
     by: u32,
@@ -141,7 +147,7 @@ fn read_batch<M: Machine>(
     }
 }
 
-/// Reads the shard of a tenure to the end.
+/// Reads the shard of the tenure `from` to the end, beginning at the tenure's read position.
 pub fn read_on<M: Machine>(
     machine: &mut M,
     by: u32,

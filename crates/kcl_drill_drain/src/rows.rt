@@ -1,4 +1,5 @@
-//! Reads the shards of rows to the end, one after another.
+//! Takes the leases of shards one after another, and reads each of these shards to its end. A row is a lease in the
+//! lease table.
 ghost use Rattle.std.specs.Prelude.{List};
 ghost use Rattle.kds_defs.specs.declared.command.Turn.{Turn as Asked};
 ghost use Rattle.kcl_drill_drain.specs.Leased.{HasLeased};
@@ -11,7 +12,7 @@ use kcl_drill_summary::row_among;
 use kds_base::{Memory, Moment, ShardRef};
 use kds_defs::{Machine, Row};
 
-/// Takes a row with its counter, and reads its shard to the end.
+/// Takes the lease of the shard `key`, and reads the shard to its end. The lease's counter must be `counter`.
 fn drain_taken<M: Machine>(
     machine: &mut M,
     by: u32,
@@ -31,7 +32,8 @@ fn drain_taken<M: Machine>(
     }
 }
 
-/// Takes the row of a key and reads its shard to the end, unless the row's checkpoint is the shard's end already.
+/// Takes the lease of the shard `key`, whose row is `row`, and reads the shard to its end. Does nothing if `row` is
+/// `None`, or if the row's checkpoint is already the shard's end.
 fn drain_row<M: Machine>(
     machine: &mut M,
     by: u32,
@@ -55,8 +57,8 @@ fn drain_row<M: Machine>(
     }
 }
 
-/// Takes the rows of these keys one after another, and reads their shards to the end. Parents come before their
-/// children.
+/// Takes the lease of each shard in `keys`, one after another, and reads the shard to its end. The row of each lease is
+/// looked up in `among`. In `keys`, parents come before their children.
 pub fn drain_keys<M: Machine>(
     machine: &mut M,
     by: u32,

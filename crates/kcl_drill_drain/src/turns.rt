@@ -1,5 +1,5 @@
-//! The turns of one tenure: it is taken, its shard is opened and read, the records are delivered, and the checkpoint is
-//! set.
+//! The commands of one tenure, a worker's hold on a lease. They take the lease, open its shard, read the records,
+//! report them as processed, and set the checkpoint.
 ghost use Rattle.std.specs.Prelude.{ℕ, ◌≡◌, List, Some, Ok};
 ghost use Rattle.kds_base.specs.declared.lease_key.Checkpoint.{Checkpoint};
 ghost use Rattle.kds_defs.specs.declared.command.Turn.{Turn as Asked};
@@ -15,7 +15,7 @@ use kcl_consumer::first_place;
 use kds_base::{Memory, Moment, ShardRef, WorkerNo};
 use kds_defs::{Answer, Command, Machine, Reply, Target};
 
-/// The tenure in the answer to a take command, if the row was taken.
+/// Returns the new tenure in the answer to the command Take. Returns `None` if the lease wasn't taken.
 fn taken_of(answer: &Answer) -> Option<DrainTenure>
     ensures { (t n : ℕ) (start : Checkpoint) → answer.now ≡ Ok (reply.Taken t n start)
         → result ≡ Some (record { tenure = t; place = first_place start; counter = n }) }
@@ -36,7 +36,8 @@ fn taken_of(answer: &Answer) -> Option<DrainTenure>
     }
 }
 
-/// The counter in the answer to a mark command. `otherwise` if the answer has no counter.
+/// Mark is the command that sets a checkpoint. Returns the lease's new counter, which the answer to Mark states.
+/// Returns `otherwise` if the answer has no counter.
 fn counter_of(answer: &Answer, otherwise: u64) -> u64
     ensures { (n : ℕ) → answer.now ≡ Ok (reply.Counter n) → result ≡ n }
 {
@@ -46,7 +47,8 @@ fn counter_of(answer: &Answer, otherwise: u64) -> u64
     }
 }
 
-/// Takes the row of a key with its counter.
+/// Takes the lease of the shard `key` for the worker 1. The lease's counter must be `counter`. Returns the new tenure,
+/// or `None` if the lease wasn't taken.
 pub fn take<M: Machine>(
     machine: &mut M,
     by: u32,
@@ -70,7 +72,7 @@ pub fn take<M: Machine>(
     Ok(held)
 }
 
-/// Opens the shard of a tenure.
+/// Opens the shard of the tenure. The tenure may then read the shard.
 pub fn open<M: Machine>(
     machine: &mut M,
     by: u32,
@@ -88,7 +90,7 @@ pub fn open<M: Machine>(
     Ok(())
 }
 
-/// Reads at the tenure's read position.
+/// Reads at most `READ` records, beginning at the tenure's read position. Returns the machine's answer.
 pub fn read<M: Machine>(
     machine: &mut M,
     by: u32,
@@ -109,7 +111,7 @@ pub fn read<M: Machine>(
     ask(machine, by, at, what)
 }
 
-/// Delivers what a tenure has read.
+/// Reports the tenure's oldest read that hasn't been reported yet. The records of this read then count as processed.
 pub fn give<M: Machine>(
     machine: &mut M,
     by: u32,
@@ -126,7 +128,8 @@ pub fn give<M: Machine>(
     Ok(())
 }
 
-/// Sets the checkpoint in the row of a tenure, and returns the row's counter.
+/// Sets the checkpoint of the tenure's lease to `to`. Returns the lease's new counter, or the counter in `held` if the
+/// command was refused.
 pub fn mark<M: Machine>(
     machine: &mut M,
     by: u32,

@@ -1,4 +1,5 @@
-//! The answers to commands on a tenure that only its actor uses, and what turns on leases leave unchanged.
+//! Laws of the commands on leases: how the commands are answered, and what they leave unchanged. A tenure is one
+//! worker's hold on a lease. A read waits until the command Give reports its records as processed.
 ghost use Rattle.std.specs.Prelude.{ℕ, ◌≡◌, ◌+◌, ◌<◌, ◌≤◌, ◌==◌, true, false, length, List, ◌∷◌, ◌++◌, Some};
 ghost use Rattle.kds_base.specs.declared.lease_key.ShardRef.{ShardRef};
 ghost use Rattle.kds_defs.specs.declared.command.Target.{Target};
@@ -18,10 +19,13 @@ ghost use Rattle.kds_defs.specs.Legal.{IsLegal};
 ghost use Rattle.kds_defs.specs.Shards.{shards};
 ghost use Rattle.kcl_drill_laws.specs.Leasing.{AreOnLeases, HasSameFloors, HasSameStreams};
 
-/// The answers of a tenure that only its actor uses. A row that isn't at its shard's end can be taken with its counter.
-/// Its shard can be opened if it is listed and its parents are processed. Then the tenure can read at its read position
-/// while fewer than eight reads are pending, deliver its pending reads in their order, and set the checkpoint of its
-/// row to a delivered position (Kinesis Client Library, leases).
+/// States how the commands of a tenure, one worker's hold on a lease, are answered. A lease whose checkpoint isn't the
+/// shard's end can be taken by a command that names the lease's present counter. Right after the lease was taken, the
+/// shard can be opened if it is listed (ListShards returns it) and the checkpoint of each listed parent is the parent's
+/// end. While the tenure holds the lease, it can read at its read position if the shard is listed and fewer than eight
+/// reads wait. The tenure can report the oldest waiting read as processed. It can move the checkpoint forward, at most
+/// to the end of the records that it has reported as processed. The lease's counter and the number of tenures must be
+/// below their maximum (Kinesis Client Library, leases).
 pub fn held_answers()
     ensures take { (log : Journal) (c by owner : ℕ) (key : ShardRef) (r : Row) → row log key ≡ Some r → MayTake log r
         → IsTakenSo log c by owner key r }
@@ -35,7 +39,9 @@ pub fn held_answers()
         → IsMarkedSo log c x to }
 {}
 
-/// The state after each of these journal lines: how far the tenure has come, and its row.
+/// States how a tenure and its lease change with each event of the tenure in the journal, the machine's event log.
+/// There are four cases: the lease is taken and the shard is opened, a batch is read, the oldest waiting read is
+/// reported as processed, and a checkpoint is set.
 pub fn held_states()
     ensures begun { (log : Journal) (c d by owner : ℕ) (key : ShardRef) (r : Row) → row log key ≡ Some r
         → Holds (opened_line log d by ∷ taken_line log c by key r owner ∷ log) (begun_from log by key r) }
@@ -46,28 +52,31 @@ pub fn held_states()
     ensures marked { (log : Journal) (c : ℕ) (x : Holding) (to : Target) → Holds log x → Holds (marked_line c x to ∷ log) (after_mark x to) }
 {}
 
-/// Turns on leases don't change the streams.
+/// Commands on leases don't change the streams: their names, shards, records, next sequence numbers and retention
+/// periods stay the same.
 pub fn lease_turns()
     ensures { (more h : List Turn) → AreOnLeases more → HasSameStreams (journal (more ++ h)) (journal h) }
 {}
 
-/// Turns on leases don't change which streams are live, nor which records are trimmed at a given clock.
+/// Commands on leases don't change which streams exist. If no command so far has a time after `c`, they don't change
+/// the trim horizon that a stream has at the time `c` either.
 pub fn lease_floors()
     ensures { (more h : List Turn) (c : ℕ) → AreOnLeases more → clock (more ++ h) ≤ c
         → HasSameFloors c (journal (more ++ h)) (journal h) }
 {}
 
-/// Every parent of a shard has a smaller number than the shard, and is closed (Kinesis API Reference, Shard).
+/// A shard's parents have smaller shard numbers than the shard, and are closed (Kinesis API Reference, Shard).
 pub fn closed_parents()
     ensures { (log : Journal) → IsLegal log → (s : ℕ) → AreParentsClosed (shards log s) }
 {}
 
-/// Each turn increases a row's counter by at most one, and starts at most one tenure.
+/// After `n` commands of any kind, each lease's counter and each tenure's number is at most `n`.
 pub fn lease_counts()
     ensures { (h : List Turn) → AreCounted h }
 {}
 
-/// A turn puts at most 500 records (Kinesis API Reference, PutRecords).
+/// After `n` commands, a shard has at most 500 * `n` records, since one command puts at most 500 records (Kinesis API
+/// Reference, PutRecords).
 pub fn record_counts()
     ensures { (h : List Turn) → IsHistory h → AreFewRecords h }
 {}

@@ -1,4 +1,6 @@
-//! Laws of a drill's history after its hall was closed.
+//! Laws of the history of a drill. A drill is a self-test in which two participants, the root and the feeder, send
+//! generated commands to a machine, and workers send commands on leases. The history is the list of all these commands
+//! with their senders and times. The history is complete once the hall, the lock around the machine, is closed.
 ghost use Rattle.std.specs.Prelude.{ℕ, ◌≡◌, ◌++◌, ◌<◌, ◌≤◌, ◌^◌, List, length};
 ghost use Rattle.kds_defs.specs.declared.command.Turn.{Turn};
 ghost use Rattle.kds_defs.specs.Histories.{clock, journal};
@@ -15,8 +17,10 @@ ghost use Rattle.kcl_drill_laws.specs.Closed.{AreDrillTurns, AreFromHorizon, Are
 use kcl_drill::untrimmed;
 use kcl_laws::rows;
 
-/// In whatever order the passes made their turns, the closed history of a drill contains the generator's commands in
-/// their order, with turns on leases in between. Its clock is below 24 hours, and it has fewer than 2^32 turns.
+/// If all generated commands were sent and all workers ran to their ends, the history of a drill has the generated
+/// commands in their order, however the threads were scheduled. All other commands in the history are on leases, and
+/// each lease starts at the trim horizon. The latest time in the history is less than 24 hours after moment 0. The
+/// history has fewer than 2^32 commands.
 pub fn closed()
     ensures fed { (number records : ℕ) (root feeder : Standing) (members : List Account) (h : List Turn)
         → IsClosed number records root feeder members h → IsFed number records root.by feeder.by h }
@@ -31,28 +35,30 @@ pub fn closed()
     rows()
 }
 
-/// The closed history of a drill has fewer than 2^32 turns, even if its passes stopped early.
+/// The history of a drill has fewer than 2^32 commands, even if some threads of the drill stopped early.
 pub fn stopped()
     ensures { (number records : ℕ) (root feeder : Standing) (members : List Account) (h : List Turn)
         → IsStopped number records root feeder members h → length h < 2 ^ 32 }
 {}
 
-/// If a worker's initial position is the trim horizon, each row that the worker makes has the trim horizon as its
-/// origin.
+/// If a worker's initial position in the stream is the trim horizon, each command by which the worker creates a lease
+/// starts that lease at the trim horizon.
 pub fn horizon()
     ensures { (by : ℕ) (made : WorkerMade) (past : WorkerPast) → made.settings.from ≡ origin.TrimHorizon
         → AreDrillTurns (turns_in by made past) }
 {}
 
-/// If turns on leases at moments up to the clock follow a drill's history, the result is again a drill's history, with
-/// the same clock.
+/// If commands on leases follow a drill's history, the longer history is again a drill's history, with the same latest
+/// time. There are two conditions: the added commands have one sender and one time `at`, and `at` isn't after the
+/// latest time in the drill's history.
 pub fn drained()
     ensures drill { (number records by at : ℕ) (more h : List Turn) → IsDrill h number records → at ≤ clock h
         → AreLeased by at more → IsDrill (more ++ h) number records }
     ensures clock { (by at : ℕ) (more h : List Turn) → at ≤ clock h → AreLeased by at more → clock (more ++ h) ≡ clock h }
 {}
 
-/// The totals of the drill's stream can be computed from the drill's history.
+/// After a drill's history, the records of the drill's stream can be counted: the stream exists, and none of its
+/// records is trimmed (expired).
 pub fn summed()
     ensures { (h : List Turn) (number records : ℕ) → IsDrill h number records → CanSum h (clock h) }
 {

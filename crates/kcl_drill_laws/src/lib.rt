@@ -1,6 +1,6 @@
-//! The laws of a drill, as contracts of functions without parameters. `answers` has the answers to commands on a tenure
-//! that only its actor uses, and what turns on leases leave unchanged. `histories` has the laws of a drill's history
-//! after its hall was closed.
+//! The laws of a drill: theorems, each stated as the contract of a function without parameters. A drill is a self-test
+//! in which workers and a generator of commands share one machine. `answers` states how commands on leases are
+//! answered, and what they leave unchanged. `histories` states what is known of the list of all commands of a drill.
 #![tactic(auto)]
 
 mod answers;

@@ -1,4 +1,6 @@
-//! Closes a drill's hall.
+//! Closes the hall of a drill, which is a self-test. The hall is the lock through which the participants of the drill
+//! share one machine. A pass is a participant's right to send commands to the machine. The participants are the root
+//! (it creates the stream), the feeder (it sends the other generated commands) and the workers.
 ghost use Rattle.std.specs.Prelude.{◌≡◌, ℕ, All};
 ghost use Rattle.kcl_drill_run.specs.Running.{AreShort, HasDrilled, HasTaken, HaveRun, HaveStopped};
 
@@ -7,7 +9,8 @@ use kcl_live::Member;
 use kcl_world::World;
 use kds_turn::{Hall, Pass};
 
-/// The root's pass after it has taken in the passes of the feeder and of all workers.
+/// Joins the passes of the feeder and of all workers into the root's pass, and returns this pass. The root's pass has
+/// then seen all commands that the joined passes had seen.
 fn join_all(hall: &Hall<World>, participants: Participants) -> Pass<World>
     requires ends { (participants.root.hall ≡ hall.now.id) × (participants.feeder.hall ≡ hall.now.id) }
     requires members { All (λ m. m.pass.hall ≡ hall.now.id) participants.members.items }
@@ -27,8 +30,8 @@ fn join_all(hall: &Hall<World>, participants: Participants) -> Pass<World>
     root
 }
 
-/// Takes in all passes, closes the hall, and returns its machine, however the threads have ended. No pass has seen 2^32
-/// turns.
+/// Joins all passes, closes the hall, and returns the hall's machine. The threads of the drill may have stopped early,
+/// because of an error. In every case, each pass has seen fewer than 2^32 commands.
 pub fn close(hall: Hall<World>, participants: Participants) -> World
     requires stopped { (number : ℕ) × (records : ℕ) × HaveStopped hall number records participants }
     ensures drilled { (number records : ℕ) → HaveRun hall number records participants → HasDrilled number records result }

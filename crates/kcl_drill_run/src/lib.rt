@@ -1,4 +1,5 @@
-//! Runs a drill: a generator and workers on threads use one machine, and the machine's final state is summarised.
+//! Runs a drill, which is a self-test: workers and a generator of commands share one machine, on several threads. Then
+//! each shard is read to its end, and the records of the stream are counted in a summary.
 #![tactic(auto)]
 
 mod closing;

@@ -1,4 +1,6 @@
-//! The participants of a drill.
+//! The participants of a drill, which is a self-test: the root creates the stream, the feeder sends the other generated
+//! commands, and the workers read the records. Each participant has a pass, which is its right to send commands to the
+//! shared machine.
 ghost use Rattle.std.specs.Prelude.{◌≡◌, ◌+◌, ◌≤◌, [], length, IfOk, vec_len};
 ghost use Rattle.kcl_drill.specs.declared.limits.TheConstants.{MOST_WORKERS};
 ghost use Rattle.kcl_drill_run.specs.Participants.{AreDealt, AreMembersOf, IsMemberOf};
@@ -12,10 +14,11 @@ use kds_base::{Memory, WorkerNo};
 use kds_turn::{Hall, Pass};
 use std::alloc::Global;
 
-/// A worker whose processor counts records and bytes, with the worker's pass.
+/// A worker whose processors count records and bytes. The worker has a pass, the right to send commands to the drill's
+/// machine.
 pub type DrillMember = Member<World, Stock, Kind, OpenGate>;
 
-/// The passes and the workers of a drill.
+/// The participants of a drill: the passes of the root and of the feeder, and the workers with their passes.
 #[derive(Drop)]
 pub struct Participants {
     pub root: Pass<World>,
@@ -23,7 +26,7 @@ pub struct Participants {
     pub members: Vec<DrillMember>,
 }
 
-/// The worker with this name and pass.
+/// Returns a new worker with the number `name`, the usual settings, and the pass `pass`.
 fn member(alloc: Global, name: u32, pass: Pass<World>) -> DrillMember
     requires { 1 ≤ name }
     ensures { IsMemberOf name pass result }
@@ -36,7 +39,7 @@ fn member(alloc: Global, name: u32, pass: Pass<World>) -> DrillMember
     }
 }
 
-/// The workers w1, w2 and so on, one worker for each of the passes.
+/// Returns new workers, one for each of the passes, in the same order. Their names are w1, w2 and so on.
 fn members_of(alloc: Global, passes: Vec<Pass<World>>) -> Result<Vec<DrillMember>, Memory>
     requires { vec_len passes ≤ MOST_WORKERS }
     ensures { IfOk result (λ made. AreMembersOf 1 passes.items made.items) }
@@ -50,8 +53,8 @@ fn members_of(alloc: Global, passes: Vec<Pass<World>>) -> Result<Vec<DrillMember
     Ok(made)
 }
 
-/// Makes a hall with a new machine, and the participants. The root gets the first pass, the feeder the second, and each
-/// worker a further pass. Memory: memory ran out.
+/// Makes a hall, which is a lock around a new machine, and the participants that share this machine. The root gets the
+/// first pass of the hall, the feeder the second, and the workers get the others. The error means out of memory.
 pub fn assemble(alloc: Global, workers: u32) -> Result<(Hall<World>, Participants), Memory>
     requires { workers ≤ MOST_WORKERS }
     ensures { IfOk result (λ made. AreDealt made.0 made.1 × (length made.1.members.items ≡ workers)) }

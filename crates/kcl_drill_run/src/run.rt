@@ -1,4 +1,5 @@
-//! Runs a drill to its summary.
+//! Runs a drill and writes its summary. A drill is a self-test in which workers and a generator of commands share one
+//! machine through a hall, which is the lock around the machine.
 ghost use Rattle.std.specs.Prelude.{◌≡◌, ◌≤◌, IfOk};
 ghost use Rattle.kds_ends.specs.Causes.{Rose};
 ghost use Rattle.kcl_drill.specs.declared.limits.TheConstants.{MOST_RECORDS, MOST_WORKERS};
@@ -18,8 +19,8 @@ use std::alloc::Global;
 use std::sync::Wait;
 use std::thread::Threads;
 
-/// Runs a drill with `workers` workers, closes the hall, and returns its machine. Memory: memory ran out for the hall,
-/// for a command of the generator, or for a worker.
+/// Runs the drill that is generated from `number`, closes the hall, and returns the hall's machine. The error means
+/// that memory ran out for the hall, for a command of the generator, for the answer to such a command, or for a worker.
 fn drill<R: Threads + Wait + Sync>(
     rt: &R,
     alloc: Global,
@@ -32,8 +33,8 @@ fn drill<R: Threads + Wait + Sync>(
 {
     let (hall, mut participants) = assemble(alloc, workers)?;
     let ran = run_threads(rt, alloc, &hall, &mut participants, number, records);
-    // The hall is closed however the threads have ended: from the closed history it follows that there are too few
-    // turns for `Spent`.
+    // The hall is closed even if a thread has failed. The contract of `close` states that there are fewer than 2^32
+    // commands, so the error can't be `Spent`, which needs 2^64 - 1 commands.
     let world = close(hall, participants);
     match ran {
         Ok(()) => Ok(world),
@@ -42,7 +43,7 @@ fn drill<R: Threads + Wait + Sync>(
     }
 }
 
-/// Runs a drill, reads each shard to its end, and returns the summary. Memory: memory ran out.
+/// Runs a drill, reads each shard to its end, and returns the summary as text. The error means out of memory.
 fn find_text<R: Threads + Wait + Sync>(
     rt: &R,
     alloc: Global,
@@ -57,9 +58,10 @@ fn find_text<R: Threads + Wait + Sync>(
     drained_text(alloc, &mut world)
 }
 
-/// Runs the drill `number` with this many workers and records, and writes its summary. The text depends only on
-/// `number` and `records`, not on the number of workers or the timing of the threads. Done: the text was written.
-/// Write: the sink failed. Memory: memory ran out before anything was written. The function waits for its threads.
+/// Runs the drill that is generated from `number`, and writes the drill's summary to `out`. `workers` and `records` are
+/// the numbers of workers and of records. The summary depends only on `number` and `records`, not on the number of
+/// workers or the timing of the threads. `Done` means that the whole text was written, `Write` that the sink failed,
+/// and `Memory` that memory ran out before anything was written. The function returns after all its threads have ended.
 pub fn run_drill<R: Threads + Wait + Sync, K: Sink>(
     rt: &R,
     alloc: Global,

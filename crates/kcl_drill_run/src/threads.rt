@@ -1,4 +1,5 @@
-//! Runs the threads of a drill.
+//! Runs the threads of a drill, a self-test whose participants send commands to one machine. The root creates the
+//! stream, the feeder sends the other generated commands, and the workers read the records.
 ghost use Rattle.std.specs.Prelude.{◌≡◌, ◌≤◌, IfErr, OnOk};
 ghost use Rattle.kds_turn.specs.declared.pass.TurnErr.TheVariants as failed;
 ghost use Rattle.kcl_drill.specs.declared.limits.TheConstants.{MOST_RECORDS};
@@ -14,7 +15,7 @@ use std::alloc::Global;
 use std::sync::Wait;
 use std::thread::Threads;
 
-/// The error of the first worker whose run failed. `Ok` if there is no such worker.
+/// Returns the error of the first worker in `members` whose run failed, or `Ok` if no run failed.
 fn first_error(members: &[DrillMember]) -> Result<(), TurnErr>
     ensures ok { OnOk result (AllEnded members.now) }
     ensures err { IfErr result (λ e. SomeFailed e members.now) }
@@ -28,9 +29,10 @@ fn first_error(members: &[DrillMember]) -> Result<(), TurnErr>
     Ok(())
 }
 
-/// Runs the threads of a drill: first the root's command, and then the feeder's commands concurrently with the workers.
-/// Memory: memory ran out for a command of the generator, for its turn, or for a worker. Spent: the hall's number of
-/// turns has reached its limit.
+/// Runs the threads of a drill. First the root sends its command. Then the feeder sends its commands, while the workers
+/// run concurrently. The error `Memory` means that memory ran out for a command of the generator, for the answer to
+/// such a command, or for a worker. The error `Spent` means that the machine has answered 2^64 - 1 commands, the most
+/// that can be counted.
 pub fn run_threads<R: Threads + Wait + Sync>(
     rt: &R,
     alloc: Global,

@@ -1,4 +1,5 @@
-//! Makes a turn that only reads.
+//! A turn is one command, applied atomically to the machine. This file makes a turn that only reads. An actor is the
+//! number of a command's sender.
 ghost use Rattle.std.specs.Prelude.{◌≡◌, List, true, max, IfOk};
 ghost use Rattle.kds_defs.specs.declared.command.Turn.{Turn as Asked};
 ghost use Rattle.kds_defs.specs.Histories.{answer_of, clock, decide, journal};
@@ -8,7 +9,8 @@ ghost use Rattle.kcl_drill_summary.specs.Reading.{HasRead, is_reading};
 use kds_base::{Memory, Moment};
 use kds_defs::{Answer, Command, Machine, Turn};
 
-/// Makes a turn of a command that only reads. Turns that only read change no later answer.
+/// Applies `what`, a command that only reads (`Survey`, `GetIterator` or `Records`), to the machine, as a turn of the
+/// actor `by` at the moment `at`. A turn that only reads doesn't change the answer to any later turn.
 pub fn ask<M: Machine>(
     machine: &mut M,
     by: u32,

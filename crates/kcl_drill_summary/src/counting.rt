@@ -14,14 +14,14 @@ use kds_base::{Memory, Moment};
 use kds_defs::limits::MOST;
 use kds_defs::{Answer, Command, Iter, Machine, Reply, Stored};
 
-/// A number of records, and the total of their payload bytes.
+/// A number of records, and the total number of their payload bytes.
 #[derive(Clone, Copy)]
 pub struct Count {
     pub count: u64,
     pub bytes: u128,
 }
 
-/// The total of the payload bytes in a batch.
+/// Returns the total number of payload bytes of the records in a batch.
 fn payload_bytes(batch: &[Stored]) -> u128
     ensures { bytes_of (map logged batch.now) < 2 ^ 128 → result ≡ bytes_of (map logged batch.now) }
 {
@@ -32,7 +32,7 @@ fn payload_bytes(batch: &[Stored]) -> u128
     bytes
 }
 
-/// The count `count` increased by the records of a batch.
+/// Returns `count`, increased by the records of a batch and by their payload bytes.
 fn with_batch(count: Count, batch: &[Stored]) -> Count
     ensures count { count.count + length batch.now < 2 ^ 64 → result.count ≡ count.count + length batch.now }
     ensures bytes { count.bytes + bytes_of (map logged batch.now) < 2 ^ 128
@@ -44,7 +44,7 @@ fn with_batch(count: Count, batch: &[Stored]) -> Count
     }
 }
 
-/// The iterator `next` if its position is above `position`, otherwise `None`.
+/// Returns the iterator `next` if its position is above `position`, and `None` otherwise.
 fn above(position: u64, next: Option<Iter>) -> Option<Iter>
     ensures { result ≡ next_above position next }
 {
@@ -60,7 +60,8 @@ fn above(position: u64, next: Option<Iter>) -> Option<Iter>
     }
 }
 
-/// The count `count` increased by the batch in an answer, and the next iterator if its position is above `position`.
+/// Adds the batch in an answer to `count`, and returns the sum. Also returns the next iterator in this answer, if the
+/// iterator's position is above `position`.
 fn absorb(count: Count, position: u64, answer: &Answer) -> (Count, Option<Iter>)
     ensures batch { Absorbs count.count count.bytes position answer.now result.0.count result.0.bytes result.1 }
     ensures rises { IfSome result.1 (λ next. position < next.position) }
@@ -74,8 +75,9 @@ fn absorb(count: Count, position: u64, answer: &Answer) -> (Count, Option<Iter>)
     }
 }
 
-/// Reads once at an iterator. Returns the count increased by the batch, and the next iterator. The next iterator is
-/// returned only if its position has increased, so that counting ends on any machine.
+/// Reads one batch at the iterator `iter`. Adds the batch to `count`, and returns the sum and the next iterator. The
+/// next iterator is returned only if its position is above the position of `iter`. So counting ends, whatever the
+/// machine answers.
 fn count_batch<M: Machine>(
     machine: &mut M,
     by: u32,
@@ -93,7 +95,7 @@ fn count_batch<M: Machine>(
     Ok(seen)
 }
 
-/// Counts the records from an iterator to the shard's end.
+/// Counts the records, and their payload bytes, from an iterator to the end of its shard.
 pub fn count_from<M: Machine>(
     machine: &mut M,
     by: u32,

@@ -1,4 +1,6 @@
-//! Computes the summary of a drill.
+//! Computes the summary of a drill, a self-test whose input is generated from a number. A survey is an answer of the
+//! machine that contains all listed shards (those that ListShards returns) and all rows of the lease table. A turn is
+//! one command, and an actor is the number of a command's sender.
 ghost use Rattle.std.specs.Prelude.{ℕ, ◌≡◌, ◌++◌, List, max, Ok, IfOk, OnOk, OnErr};
 ghost use Rattle.kds_base.specs.declared.lease_key.ShardRef.{ShardRef};
 ghost use Rattle.kds_defs.specs.declared.command.Turn.{Turn as Asked};
@@ -18,7 +20,7 @@ use kds_base::{Memory, Moment, Octets};
 use kds_defs::{Answer, Command, Machine, Reply};
 use std::alloc::Global;
 
-/// The totals of each shard of the drill's stream that a survey lists.
+/// Returns the totals of each shard of the drill's stream that is in the survey.
 fn sum_survey<M: Machine>(
     alloc: Global,
     machine: &mut M,
@@ -38,7 +40,7 @@ fn sum_survey<M: Machine>(
     }
 }
 
-/// The text of a drill's summary.
+/// Returns the text of the drill's summary.
 fn find_text<M: Machine>(
     alloc: Global,
     machine: &mut M,
@@ -56,9 +58,10 @@ fn find_text<M: Machine>(
     text_of(alloc, sums.as_slice())
 }
 
-/// Adds a drill's summary: one line for each listed shard of its stream, then the total number of records and of
-/// payload bytes over all shards. The summary is read from the machine by turns of the actor `by` at the moment `at`,
-/// which don't change the journal. If memory runs out, nothing is added.
+/// Adds the summary of a drill to `to`: one line for each listed shard of the drill's stream, and then one line with
+/// the numbers of records and payload bytes in all these shards. The summary is computed from the machine's answers to
+/// turns of the actor `by` at the moment `at`. These turns don't change the journal, which is the machine's event log.
+/// If memory runs out, nothing is added to `to`.
 pub fn summary<M: Machine>(
     alloc: Global,
     machine: &mut M,

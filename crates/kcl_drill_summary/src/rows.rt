@@ -1,4 +1,6 @@
-//! Finds the row and the checkpoint of a key among the rows of a survey.
+//! Finds the row with a given key, and the row's checkpoint, among the rows of a survey. A survey is an answer of the
+//! machine that contains all listed shards (those that ListShards returns) and all rows of the lease table. A row is a
+//! lease, and the row's key names a shard of a stream.
 ghost use Rattle.std.specs.Prelude.{◌≡◌};
 ghost use Rattle.kds_defs.specs.Leases.{checkpoint_in};
 ghost use Rattle.kcl_drill_summary.specs.Counting.{row_in};
@@ -6,14 +8,14 @@ ghost use Rattle.kcl_drill_summary.specs.Counting.{row_in};
 use kds_base::{Checkpoint, ShardRef};
 use kds_defs::Row;
 
-/// The first row with this key, if there is one.
+/// Returns the first row with this key, or `None` if no row has this key.
 pub fn row_among(rows: &[Row], key: &ShardRef) -> Option<Row>
     ensures { result ≡ row_in rows.now key.now }
 {
     rows.iter().copied().find(|row| row.key == *key)
 }
 
-/// The checkpoint in the row with this key, or TRIM_HORIZON if there is no such row.
+/// Returns the checkpoint in the first row with this key, or TRIM_HORIZON if no row has this key.
 pub fn checkpoint_among(rows: &[Row], key: &ShardRef) -> Checkpoint
     ensures { result ≡ checkpoint_in (row_in rows.now key.now) }
 {

@@ -1,4 +1,5 @@
-//! Computes the totals of each shard.
+//! Computes the totals of each shard of the drill's stream. A drill is a self-test whose input is generated from a
+//! number.
 ghost use Rattle.std.specs.Prelude.{ℕ, ◌≡◌, ◌==◌, ◌++◌, List, Some, Ok, IfOk, OnOk};
 ghost use Rattle.kds_base.specs.declared.lease_key.ShardRef.{ShardRef};
 ghost use Rattle.kds_defs.specs.declared.command.Turn.{Turn as Asked};
@@ -17,8 +18,8 @@ use kds_defs::{Answer, Command, Iter, Machine, Reply, Row, Start};
 use std::alloc::Global;
 use std::marker::Model;
 
-/// The totals of a shard: its number, its number of records, the total of their payload bytes, and the checkpoint in
-/// its row. Contracts see the fields.
+/// The totals of a shard: the shard's number, the number of its records, the total number of their payload bytes, and
+/// the checkpoint in the shard's row of the lease table. In contracts, the totals are these four fields.
 #[derive(Clone, Copy)]
 pub struct ShardSum {
     pub no: ShardNo,
@@ -37,7 +38,7 @@ impl Model for ShardSum {
     ghost inverse = { λ x. record { no = x.no; count = x.count; bytes = x.bytes; checkpoint = x.checkpoint } };
 }
 
-/// The iterator in an answer, if it belongs to `stream`.
+/// Returns the iterator in an answer if the iterator belongs to `stream`, and `None` otherwise.
 fn iterator_of(answer: &Answer, stream: StreamNo) -> Option<Iter>
     ensures { result ≡ iterator_in answer.now stream }
 {
@@ -53,7 +54,8 @@ fn iterator_of(answer: &Answer, stream: StreamNo) -> Option<Iter>
     }
 }
 
-/// Counts the records of a shard. `None` if the shard doesn't belong to the drill's stream.
+/// Counts the records of the shard with this key, and their payload bytes. Returns `None` if the shard doesn't belong
+/// to the drill's stream.
 fn count_key<M: Machine>(
     alloc: Global,
     machine: &mut M,
@@ -78,7 +80,8 @@ fn count_key<M: Machine>(
     }
 }
 
-/// Adds the totals of a shard, unless `found` is `None`.
+/// Adds the totals of the shard with this key to `sums`. `found` contains the numbers of the shard's records and bytes.
+/// If `found` is `None`, nothing is added.
 fn add_sum(
     sums: &mut Vec<ShardSum>,
     key: &ShardRef,
@@ -98,8 +101,8 @@ fn add_sum(
     Ok(())
 }
 
-/// The totals of those shards among `keys` that belong to the drill's stream. Their checkpoints are taken from the rows
-/// `among`.
+/// Returns the totals of those shards among `keys` that belong to the drill's stream. The checkpoints are taken from
+/// `among`, which are rows of the lease table.
 pub fn sum_shards<M: Machine>(
     alloc: Global,
     machine: &mut M,

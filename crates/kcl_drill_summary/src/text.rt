@@ -1,4 +1,4 @@
-//! Prints a drill's summary.
+//! Writes the text of a drill's summary. A drill is a self-test whose input is generated from a number.
 ghost use Rattle.std.specs.Prelude.{◌≡◌, ◌+◌, ◌<◌, ◌^◌, ◌++◌, flat_map, IfOk, OnOk};
 ghost use Rattle.kcl_script_fields.specs.Answers.{checkpoint_text};
 ghost use Rattle.kcl_drill.specs.Summed.{line_text, sum_of, text_of as told_text};
@@ -9,7 +9,7 @@ use kds_base::{Checkpoint, Memory, Octets, write_u64, write_u128};
 use kds_token::shard_id;
 use std::alloc::Global;
 
-/// Adds the text of a checkpoint.
+/// Adds the text of the checkpoint `at` to `to`.
 fn write_checkpoint(alloc: Global, at: Checkpoint, to: &mut Octets) -> Result<(), Memory>
     ensures { OnOk result (to.new ≡ to.old ++ checkpoint_text at) }
 {
@@ -20,7 +20,7 @@ fn write_checkpoint(alloc: Global, at: Checkpoint, to: &mut Octets) -> Result<()
     }
 }
 
-/// Adds a shard's line of the summary.
+/// Adds the summary's line for one shard to `to`: the shard ID, the number of records, and the checkpoint.
 fn write_line(alloc: Global, x: &ShardSum, to: &mut Octets) -> Result<(), Memory>
     ensures { OnOk result (to.new ≡ to.old ++ line_text x.now) }
 {
@@ -32,7 +32,7 @@ fn write_line(alloc: Global, x: &ShardSum, to: &mut Octets) -> Result<(), Memory
     to.extend(b"\n".as_slice())
 }
 
-/// The total number of records over all these shards.
+/// Returns the total number of records over all these shards.
 fn records_of(sums: &[ShardSum]) -> u128
     ensures { sum_of (λ x. x.count) sums.now < 2 ^ 128 → result ≡ sum_of (λ x. x.count) sums.now }
 {
@@ -43,7 +43,7 @@ fn records_of(sums: &[ShardSum]) -> u128
     all
 }
 
-/// The total number of payload bytes over all these shards.
+/// Returns the total number of payload bytes over all these shards.
 fn bytes_of(sums: &[ShardSum]) -> u128
     ensures { sum_of (λ x. x.bytes) sums.now < 2 ^ 128 → result ≡ sum_of (λ x. x.bytes) sums.now }
 {
@@ -54,7 +54,7 @@ fn bytes_of(sums: &[ShardSum]) -> u128
     all
 }
 
-/// The summary's lines for these shards.
+/// Returns the summary's lines for these shards, one line for each shard.
 fn lines_of(alloc: Global, sums: &[ShardSum]) -> Result<Octets, Memory>
     ensures { IfOk result (λ t. t ≡ flat_map line_text sums.now) }
 {
@@ -65,7 +65,7 @@ fn lines_of(alloc: Global, sums: &[ShardSum]) -> Result<Octets, Memory>
     Ok(to)
 }
 
-/// The lines of these shards, followed by the line with the totals over all of them.
+/// Returns the summary's lines for these shards, followed by the line with the totals over all these shards.
 pub fn text_of(alloc: Global, sums: &[ShardSum]) -> Result<Octets, Memory>
     ensures { AreFew sums.now → IfOk result (λ t. t ≡ told_text sums.now) }
 {

@@ -1,4 +1,6 @@
-//! Makes a generator's command as a turn of a pass.
+//! Applies the commands of a drill, which is a self-test, to the machine of a hall, which is a lock around this
+//! machine. The drill's generator makes the commands from a number. A turn is one command, and a pass is the right of
+//! one thread to make turns of the hall.
 ghost use Rattle.std.specs.Prelude.{◌≡◌, IfOk, IfErr, OnErr};
 ghost use Rattle.kcl_drill_threads.specs.Asking.{Asks, IsAskErr, IsKept};
 
@@ -8,8 +10,9 @@ use kds_defs::Machine;
 use kds_turn::{Hall, Pass, TurnErr};
 use std::sync::Wait;
 
-/// Makes a turn of the generator's next command with the pass, at moment 0. Returns `false` if no command is left.
-/// Memory: memory ran out for the command or its turn. Spent: the hall's number of turns has reached its limit.
+/// Applies the generator's next command to the hall's machine, as a turn of the pass at moment 0. Returns `false` if no
+/// command is left. The error `Memory` means that memory ran out for the command or for its turn. The error `Spent`
+/// means that the hall has already made the maximum number of turns.
 pub(crate) fn ask_next<M: Machine, R: Wait>(
     rt: &R,
     hall: &Hall<M>,

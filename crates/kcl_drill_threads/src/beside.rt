@@ -1,4 +1,7 @@
-//! Makes the generator's commands while another thread does something else.
+//! Applies the commands of a drill, which is a self-test, while another thread runs a given function. The drill's
+//! generator makes the commands from a number. A hall is a lock around a machine. A turn is one command, and a pass is
+//! the right of one thread to make turns of the hall. The feeder is the pass with which the generator's commands are
+//! applied.
 ghost use Rattle.std.specs.Prelude.{◌≡◌, []};
 ghost use Rattle.kcl_drill_threads.specs.Beside.{Accepts, Leaves};
 ghost use Rattle.kcl_drill_threads.specs.Feeding.{Feeds};
@@ -18,9 +21,10 @@ fn run_over<T, V: Fn(&mut [T])>(run: &V, items: &mut [T])
     run(items);
 }
 
-/// Lets the feeder make all remaining commands in a thread of its own, while the calling thread calls `run` with
-/// `items`. If no thread can be started, the calling thread does both. Memory, Spent: a turn of the feeder failed for
-/// this reason.
+/// Applies all remaining commands of the generator as turns of the pass `feeder`, in a thread of its own, while the
+/// calling thread calls `run` with `items`. If no thread can be started, the calling thread does the work of both
+/// threads. The error `Memory` means that memory ran out for a command or for its turn. The error `Spent` means that
+/// the hall has already made the maximum number of turns.
 pub(crate) fn feed_beside<M, T, V, R>(
     rt: &R,
     hall: &Hall<M>,

@@ -1,4 +1,6 @@
-//! The turns that a drill's root and feeder make.
+//! Applies the commands of a drill, which is a self-test, to the machine of a hall, which is a lock around this
+//! machine. The drill's generator makes the commands from a number. A turn is one command, and a pass is the right of
+//! one thread to make turns of the hall. The pass `root` makes the first turn, and the pass `feeder` makes the others.
 ghost use Rattle.std.specs.Prelude.{◌≡◌, [], take, drop, IfErr, OnErr, OnOk};
 ghost use Rattle.kcl_drill_threads.specs.Asking.{HasAsked, IsAskErr, IsKept};
 ghost use Rattle.kcl_drill_threads.specs.Feeding.{Feeds, IsAfter};
@@ -9,8 +11,10 @@ use kds_defs::Machine;
 use kds_turn::{Hall, Pass, TurnErr};
 use std::sync::Wait;
 
-/// Lets the root make the generator's first command, and sends a note about it to the feeder. Memory, Spent: the root's
-/// turn failed for this reason.
+/// Applies the generator's first command as a turn of the pass `root`. The pass `feeder` then learns of this turn from
+/// a note (a message between passes), so that the turns of `feeder` come after the turn of `root`. The error `Memory`
+/// means that memory ran out for the command or for its turn. The error `Spent` means that the hall has already made
+/// the maximum number of turns.
 pub(crate) fn begin<M: Machine, R: Wait>(
     rt: &R,
     hall: &Hall<M>,
@@ -39,7 +43,9 @@ pub(crate) fn begin<M: Machine, R: Wait>(
     Ok(())
 }
 
-/// Lets the feeder make all remaining commands. Memory, Spent: a turn failed for this reason.
+/// Applies all remaining commands of the generator as turns of the pass `feeder`. The error `Memory` means that memory
+/// ran out for a command or for its turn. The error `Spent` means that the hall has already made the maximum number of
+/// turns.
 pub(crate) fn feed<M: Machine, R: Wait>(
     rt: &R,
     hall: &Hall<M>,

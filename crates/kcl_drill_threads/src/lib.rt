@@ -1,4 +1,5 @@
-//! The threads of a drill: one makes the generator's commands, and the others run the workers.
+//! The threads of a drill, which is a self-test. The drill's commands are generated from a number. One thread applies
+//! these commands, and the others run workers.
 #![tactic(auto)]
 
 mod asking;

@@ -1,4 +1,7 @@
-//! Runs the generator and the workers of a drill concurrently.
+//! Runs the generator and the workers of a drill, which is a self-test, concurrently. The generator makes commands from
+//! a number. A hall is a lock around a machine. A turn is one command, and a pass is the right of one thread to make
+//! turns of the hall. The generated commands are applied with two passes, the root and the feeder. A member is a worker
+//! with a pass of its own.
 ghost use Rattle.std.specs.Prelude.{◌≡◌, ◌+◌, ◌*◌, ◌/◌, ◌^◌, ◌<◌, ◌≤◌, [], All, IfErr, OnErr, OnOk};
 ghost use Rattle.kcl_live.specs.Members.{IsReady};
 ghost use Rattle.kcl_drill_threads.specs.Asking.{IsKept};
@@ -17,7 +20,8 @@ use std::alloc::Global;
 use std::sync::Wait;
 use std::thread::Threads;
 
-/// Lets the feeder make all remaining commands. Concurrently, each member runs for `turns` turns.
+/// Applies all remaining commands of the generator as turns of the pass `feeder`. Concurrently, runs the worker of each
+/// member. `turns` is the number of turns after which a worker is stopped.
 fn run_both<M, P, F, G, R>(
     rt: &R,
     hall: &Hall<M>,
@@ -52,12 +56,14 @@ where
     )
 }
 
-/// Runs the threads of a drill. First the root makes the generator's first command, and sends a note about it to the
-/// feeder. Then the feeder makes the other commands. Concurrently, each member makes `MEMBER_TURNS + records /
-/// RECORDS_A_TURN` turns, with a tick of `TICK` milliseconds, and is then stopped (Kinesis Client Library, Scheduler).
-/// All turns of the root and of the feeder are at moment 0. If a thread can't be started, the calling thread does the
-/// work itself. Memory: memory ran out for a command or its turn. Spent: the hall's number of turns has reached its
-/// limit. The `outcome` of each member states how its run ended.
+/// Runs the threads of a drill. First, the generator's first command is applied as a turn of the pass `root`, and the
+/// pass `feeder` learns of this turn from a note (a message between passes). Then the generator's other commands are
+/// applied as turns of `feeder`. Concurrently, the worker of each member makes `MEMBER_TURNS + records /
+/// RECORDS_A_TURN` turns. The times of these turns are `TICK` milliseconds apart. The worker is then stopped (see
+/// Kinesis Client Library, Scheduler). All turns of `root` and of `feeder` are at moment 0. If a thread can't be
+/// started, the calling thread does the work of this thread. The error `Memory` means that memory ran out for a
+/// generated command or for its turn. The error `Spent` means that the hall has already made the maximum number of
+/// turns. The `outcome` of each member states how the run of its worker ended.
 pub fn crowd<M, P, F, G, R>(
     rt: &R,
     alloc: Global,
@@ -79,16 +85,17 @@ where
     requires ready { All (IsReady P.stands_for hall.now) members.old }
     requires few { records ≤ MOST_RECORDS }
 
-    // The passes of the root and of the feeder keep their numbers, and take in no other pass.
+    // The passes `root` and `feeder` keep their numbers, and no other pass is joined into them.
     ensures kept { IsKept root.old root.new × IsKept feeder.old feeder.new }
 
-    // The root's only turn is the generator's first command. The feeder's turns come after it: the other commands in
-    // their order.
+    // The only turn of `root` is the generator's first command. The turns of `feeder` come after this turn, and are the
+    // generator's other commands in their order.
     ensures fed { OnOk result (HasFed number records root.new feeder.new) }
     ensures fed_so_far { OnErr result (HasFedSoFar number records root.new feeder.new) }
     ensures err { IfErr result (IsCrowdErr root.old root.new feeder.new) }
 
-    // Each member has run. After an error, each member has run or is as before.
+    // Without an error, the worker of each member has run. After an error, there are two possibilities for each member:
+    // its worker has run, or the member is unchanged.
     ensures members { OnOk result (HaveEnded P.stands_for (MEMBER_TURNS + records / RECORDS_A_TURN) members.old members.new) }
     ensures members_or_not { OnErr result (HaveEndedOrNot P.stands_for (MEMBER_TURNS + records / RECORDS_A_TURN) members.old members.new) }
 {

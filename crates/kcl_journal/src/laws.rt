@@ -1,4 +1,5 @@
-//! Laws of every text of a journal. Each law is the contract of a function without parameters.
+//! Laws about the text of every journal. A journal is the event log of a schedule, which is a recorded workload. A law
+//! is a theorem, stated as the contract of a function that has no parameters and does nothing.
 ghost use Rattle.std.specs.Prelude.{◌≡◌, ◌<◌, ◌^◌, List, ℕ, Some, None};
 ghost use Rattle.kcl_script_fields.specs.Fields.{Lacks};
 ghost use Rattle.kcl_journal.specs.declared.line.EntryLine.{EntryLine};
@@ -6,9 +7,9 @@ ghost use Rattle.kcl_journal.specs.declared.line.TheConstants.{FIRST_RECORD_BYTE
 ghost use Rattle.kcl_journal.specs.Entries.{end_of, end_spelling, entry_of, entry_spelling, heading};
 ghost use Rattle.kcl_journal.specs.Ranges.{IsEntryLine};
 
-/// In each version, every line of a journal has exactly one text, and no other text is read as that line. The same
-/// holds for the last line. No text is both an entry and the last line, and the first line is neither. No line contains
-/// a line feed.
+/// For each version and each possible line of a journal (`IsEntryLine`), exactly one text is read as this line. For
+/// each clock, exactly one text is read as the last line, `end CLOCK`. No text is read both as an entry and as the last
+/// line. The heading isn't read as an entry, and isn't read as the last line. The text of a line contains no line feed.
 pub fn one_entry()
     ensures reads { (v : ℕ) (text : List ℕ) (line : EntryLine) → entry_of v text ≡ Some line → IsEntryLine v line × (text ≡ entry_spelling v line) }
     ensures again { (v : ℕ) (line : EntryLine) → IsEntryLine v line → entry_of v (entry_spelling v line) ≡ Some line }
@@ -20,7 +21,8 @@ pub fn one_entry()
     ensures end_line { (clock : ℕ) → clock < 2 ^ 62 → Lacks 10 (end_spelling clock) }
 {}
 
-/// States the limits of a journal's text as numbers, since the definitions refer to the code's constants by name.
+/// States the version numbers and the size limits of a journal's text as plain numbers, because the definitions in
+/// contracts use only the names of the code's constants.
 pub fn journal_limits()
     ensures first { FIRST_VERSION ≡ 1 }
     ensures second { VERSION ≡ 2 }

@@ -1,4 +1,5 @@
-//! Reads the entries about leases. Each function gets the text after the entry's word.
+//! Reads the entries about leases in a journal, which is an event log. Each entry begins with a word, such as `taken`.
+//! The argument `text` of each function is the rest of the entry, after this word and a space.
 ghost use Rattle.std.specs.Prelude.{◌≡◌, IfOk};
 ghost use Rattle.kcl_script_fields.specs.Fields.{two, number};
 ghost use Rattle.kcl_journal.specs.Entries.{counter_of, cut_of, freed_of, given_of, lease_by, lease_of, marked_of, opened_of, read_of, renewed_of, taken_of};
@@ -36,7 +37,8 @@ fn parse_taken(text: &[u8]) -> Option<Entry>
     })
 }
 
-/// Reads a tenure's number, and the counter that its row has after the change.
+/// Reads the number of a tenure (one worker's hold on a lease), and a counter. The counter is the one that the lease's
+/// row in the lease table has after the change that the entry records.
 #[tactic(auto, unfolding(kcl_script_fields::specs::Fields::two))]
 fn parse_written(text: &[u8]) -> Option<(TenureNo, u64)>
     ensures { result ≡ two 32 number counter_of text.now }
@@ -132,7 +134,8 @@ fn parse_cut(text: &[u8]) -> Option<Entry>
     Some(Entry::LeaseCut { key, counter })
 }
 
-/// Reads the entry about a lease that begins with `word`. `text` follows the word and a space.
+/// Reads an entry about a lease. `word` is the first word of the entry. `text` is the rest of the entry, after this
+/// word and a space.
 pub fn lease_entry(alloc: Global, word: &[u8], text: &[u8]) -> Result<Option<Entry>, Memory>
     ensures { IfOk result (λ o. o ≡ lease_by word.now text.now) }
 {

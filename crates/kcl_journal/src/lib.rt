@@ -1,4 +1,6 @@
-//! The text of a journal's lines: both versions are read, and the second one is printed.
+//! A journal is the event log of a schedule, which is a recorded workload. This crate reads the lines of a journal in
+//! versions 1 and 2 of the journal's text, and prints lines in version 2. Each entry of the journal says what a command
+//! changed.
 #![tactic(auto)]
 
 mod laws;

@@ -1,4 +1,5 @@
-//! Reads numbers within ranges, the sizes of a put, and the batch of a read.
+//! Reads the numbers in the entries of a journal (an event log), the sizes in a `put` entry, and the batch in a `read`
+//! entry. A batch is the list of records that one read returned.
 ghost use Rattle.std.specs.Prelude.{◌≡◌, ◌≤◌, IfOk, option_and_then};
 ghost use Rattle.kcl_script_fields.specs.Fields.{two};
 ghost use Rattle.kcl_journal.specs.Entries.{batch_of, counter_of, ended_of, fitting, numbers_of, sizes_of, switch_of, within, within_of, words};
@@ -19,7 +20,7 @@ fn if_within(n: u64, least: u64, most: u64) -> Option<u64>
     }
 }
 
-/// Reads a number from `least` to `most`, both included.
+/// Reads a number from `least` to `most`, both included. `None` means that `text` isn't such a number.
 fn within64(text: &[u8], least: u64, most: u64) -> Option<u64>
     ensures { result ≡ within_of least most text.now }
 {
@@ -36,14 +37,15 @@ fn if_within32(n: u64, least: u32, most: u32) -> Option<u32>
     }
 }
 
-/// Reads a 32-bit number from `least` to `most`, both included.
+/// Reads a 32-bit number from `least` to `most`, both included. `None` means that `text` isn't such a number.
 pub fn within32(text: &[u8], least: u32, most: u32) -> Option<u32>
     ensures { result ≡ within_of least most text.now }
 {
     if_within32(read_u64(text)?, least, most)
 }
 
-/// Reads the counter that a row has after a change. It is at least 1.
+/// Reads the counter that a row of the lease table has after a change. The counter is at least 1. `None` means that
+/// `text` isn't such a counter.
 pub fn counter_of(text: &[u8]) -> Option<u64>
     ensures { result ≡ counter_of text.now }
 {
@@ -62,7 +64,8 @@ fn if_fitting(bytes: u64, key_bytes: u64) -> Option<(u64, u64)>
     }
 }
 
-/// Reads the number of bytes of a payload and of its key.
+/// Reads the sizes, in bytes, of a record's payload and of its partition key, as version 2 writes them. Together the
+/// two sizes are at most `RECORD_BYTES`.
 #[tactic(auto, unfolding(kcl_script_fields::specs::Fields::two))]
 fn both_sizes(text: &[u8]) -> Option<(u64, u64)>
     ensures { result ≡ option_and_then fitting (two 32 (within_of 0 RECORD_BYTES) (within_of 1 KEY_BYTES) text.now) }
@@ -73,8 +76,8 @@ fn both_sizes(text: &[u8]) -> Option<(u64, u64)>
     if_fitting(bytes, key_bytes)
 }
 
-/// Reads the number of bytes of a payload and of its key, as written in this version. In the first version the key has
-/// no bytes.
+/// Reads the sizes, in bytes, of a record's payload and of its partition key, as the version `version` writes them. The
+/// first version doesn't state the size of the key, so the size of the key is returned as 0.
 pub fn sizes(version: u8, text: &[u8]) -> Option<(u64, u64)>
     ensures { result ≡ sizes_of version text.now }
 {
@@ -86,7 +89,8 @@ pub fn sizes(version: u8, text: &[u8]) -> Option<(u64, u64)>
     }
 }
 
-/// Reads whether limits are on: `on` or `off`.
+/// Reads the word that says whether the throughput limits of a stream are on. The word `on` is read as `true`, and
+/// `off` as `false`.
 pub fn switch(text: &[u8]) -> Option<bool>
     ensures { result ≡ switch_of text.now }
 {
@@ -99,7 +103,8 @@ pub fn switch(text: &[u8]) -> Option<bool>
     }
 }
 
-/// Reads whether a read reached the shard's end: `end` or `more`.
+/// Reads the word that says whether a read reached the end of its shard. The word `end` is read as `true`, and `more`
+/// as `false`.
 fn ended(text: &[u8]) -> Option<bool>
     ensures { result ≡ ended_of text.now }
 {
@@ -112,7 +117,7 @@ fn ended(text: &[u8]) -> Option<bool>
     }
 }
 
-/// Reads sequence numbers with single spaces between them.
+/// Reads a list of at least one sequence number, with single spaces between the numbers.
 fn numbers(alloc: Global, text: &[u8]) -> Result<Option<Items<Seq>>, Memory>
     ensures { IfOk result (λ o. o ≡ numbers_of (words text.now)) }
 {
@@ -132,7 +137,8 @@ fn numbers(alloc: Global, text: &[u8]) -> Result<Option<Items<Seq>>, Memory>
     Ok(Some(numbers))
 }
 
-/// Reads whether a read reached the shard's end, and the sequence numbers of its batch.
+/// Reads the last fields of a `read` entry: whether the read reached the end of its shard (`end` or `more`), and the
+/// sequence numbers of the records that the read returned, if any.
 pub fn batch(alloc: Global, text: &[u8]) -> Result<Option<(bool, Items<Seq>)>, Memory>
     ensures { IfOk result (λ o. o ≡ batch_of text.now) }
 {

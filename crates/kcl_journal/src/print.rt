@@ -1,5 +1,5 @@
-//! Prints a journal's lines in the second version. Each text is built in a buffer of its own, and added when it is
-//! complete.
+//! Prints the lines of a journal, which is an event log, in version 2. Each line is first built in a separate buffer.
+//! The complete line is then appended to the output. A tenure is one worker's hold on a lease.
 ghost use Rattle.std.specs.Prelude.{◌≡◌, ◌∷◌, ◌++◌, decimal, true, OnOk, OnErr};
 ghost use Rattle.kcl_journal.specs.Entries.{end_spelling, ended_text, entry_spelling, entry_text, heading, numbers_text, switch_text};
 ghost use Rattle.kcl_journal.specs.Ranges.{is_lease_entry, is_resharding, is_tenure_entry};
@@ -12,7 +12,7 @@ use kds_base::{Memory, Moment, Octets, Seq, write_u64, write_u128};
 use kds_defs::Entry;
 use std::alloc::Global;
 
-/// Adds a space and a hash key as a number.
+/// Adds a space and a hash key in decimal.
 fn hash_field(alloc: Global, hash: u128, to: &mut Octets) -> Result<(), Memory>
     ensures { OnOk result (to.new ≡ to.old ++ 32 ∷ decimal hash) }
 {
@@ -20,7 +20,7 @@ fn hash_field(alloc: Global, hash: u128, to: &mut Octets) -> Result<(), Memory>
     write_u128(alloc, hash, to)
 }
 
-/// Adds three numbers, each after a space.
+/// Adds the numbers `n`, `m` and `l` in decimal, each after a space.
 fn three_numbers(alloc: Global, n: u64, m: u64, l: u64, to: &mut Octets) -> Result<(), Memory>
     ensures { OnOk result (to.new ≡ to.old ++ 32 ∷ (decimal n ++ 32 ∷ (decimal m ++ 32 ∷ decimal l))) }
 {
@@ -29,7 +29,7 @@ fn three_numbers(alloc: Global, n: u64, m: u64, l: u64, to: &mut Octets) -> Resu
     number_field(alloc, l, to)
 }
 
-/// Adds a space, and `on` or `off`.
+/// Adds a space and a word. The word is `on` if the throughput limits of a stream are on, and otherwise `off`.
 fn switch_field(on: bool, to: &mut Octets) -> Result<(), Memory>
     ensures { OnOk result (to.new ≡ to.old ++ 32 ∷ switch_text on) }
 {
@@ -40,7 +40,7 @@ fn switch_field(on: bool, to: &mut Octets) -> Result<(), Memory>
     }
 }
 
-/// Adds a space, and whether a read reached the shard's end: `end` or `more`.
+/// Adds a space and a word. The word is `end` if a read reached the end of its shard, and otherwise `more`.
 fn ended_field(end: bool, to: &mut Octets) -> Result<(), Memory>
     ensures { OnOk result (to.new ≡ to.old ++ 32 ∷ ended_text end) }
 {
@@ -51,7 +51,7 @@ fn ended_field(end: bool, to: &mut Octets) -> Result<(), Memory>
     }
 }
 
-/// Adds each number after a space.
+/// Adds the sequence numbers in decimal, each after a space.
 fn number_fields(alloc: Global, numbers: &[Seq], to: &mut Octets) -> Result<(), Memory>
     ensures { OnOk result (to.new ≡ to.old ++ numbers_text numbers.now) }
 {
@@ -61,7 +61,7 @@ fn number_fields(alloc: Global, numbers: &[Seq], to: &mut Octets) -> Result<(), 
     Ok(())
 }
 
-/// Adds the text of an entry that names a tenure.
+/// Adds the text of an entry about a tenure: `renewed`, `freed`, `opened`, `read`, `given` or `marked`.
 fn fill_tenure(alloc: Global, what: &Entry, to: &mut Octets) -> Result<(), Memory>
     requires { is_tenure_entry what.now ≡ true }
     ensures { OnOk result (to.new ≡ to.old ++ entry_text 2 what.now) }
@@ -97,7 +97,7 @@ fn fill_tenure(alloc: Global, what: &Entry, to: &mut Octets) -> Result<(), Memor
     }
 }
 
-/// Adds the text of an entry about a lease.
+/// Adds the text of an entry about a lease: `lease`, `taken`, `cut`, or an entry about a tenure.
 fn fill_lease(alloc: Global, what: &Entry, to: &mut Octets) -> Result<(), Memory>
     requires { is_lease_entry what.now ≡ true }
     ensures { OnOk result (to.new ≡ to.old ++ entry_text 2 what.now) }
@@ -126,7 +126,7 @@ fn fill_lease(alloc: Global, what: &Entry, to: &mut Octets) -> Result<(), Memory
     }
 }
 
-/// Adds the text of a split or a merge.
+/// Adds the text of an entry about a split or a merge of shards.
 fn fill_resharding(alloc: Global, what: &Entry, to: &mut Octets) -> Result<(), Memory>
     requires { is_resharding what.now ≡ true }
     ensures { OnOk result (to.new ≡ to.old ++ entry_text 2 what.now) }
@@ -200,7 +200,8 @@ fn fill_entry(alloc: Global, what: &Entry, to: &mut Octets) -> Result<(), Memory
     }
 }
 
-/// Adds the text of a line. If memory runs out, a prefix of the text may have been added.
+/// Adds the text of a line: the clock, the actor and the entry. If memory runs out, a prefix of the text may have been
+/// added.
 fn fill_line(alloc: Global, line: &EntryLine, to: &mut Octets) -> Result<(), Memory>
     ensures { OnOk result (to.new ≡ to.old ++ entry_spelling 2 line.now) }
 {
@@ -210,7 +211,7 @@ fn fill_line(alloc: Global, line: &EntryLine, to: &mut Octets) -> Result<(), Mem
     fill_entry(alloc, &line.what, to)
 }
 
-/// Adds the heading of a journal's text, without a line feed. If memory runs out, nothing is added.
+/// Adds the heading `journal 2`, without a line feed. If memory runs out, nothing is added.
 pub fn print_heading(to: &mut Octets) -> Result<(), Memory>
     ensures ok { OnOk result (to.new ≡ to.old ++ heading) }
     ensures err { OnErr result (to.new ≡ to.old) }
@@ -218,8 +219,8 @@ pub fn print_heading(to: &mut Octets) -> Result<(), Memory>
     to.extend(HEADING.as_slice())
 }
 
-/// Adds the text of a journal's line, without a line feed. It is the only text that is read as this line. If memory
-/// runs out, nothing is added.
+/// Adds the text of a journal's line in version 2, without a line feed. This text is the only one that is read as this
+/// line in version 2. If memory runs out, nothing is added.
 pub fn print_entry(alloc: Global, line: &EntryLine, to: &mut Octets) -> Result<(), Memory>
     ensures ok { OnOk result (to.new ≡ to.old ++ entry_spelling 2 line.now) }
     ensures err { OnErr result (to.new ≡ to.old) }
@@ -229,7 +230,7 @@ pub fn print_entry(alloc: Global, line: &EntryLine, to: &mut Octets) -> Result<(
     to.extend(text.as_slice())
 }
 
-/// Adds the last line of a journal with its clock, without a line feed. If memory runs out, nothing is added.
+/// Adds the last line of a journal, `end CLOCK`, without a line feed. If memory runs out, nothing is added.
 pub fn print_end(alloc: Global, clock: Moment, to: &mut Octets) -> Result<(), Memory>
     ensures ok { OnOk result (to.new ≡ to.old ++ end_spelling clock) }
     ensures err { OnErr result (to.new ≡ to.old) }

@@ -1,4 +1,4 @@
-//! Reads lines of a journal.
+//! Reads lines of a journal, which is the event log of a schedule (a recorded workload).
 ghost use Rattle.std.specs.Prelude.{◌≡◌, IfOk};
 ghost use Rattle.kcl_journal.specs.Entries.{IsVersion, end_of, entry_by, entry_of};
 
@@ -13,7 +13,8 @@ use kds_base::{Memory, Moment};
 use kds_defs::Entry;
 use std::alloc::Global;
 
-/// Reads the entry that begins with `word`. `text` follows the word and a space.
+/// Reads the entry whose first word is `word`. `text` is the rest of the entry, after the word and a space. `version`
+/// is the version of the journal's text.
 fn entry(alloc: Global, version: u8, word: &[u8], text: &[u8]) -> Result<Option<Entry>, Memory>
     ensures { IfOk result (λ o. o ≡ entry_by version word.now text.now) }
 {
@@ -36,8 +37,9 @@ fn entry(alloc: Global, version: u8, word: &[u8], text: &[u8]) -> Result<Option<
     }
 }
 
-/// Reads a line of a journal from a text of this version, without a line feed. `None` if the text isn't such a line. In
-/// the first version the key of a put has no bytes. Precondition: the version is 1 or 2.
+/// Reads the line of an entry from a text without a line feed. `version` is the version of the journal's text. `None`
+/// means that the text isn't the line of an entry. A `put` entry of version 1 doesn't state the size of the partition
+/// key. The size is then returned as 0. Precondition: the version is 1 or 2.
 #[tactic(auto, unfolding(crate::specs::Entries::entry_of))]
 pub fn read_entry(alloc: Global, text: &[u8], version: u8) -> Result<Option<EntryLine>, Memory>
     requires { IsVersion version }
@@ -64,8 +66,8 @@ pub fn read_entry(alloc: Global, text: &[u8], version: u8) -> Result<Option<Entr
     Ok(Some(EntryLine { clock, by, what }))
 }
 
-/// Reads the last line of a journal from a text without a line feed, and returns its clock. `None` if the text isn't a
-/// last line.
+/// Reads the last line of a journal, `end CLOCK`, from a text without a line feed, and returns its clock. `None` means
+/// that the text isn't a last line.
 #[tactic(auto, unfolding(crate::specs::Entries::end_of))]
 pub fn read_end(text: &[u8]) -> Option<Moment>
     ensures { result ≡ end_of text.now }

@@ -1,4 +1,5 @@
-//! Reads the entries about streams. Each function gets the text after the entry's word.
+//! Reads the entries about streams in a journal, which is an event log. Each entry begins with a word, such as `made`.
+//! The argument `text` of each function is the rest of the entry, after this word and a space.
 ghost use Rattle.std.specs.Prelude.{◌≡◌, IfOk};
 ghost use Rattle.kcl_journal.specs.Entries.{enforced_of, gone_of, kept_of, made_of, merged_of, put_of, split_of};
 
@@ -9,7 +10,8 @@ use kds_defs::Entry;
 use kds_defs::limits::{LEAST_HOURS, LEAST_SHARDS, MOST_HOURS, MOST_SHARDS};
 use std::alloc::Global;
 
-/// Reads the entry `made STREAM NAME SHARDS`. An error means that memory for the name ran out.
+/// Reads the entry `made STREAM NAME SHARDS` from the text after the word `made`. The error means that memory for the
+/// name ran out.
 #[tactic(auto, unfolding(kcl_script_fields::specs::Fields::two))]
 pub fn parse_made(alloc: Global, text: &[u8]) -> Result<Option<Entry>, Memory>
     ensures { IfOk result (λ o. o ≡ made_of text.now) }
@@ -36,7 +38,7 @@ pub fn parse_made(alloc: Global, text: &[u8]) -> Result<Option<Entry>, Memory>
     }))
 }
 
-/// Reads the entry `gone STREAM`.
+/// Reads the entry `gone STREAM` from the text after the word `gone`.
 pub fn parse_gone(text: &[u8]) -> Option<Entry>
     ensures { result ≡ gone_of text.now }
 {
@@ -46,7 +48,8 @@ pub fn parse_gone(text: &[u8]) -> Option<Entry>
     })
 }
 
-/// Reads the entry `put STREAM SHARD SEQ HASH BYTES KEYBYTES`. In the first version of journals, KEYBYTES is missing.
+/// Reads the entry `put STREAM SHARD SEQ HASH BYTES KEYBYTES` from the text after the word `put`. In the first version
+/// of a journal's text there is no KEYBYTES.
 #[tactic(auto, unfolding(kcl_script_fields::specs::Fields::two))]
 pub fn parse_put(version: u8, text: &[u8]) -> Option<Entry>
     ensures { result ≡ put_of version text.now }
@@ -70,7 +73,7 @@ pub fn parse_put(version: u8, text: &[u8]) -> Option<Entry>
     })
 }
 
-/// Reads the entry `split STREAM SHARD AT SEQ LOW HIGH`.
+/// Reads the entry `split STREAM SHARD AT SEQ LOW HIGH` from the text after the word `split`.
 #[tactic(auto, unfolding(kcl_script_fields::specs::Fields::two))]
 pub fn parse_split(text: &[u8]) -> Option<Entry>
     ensures { result ≡ split_of text.now }
@@ -96,7 +99,7 @@ pub fn parse_split(text: &[u8]) -> Option<Entry>
     })
 }
 
-/// Reads the entry `merged STREAM SHARD OTHER SEQ CHILD`.
+/// Reads the entry `merged STREAM SHARD OTHER SEQ CHILD` from the text after the word `merged`.
 #[tactic(auto, unfolding(kcl_script_fields::specs::Fields::two))]
 pub fn parse_merged(text: &[u8]) -> Option<Entry>
     ensures { result ≡ merged_of text.now }
@@ -119,7 +122,7 @@ pub fn parse_merged(text: &[u8]) -> Option<Entry>
     })
 }
 
-/// Reads the entry `kept STREAM HOURS`.
+/// Reads the entry `kept STREAM HOURS` from the text after the word `kept`.
 #[tactic(auto, unfolding(kcl_script_fields::specs::Fields::two))]
 pub fn parse_kept(text: &[u8]) -> Option<Entry>
     ensures { result ≡ kept_of text.now }
@@ -133,7 +136,7 @@ pub fn parse_kept(text: &[u8]) -> Option<Entry>
     })
 }
 
-/// Reads the entry `enforced STREAM on` or `enforced STREAM off`.
+/// Reads the entry `enforced STREAM on` or `enforced STREAM off` from the text after the word `enforced`.
 #[tactic(auto, unfolding(kcl_script_fields::specs::Fields::two))]
 pub fn parse_enforced(text: &[u8]) -> Option<Entry>
     ensures { result ≡ enforced_of text.now }

@@ -1,4 +1,6 @@
-//! Workers that run concurrently.
+//! Runs workers concurrently, each in a thread of its own. A hall is a machine with a lock around it, and a turn is one
+//! command, applied atomically to the machine. A pass is the right of one thread to make turns of a hall. Each command
+//! of a worker becomes a turn. A gate is a hook around processor calls.
 ghost use Rattle.std.specs.Prelude.{◌*◌, ◌<◌, ◌^◌, ℕ, All, length, slice_index_or};
 ghost use Rattle.kcl_live.specs.Members.{HasEnded, IsReady};
 
@@ -43,8 +45,9 @@ fn run_member<M: Machine, P: Processor + Drop, F: Maker<P>, G: Gate, R: Wait>(
     );
 }
 
-/// Runs the workers of all members concurrently by `run_worker`, each in a thread of its own. If a thread can't be
-/// started, the calling thread runs that worker itself. Each member's `outcome` says how its run ended.
+/// Runs the workers of all members concurrently with `run_worker`, each in a thread of its own. If a thread can't be
+/// started for a worker, the calling thread runs this worker itself. Each member's `outcome` then states how the run of
+/// its worker ended.
 pub fn run_crew<M, P, F, G, R>(
     rt: &R,
     hall: &Hall<M>,

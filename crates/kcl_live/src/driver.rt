@@ -1,4 +1,6 @@
-//! Runs a worker, whose commands become turns of a pass.
+//! Runs a worker. A hall is a machine with a lock around it, and a turn is one command, applied atomically to the
+//! machine. A pass is the right of one thread to make turns of a hall. Each command of the worker becomes a turn, which
+//! the worker makes with its pass. A worker that was stopped is idle when it has nothing left to do.
 ghost use Rattle.std.specs.Prelude.{◌≡◌, ◌⊎◌, ℕ, ◌*◌, ◌+◌, ◌<◌, ◌≤◌, ◌^◌, [], length, None, IfErr, OnErr, OnOk, true, false};
 ghost use Rattle.kcl_worker_lists.specs.Lists.{due_in};
 ghost use Rattle.kcl_worker.specs.Standing.{StandsFor, is_idle_in};
@@ -52,8 +54,8 @@ fn round<M: Machine, P: Processor + Drop, F: Maker<P>, G: Gate, R: Wait>(
     }
 }
 
-/// Makes one round of a worker that was stopped and isn't idle, and for which no processor call is due: a turn at the
-/// moment `now`, and then the processor calls that become due.
+/// Makes one round of a worker that was stopped: a turn at the moment `now`, and then the processor calls that become
+/// due. Preconditions: the worker isn't idle, and no processor call is due.
 fn last_round<M: Machine, P: Processor + Drop, F: Maker<P>, G: Gate, R: Wait>(
     rt: &R,
     hall: &Hall<M>,
@@ -83,8 +85,9 @@ fn last_round<M: Machine, P: Processor + Drop, F: Maker<P>, G: Gate, R: Wait>(
     }
 }
 
-/// Makes rounds of a worker that was stopped, until it is idle. The worker has made `turns` turns. It makes at most
-/// three times this number in all, because after a stop each batch is given once and each lease is freed once.
+/// Makes rounds of a worker that was stopped, until the worker is idle. `turns` is the number of turns that the worker
+/// has made so far. The worker makes at most twice this number of additional turns. For each batch that a processor
+/// already got, one of these turns reports the batch as processed. For each lease, one of these turns frees the lease.
 fn finish<M: Machine, P: Processor + Drop, F: Maker<P>, G: Gate, R: Wait>(
     rt: &R,
     hall: &Hall<M>,
@@ -121,7 +124,8 @@ fn finish<M: Machine, P: Processor + Drop, F: Maker<P>, G: Gate, R: Wait>(
     Ok(())
 }
 
-/// Makes `turns` rounds of a worker, stops it, and makes rounds until it is idle.
+/// Runs a worker until it is idle. First makes `turns` rounds of the worker, each with the processor calls that are due
+/// and then one turn. Then stops the worker, and makes rounds until the worker is idle.
 fn drive<M: Machine, P: Processor + Drop, F: Maker<P>, G: Gate, R: Wait>(
     rt: &R,
     hall: &Hall<M>,
@@ -152,11 +156,12 @@ fn drive<M: Machine, P: Processor + Drop, F: Maker<P>, G: Gate, R: Wait>(
     finish(rt, hall, pass, worker, gate, turns, tick)
 }
 
-/// Runs a new worker through `pass`, which must not have made a turn yet. In each round, the processor calls that are
-/// due are made, and then one turn. The turns are numbered from 1, and turn k is at k * `tick` milliseconds. After
-/// `turns` turns the worker is stopped. It goes on until it is idle, and makes at most three times `turns` turns in
-/// all (Kinesis Client Library, Scheduler). The error `Memory` means that memory ran out in a processor call, for a
-/// turn, or for its answer. The error `Spent` means that the hall's history is full.
+/// Runs a new worker, whose commands are applied to the hall's machine as turns of `pass` (see Kinesis Client Library,
+/// Scheduler). The worker makes the processor calls that are due, then one turn, and so on. The turns are counted from
+/// 1, and turn k is at k times `tick` milliseconds. After `turns` turns, the worker is stopped. It then continues until
+/// it is idle. In all, it makes at most 3 * `turns` turns. The error `Memory` means that memory ran out in a processor
+/// call, for a turn, or for the answer to a turn. The error `Spent` means that the hall has already made the maximum
+/// number of turns. Precondition: `pass` has made no turn yet.
 pub fn run_worker<M: Machine, P: Processor + Drop, F: Maker<P>, G: Gate, R: Wait>(
     rt: &R,
     hall: &Hall<M>,
@@ -169,23 +174,27 @@ pub fn run_worker<M: Machine, P: Processor + Drop, F: Maker<P>, G: Gate, R: Wait
     requires hall { pass.old.hall ≡ hall.now.id }
     requires new { StandsFor P.stands_for worker.old [] × (pass.old.own ≡ []) }
     requires moments { 3 * turns * tick < 2 ^ 62 }
-    // The pass keeps its number and joins no other pass. The worker keeps its name and settings.
+    // The pass keeps its hall and its number, and no other pass is joined into it. The worker keeps its name and
+    // settings.
     ensures kept { (pass.new.hall ≡ pass.old.hall) × (pass.new.by ≡ pass.old.by) × (pass.new.joined ≡ pass.old.joined) }
     ensures made { worker.new.made ≡ worker.old.made }
     ensures seen { Continues pass.new.seen pass.old.seen }
 
-    // The pass's own turns are the commands of the worker's record, each at its moment.
+    // The pass's own turns are the answered commands in the worker's list of events. The k-th turn is at k times `tick`
+    // milliseconds.
     ensures moments { AreOnLeasesAt tick pass.new.own }
     ensures ok { OnOk result (HasRun P.stands_for worker.new pass.new) }
     ensures least { OnOk result (turns ≤ length pass.new.own) }
     ensures most { length pass.new.own ≤ 3 * turns }
     ensures idle { OnOk result (is_idle_in worker.new ≡ true) }
 
-    // An error comes from a processor call, from a turn, or from an answer that the worker couldn't absorb.
+    // An error has one of three causes: a processor call failed, a turn failed, or the worker had no memory for an
+    // answer.
     ensures err { IfErr result (λ e. WasCut P.stands_for worker.new pass.new e) }
 
-    // The processors are called for the given reads of their tenures. This holds in each history in which the pass
-    // makes only these turns.
+    // A tenure is one worker's hold on a lease. The processor of each tenure was called for the reads of the tenure
+    // that count as processed. This stays true in each later history of the hall (the list of all its turns), as long
+    // as the pass makes no more turns.
     ensures served { OnOk result (AreServedLater P.stands_for pass.new.by pass.new.seen pass.new.own worker.new) }
     ensures served_so_far { OnErr result (AreServedSoFar P.stands_for worker.new pass.new) }
 {

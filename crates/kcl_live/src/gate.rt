@@ -1,9 +1,9 @@
-//! A hook around the processor calls of a worker that runs on a thread.
+//! Gates. A gate is a hook around the processor calls of a worker that runs on a thread.
 use kcl_defs::Due;
 use kds_base::WorkerNo;
 
-/// A hook that is called before and after each processor call of a worker, at times when no turn is held. The hook may
-/// wait.
+/// A hook that is called before and after each processor call of a worker. The hook may wait, since the worker's thread
+/// doesn't hold the machine's lock at these times.
 pub trait Gate {
     /// Called right before the worker makes the processor call `due`.
     fn before(&mut self, worker: WorkerNo, due: Due);

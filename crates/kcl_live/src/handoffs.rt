@@ -1,5 +1,7 @@
-//! The hand-off of a lease through a pass. The processor calls come between turns, and each command is a turn at the
-//! same moment.
+//! Hands off a lease of a worker: the worker releases the lease gracefully. A hall is a machine with a lock around it,
+//! and a turn is one command, applied atomically to the machine. A pass is the right of one thread to make turns of a
+//! hall. Each command of the hand-off becomes a turn, which is made with the worker's pass. All turns of a hand-off are
+//! at the same moment. Processor calls are made between the turns.
 ghost use Rattle.std.specs.Prelude.{◌≡◌, ◌<◌, ◌≤◌, ℕ, None, Some, IfErr, IfNone, IfOk, IfSome, IsSome, OnErr, OnOk};
 ghost use Rattle.std.specs.Option.{MatchOption};
 ghost use Rattle.kcl_defs.specs.Consumers.{due_call};
@@ -20,7 +22,7 @@ use kds_turn::{Hall, Pass, TurnErr};
 use std::sync::Wait;
 
 /// Makes the processor call that is due, if a call is due. The error `Memory` means that the processor ran out of
-/// memory; then its call is still due.
+/// memory. The same call is then still due.
 fn call_one<P: Processor>(hand: &mut Handover<P>) -> Result<(), TurnErr>
     ensures held { hand.new.held ≡ hand.old.held }
     ensures made { hand.new.consumer.made ≡ hand.old.consumer.made }
@@ -39,7 +41,8 @@ fn call_one<P: Processor>(hand: &mut Handover<P>) -> Result<(), TurnErr>
     }
 }
 
-/// Makes the hand-off's next command as a turn of the pass at the moment `at`. The hand-off absorbs the answer.
+/// Applies the hand-off's next command to the hall's machine, as a turn of the pass at the moment `at`. The hand-off
+/// then updates its state with the answer.
 fn answer_one<M: Machine, P: Processor, R: Wait>(
     rt: &R,
     hall: &Hall<M>,
@@ -68,8 +71,8 @@ fn answer_one<M: Machine, P: Processor, R: Wait>(
     }
 }
 
-/// Makes the processor call that is due, if a call is due, and then the hand-off's next command. If the hand-off has
-/// ended, makes no command, and returns how it ended.
+/// Makes the processor call that is due, if a call is due. If the hand-off has then ended, returns how it ended.
+/// Otherwise applies the hand-off's next command, as a turn of the pass at the moment `at`, and returns `None`.
 fn advance<M: Machine, P: Processor, R: Wait>(
     rt: &R,
     hall: &Hall<M>,
@@ -100,7 +103,7 @@ fn advance<M: Machine, P: Processor, R: Wait>(
     }
 }
 
-/// Runs a hand-off to its end.
+/// Runs a hand-off to its end, and returns how it ended.
 fn carry<M: Machine, P: Processor, R: Wait>(
     rt: &R,
     hall: &Hall<M>,
@@ -126,11 +129,13 @@ fn carry<M: Machine, P: Processor, R: Wait>(
     }
 }
 
-/// Hands off the worker's lease of `key`: its consumer's batch is completed, the checkpoint is set to the last number
-/// that was given, and the row is freed. Each command is a turn of the pass at the same moment. The result is `None`
-/// if the worker has no such lease. No turn is held while the processor is called. The error `Memory` means that the
-/// processor ran out of memory, and `Spent` that the hall's history is full. After an error the lease remains as the
-/// turns made so far have left it.
+/// Hands off the worker's lease of the shard `key`. If the lease's processor already got a batch, this batch is
+/// completed first. If any record counts as processed, the checkpoint is then set to the sequence number of the last
+/// such record. Finally, the lease is freed. Each command is a turn of the pass at the moment `at`. Returns how the
+/// hand-off ended, and the processor. Returns `None` if the worker has no such lease. The hall's lock isn't held while
+/// the processor is called. The error `Memory` means that the processor ran out of memory. The error `Spent` means that
+/// the hall has already made the maximum number of turns. After an error, the lease stays in the state that it has
+/// after the turns made so far.
 pub fn hand_over<M: Machine, P: Processor + Drop, F: Maker<P>, R: Wait>(
     rt: &R,
     hall: &Hall<M>,

@@ -1,4 +1,6 @@
-//! One step of a worker: the processor calls that are due, and then one turn.
+//! A hall is a machine with a lock around it, and a turn is one command, applied atomically to the machine. A pass is
+//! the right of one thread to make turns of a hall. This file makes one step of a worker: the processor calls that are
+//! due, and then one turn.
 ghost use Rattle.std.specs.Prelude.{◌≡◌, ◌⊎◌, ℕ, ◌∷◌, List, None, IfErr, IsSome, OnErr, OnOk, false};
 ghost use Rattle.kcl_defs.specs.declared.consumer.Ask.{Ask};
 ghost use Rattle.kcl_defs.specs.Workers.{WorkerPast};
@@ -17,8 +19,9 @@ use kds_defs::{Machine, let_go};
 use kds_turn::{Hall, Pass, TurnErr};
 use std::sync::Wait;
 
-/// Makes all processor calls that are due. The gate's `before` and `after` are called around each of them. The error
-/// `Memory` means that a processor ran out of memory; then its call is still due.
+/// Makes all processor calls that are due. The gate is a hook: `before` is called before each processor call, and
+/// `after` after the call. The error `Memory` means that a processor ran out of memory. The failed call is then still
+/// due.
 pub(crate) fn call_all<P: Processor, F: Maker<P>, G: Gate>(
     worker: &mut Worker<P, F>,
     gate: &mut G,
@@ -45,7 +48,7 @@ pub(crate) fn call_all<P: Processor, F: Maker<P>, G: Gate>(
     Ok(())
 }
 
-/// Drops the answer that the worker couldn't absorb. Returns the error `Memory`.
+/// Drops the answer that the worker had no memory for, and returns the error `Memory`.
 fn without(left: NoRoom) -> TurnErr
     ensures { result ≡ TurnErr.Memory }
 {
@@ -53,8 +56,9 @@ fn without(left: NoRoom) -> TurnErr
     TurnErr::Memory
 }
 
-/// Makes the worker's next command as a turn of the pass at the moment `now`. The worker absorbs the answer. The error
-/// `Memory` means that memory ran out for the turn or for its answer, and `Spent` that the hall's history is full.
+/// Applies the worker's next command to the hall's machine, as a turn of the pass at the moment `now`. The worker then
+/// updates its state with the answer. The error `Memory` means that memory ran out for the turn or for its answer. The
+/// error `Spent` means that the hall has already made the maximum number of turns.
 pub(crate) fn make_turn<M: Machine, P: Processor + Drop, F: Maker<P>, R: Wait>(
     rt: &R,
     hall: &Hall<M>,

@@ -1,4 +1,4 @@
-//! The text of answers to commands for leases.
+//! The text of answers to commands on leases. An answer is a reply or a refusal.
 ghost use Rattle.std.specs.Prelude.{◌≡◌, ◌∷◌, ◌++◌, flat_map, codes, length, true, OnOk, OnErr};
 ghost use Rattle.kds_defs.specs.Kinds.{is_lease_answer, is_lease_reply};
 ghost use Rattle.kcl_script_fields.specs.Fields.{key_text};
@@ -44,7 +44,7 @@ fn owned_key(
     owner(alloc, worker, to)
 }
 
-/// Adds a space and the text of a row.
+/// Appends a space and the text of a row of the lease table.
 fn row(alloc: Global, row: &Row, to: &mut Octets) -> Result<(), Memory>
     ensures { OnOk result (to.new ≡ to.old ++ row_text row.now) }
 {
@@ -158,7 +158,8 @@ fn fill_reply(alloc: Global, reply: &Reply, long: bool, to: &mut Octets) -> Resu
     }
 }
 
-/// The name of a refusal, without its value, as schedules and audits print it.
+/// Returns the name of a refusal, without the refusal's value. Replays of schedules and audits of journals print this
+/// name.
 pub fn refusal_name(refusal: &Refusal) -> &'static str
     ensures { result.now ≡ name_of refusal.now }
 {
@@ -197,7 +198,8 @@ pub fn refusal_name(refusal: &Refusal) -> &'static str
     }
 }
 
-/// Adds a space and the refusal's value. It adds nothing if the refusal has no value.
+/// Appends a space and the value that a refusal has, such as the row's counter in `Moved`. Appends nothing if the
+/// refusal has no value.
 fn value(alloc: Global, refusal: &Refusal, to: &mut Octets) -> Result<(), Memory>
     ensures { OnOk result (to.new ≡ to.old ++ refusal_value refusal.now) }
 {
@@ -221,8 +223,8 @@ fn fill_refusal(alloc: Global, refusal: &Refusal, to: &mut Octets) -> Result<(),
     value(alloc, refusal, to)
 }
 
-/// Adds the text of an answer as `print_answer` does, but directly, without a buffer of its own. If memory runs out, a
-/// prefix of the text may have been added.
+/// Appends the text of an answer as `print_answer` does, but without first building the text in a buffer of its own. If
+/// memory runs out, a prefix of the text may have been appended.
 pub fn fill_answer(
     alloc: Global,
     answer: &Answer,
@@ -238,9 +240,10 @@ pub fn fill_answer(
     }
 }
 
-/// Adds the text of an answer. If `long` is true, a survey's rows are printed instead of their number. Precondition: it
-/// answers a command for leases. If memory runs out, nothing is added. The function exists for users of the library:
-/// the program calls `fill_answer`.
+/// Appends the text of an answer to a command on leases. `long` matters only for a survey, the command that lists the
+/// shards and the rows of the lease table. If `long` is true, the text has each row, and otherwise only the numbers of
+/// shards and rows. Precondition: the answer belongs to a command on leases. If memory runs out, nothing is appended.
+/// This function exists for users of the library; the program calls `fill_answer`.
 pub fn print_answer(
     alloc: Global,
     answer: &Answer,

@@ -1,4 +1,5 @@
-//! The text of commands for leases. Each text is built in a buffer of its own, and added when it is complete.
+//! The text of commands on leases. `print_command` builds the text in a buffer of its own, and appends the text when it
+//! is complete. A tenure is one worker's hold on a lease.
 ghost use Rattle.std.specs.Prelude.{◌≡◌, ◌∷◌, ◌++◌, false, true, OnOk, OnErr};
 ghost use Rattle.kds_defs.specs.Kinds.{is_counted, is_service};
 ghost use Rattle.kcl_script_fields.specs.Fields.{AddsFront, worker_text};
@@ -10,7 +11,8 @@ use kds_base::{Memory, Octets, WorkerNo, write_u64};
 use kds_defs::{Command, Origin, Target};
 use std::alloc::Global;
 
-/// Adds a space and a worker. If memory runs out, a prefix of the text, possibly empty, has been added.
+/// Appends a space and the worker `owner`. If memory runs out, a prefix of this text, possibly empty, has been
+/// appended.
 pub fn owner_field(alloc: Global, owner: WorkerNo, to: &mut Octets) -> Result<(), Memory>
     ensures ok { OnOk result (to.new ≡ to.old ++ 32 ∷ worker_text owner) }
     ensures err { OnErr result (AddsFront to.old to.new (32 ∷ worker_text owner)) }
@@ -19,8 +21,8 @@ pub fn owner_field(alloc: Global, owner: WorkerNo, to: &mut Octets) -> Result<()
     write_u64(alloc, owner.0 as u64, to)
 }
 
-/// Adds a space and the target of a checkpoint. If memory runs out, a prefix of the text, possibly empty, has been
-/// added.
+/// Appends a space and the target of a command that sets a checkpoint. The target is a sequence number or the shard's
+/// end. If memory runs out, a prefix of this text, possibly empty, has been appended.
 pub fn target_field(alloc: Global, target: Target, to: &mut Octets) -> Result<(), Memory>
     ensures ok { OnOk result (to.new ≡ to.old ++ 32 ∷ target_text target) }
     ensures err { OnErr result (AddsFront to.old to.new (32 ∷ target_text target)) }
@@ -31,8 +33,8 @@ pub fn target_field(alloc: Global, target: Target, to: &mut Octets) -> Result<()
     }
 }
 
-/// Adds a space and the origin at which reading begins. It adds nothing for TRIM_HORIZON. If memory runs out, a prefix
-/// of the text, possibly empty, has been added.
+/// Appends a space and the origin, which says where reading of a shard begins. Appends nothing for TRIM_HORIZON. If
+/// memory runs out, a prefix of this text, possibly empty, has been appended.
 pub fn origin_field(alloc: Global, from: Origin, to: &mut Octets) -> Result<(), Memory>
     ensures ok { OnOk result (to.new ≡ to.old ++ origin_text from) }
     ensures err { OnErr result (AddsFront to.old to.new (origin_text from)) }
@@ -44,8 +46,8 @@ pub fn origin_field(alloc: Global, from: Origin, to: &mut Octets) -> Result<(), 
     }
 }
 
-/// Adds the text of a command that names a tenure and then a counter or a position. Each command has exactly one text.
-/// If memory runs out, a prefix of the text may have been added.
+/// Appends the text of a command that names a tenure and then a counter or a position. Each command has exactly one
+/// text. If memory runs out, a prefix of the text may have been appended.
 fn fill_counted(alloc: Global, what: &Command, to: &mut Octets) -> Result<(), Memory>
     requires { is_counted what.now ≡ true }
     ensures { OnOk result (to.new ≡ to.old ++ command_text what.now) }
@@ -77,7 +79,7 @@ fn fill_counted(alloc: Global, what: &Command, to: &mut Octets) -> Result<(), Me
     }
 }
 
-/// Adds the text of a command for leases. If memory runs out, a prefix of the text may have been added.
+/// Appends the text of a command on leases. If memory runs out, a prefix of the text may have been appended.
 fn fill_command(alloc: Global, what: &Command, to: &mut Octets) -> Result<(), Memory>
     requires { is_service what.now ≡ false }
     ensures { OnOk result (to.new ≡ to.old ++ command_text what.now) }
@@ -107,8 +109,9 @@ fn fill_command(alloc: Global, what: &Command, to: &mut Octets) -> Result<(), Me
     }
 }
 
-/// Adds the text of a command, which is the only text that is read as this command. Precondition: it is a command for
-/// leases. If memory runs out, nothing is added.
+/// Appends the text of a command on leases. No other text is read as this command, with one exception: the text `rows`
+/// is also read as a survey, the command that lists the shards and the rows of the lease table. Precondition: the
+/// command is a command on leases. If memory runs out, nothing is appended.
 pub fn print_command(alloc: Global, what: &Command, to: &mut Octets) -> Result<(), Memory>
     requires { is_service what.now ≡ false }
     ensures ok { OnOk result (to.new ≡ to.old ++ command_text what.now) }

@@ -1,11 +1,13 @@
-//! Reads fields of a line, and the numbers, workers and keys in them.
+//! Reads the fields of a line, and the numbers, workers and lease keys in these fields. If a text can't be read, the
+//! result is `None`.
 ghost use Rattle.std.specs.Prelude.{◌≡◌, ◌∷◌, option_map};
 ghost use Rattle.kcl_script_fields.specs.Fields.{parted, field as field_of, two, moment_of, number, from_one_to, count_of, worker_of, key_of};
 
 use kds_base::{Moment, ShardNo, ShardRef, StreamNo, WorkerNo, read_u64};
 use memchr::memchr;
 
-/// Splits `text` at the first byte `sep`: the part before it, and the part after it. `None` if `text` has no such byte.
+/// Splits `text` at the first byte `sep`, and returns the part before this byte and the part after it. Returns `None`
+/// if `text` has no such byte.
 pub fn part(text: &[u8], sep: u8) -> Option<(&[u8], &[u8])>
     ensures { option_map (λ p. (p.0.now, p.1.now)) result ≡ parted sep text.now }
 {
@@ -19,14 +21,15 @@ pub fn part(text: &[u8], sep: u8) -> Option<(&[u8], &[u8])>
     }
 }
 
-/// Splits `text` at the first space: the part before it, and the part after it. `None` if `text` has no space.
+/// Splits `text` at the first space, and returns the part before the space and the part after it. Returns `None` if
+/// `text` has no space.
 pub fn field(text: &[u8]) -> Option<(&[u8], &[u8])>
     ensures { option_map (λ p. (p.0.now, p.1.now)) result ≡ field_of text.now }
 {
     part(text, b' ')
 }
 
-/// Reads a moment in milliseconds.
+/// Reads a moment, written as a decimal number of milliseconds.
 pub fn moment(text: &[u8]) -> Option<Moment>
     ensures { result ≡ moment_of text.now }
 {
@@ -43,14 +46,14 @@ fn from_one(n: u64, most: u32) -> Option<u32>
     }
 }
 
-/// Reads a number from 1 to `most`.
+/// Reads a decimal number from 1 to `most`.
 pub fn count(text: &[u8], most: u32) -> Option<u32>
     ensures { result ≡ count_of most text.now }
 {
     from_one(read_u64(text)?, most)
 }
 
-/// Reads two numbers with the byte `sep` between them.
+/// Reads two decimal numbers with the byte `sep` between them.
 #[tactic(auto, unfolding(crate::specs::Fields::two))]
 pub fn two_numbers(text: &[u8], sep: u8) -> Option<(u64, u64)>
     ensures { result ≡ two sep number number text.now }
@@ -61,7 +64,7 @@ pub fn two_numbers(text: &[u8], sep: u8) -> Option<(u64, u64)>
     Some((first, second))
 }
 
-/// Reads a worker: `w` and its number, which is at least 1.
+/// Reads a worker, written as `w` and the worker's number, which is at least 1.
 pub fn worker(text: &[u8]) -> Option<WorkerNo>
     ensures { result ≡ worker_of text.now }
 {
@@ -82,7 +85,7 @@ fn numbered(letter: u8, digits: &[u8]) -> Option<WorkerNo>
     }
 }
 
-/// Reads a key of the form STREAM/SHARD.
+/// Reads the key of a lease, written as the numbers STREAM/SHARD.
 pub fn key_of(text: &[u8]) -> Option<ShardRef>
     ensures { result ≡ key_of text.now }
 {

@@ -1,10 +1,10 @@
-//! Laws of the texts of commands for leases.
+//! A law: a command on leases has exactly one text. A law is a theorem that proofs can use.
 ghost use Rattle.std.specs.Prelude.{◌≡◌, Bool, List, Some, ℕ};
 ghost use Rattle.kds_defs.specs.declared.command.Command.{Command};
 ghost use Rattle.kcl_script_fields.specs.Commands.{IsAsked, command_of, raw_text};
 
-/// A line asks for a command for leases, and for a short or a long answer to it. Each such pair that a line can ask for
-/// has exactly one text, and no other text is read as that pair.
+/// A raw line of a schedule contains a command on leases, and selects the form (short or long) of the command's answer.
+/// Each such pair of a command and a form has exactly one text, and no other text is read as this pair.
 pub fn one_command_text()
     ensures reads { (text : List ℕ) (what : Command) (long : Bool) → command_of text ≡ Some (what, long) → IsAsked what long × (text ≡ raw_text what long) }
     ensures again { (what : Command) (long : Bool) → IsAsked what long → command_of (raw_text what long) ≡ Some (what, long) }

@@ -1,4 +1,5 @@
-//! The text of commands for leases and of their answers, and the fields in the lines of schedules and journals.
+//! The text of commands on leases and of the answers to them, and the fields in the lines of schedules (recorded
+//! workloads) and journals (event logs).
 #![tactic(auto)]
 
 mod answer;

@@ -1,11 +1,11 @@
-//! Reads the origin at which reading of a shard begins.
+//! Reads the text of an origin, which says where reading of a shard begins.
 ghost use Rattle.std.specs.Prelude.{◌≡◌};
 ghost use Rattle.kcl_script_fields.specs.Origins.{time_of, origin_of};
 
 use crate::fields::{field, moment};
 use kds_defs::Origin;
 
-/// Reads `time M` as an origin, where M is a moment.
+/// Reads the text `time M` as an origin, where M is a moment in milliseconds.
 fn time(text: &[u8]) -> Option<Origin>
     ensures { result ≡ time_of text.now }
 {
@@ -18,7 +18,7 @@ fn time(text: &[u8]) -> Option<Origin>
     }
 }
 
-/// Reads an origin: `latest` or `time M`.
+/// Reads the text of an origin: `latest`, or `time M`, where M is a moment in milliseconds.
 pub fn origin(text: &[u8]) -> Option<Origin>
     ensures { result ≡ origin_of text.now }
 {

@@ -1,4 +1,5 @@
-//! Reads commands for leases, as they are written in raw lines.
+//! Reads commands on leases, as they are written in the raw lines of a schedule (a recorded workload). If a text can't
+//! be read, the result is `None`.
 ghost use Rattle.std.specs.Prelude.{◌≡◌, option_map};
 ghost use Rattle.kcl_script_fields.specs.Fields.{two, number, count_of, worker_of, key_of};
 ghost use Rattle.kcl_script_fields.specs.Commands.{target_of, row_of, make_of, take_of, renew_of, free_of, open_of, read_of, give_of, mark_of, cut_of, words_of, longer_of, command_of};
@@ -9,7 +10,7 @@ use kds_base::{Seq, ShardRef, TenureNo, read_u64};
 use kds_defs::limits::MOST;
 use kds_defs::{Command, Origin, Target};
 
-/// Reads the target of a checkpoint: a record's number, or `end`.
+/// Reads the target to which a checkpoint is set: a record's sequence number, or `end`.
 pub fn target(text: &[u8]) -> Option<Target>
     ensures { result ≡ target_of text.now }
 {
@@ -21,7 +22,8 @@ pub fn target(text: &[u8]) -> Option<Target>
     }
 }
 
-/// Reads a key, and the origin at which the key's row begins. If the text is only a key, the origin is TRIM_HORIZON.
+/// Reads the key of a lease, and the origin at which the lease's row begins. If the text is only a key, the origin is
+/// TRIM_HORIZON.
 pub fn row(text: &[u8]) -> Option<(ShardRef, Origin)>
     ensures { result ≡ row_of text.now }
 {
@@ -141,7 +143,7 @@ fn parse_cut(text: &[u8]) -> Option<Command>
     Some(Command::CutLease { key, counter })
 }
 
-/// Reads the command that begins with `word`. `text` follows the word and a space.
+/// Reads the command whose first word is `word`. `text` is the rest of the command, after this word and a space.
 fn parse_command(word: &[u8], text: &[u8]) -> Option<Command>
     ensures { result ≡ words_of word.now text.now }
 {
@@ -176,7 +178,8 @@ fn longer(text: &[u8]) -> Option<Command>
     parse_command(word, rest)
 }
 
-/// Reads a command, and whether it asks for the long answer.
+/// Reads a command. The returned `bool` says whether the command asks for the long form of its answer. Only the text
+/// `rows` asks for it. The text `rows` is a survey whose answer has each row of the lease table.
 pub fn raw_command(text: &[u8]) -> Option<(Command, bool)>
     ensures { result ≡ command_of text.now }
 {

@@ -1,11 +1,12 @@
-//! Adds the text of words, numbers and keys. If memory runs out, a prefix of the text, possibly empty, has been added.
+//! Appends words, numbers and lease keys to a text. If memory runs out in one of these functions, a prefix of its text,
+//! possibly empty, has been appended.
 ghost use Rattle.std.specs.Prelude.{◌≡◌, ◌∷◌, ◌++◌, decimal, OnErr, OnOk};
 ghost use Rattle.kcl_script_fields.specs.Fields.{AddsFront, key_text};
 
 use kds_base::{Memory, Octets, ShardRef, write_u64};
 use std::alloc::Global;
 
-/// Adds a space and a number.
+/// Appends a space and the number `n` in decimal.
 pub fn number_field(alloc: Global, n: u64, to: &mut Octets) -> Result<(), Memory>
     ensures ok { OnOk result (to.new ≡ to.old ++ 32 ∷ decimal n) }
     ensures err { OnErr result (AddsFront to.old to.new (32 ∷ decimal n)) }
@@ -14,7 +15,7 @@ pub fn number_field(alloc: Global, n: u64, to: &mut Octets) -> Result<(), Memory
     write_u64(alloc, n, to)
 }
 
-/// Adds a word, a space and a number.
+/// Appends a word, a space and the number `n` in decimal.
 pub fn with_number(alloc: Global, word: &[u8], n: u64, to: &mut Octets) -> Result<(), Memory>
     ensures ok { OnOk result (to.new ≡ to.old ++ (word.now ++ 32 ∷ decimal n)) }
     ensures err { OnErr result (AddsFront to.old to.new (word.now ++ 32 ∷ decimal n)) }
@@ -23,7 +24,7 @@ pub fn with_number(alloc: Global, word: &[u8], n: u64, to: &mut Octets) -> Resul
     number_field(alloc, n, to)
 }
 
-/// Adds a word and two numbers, each after a space.
+/// Appends a word and the numbers `n` and `m` in decimal, each after a space.
 pub fn with_numbers(
     alloc: Global,
     word: &[u8],
@@ -38,7 +39,7 @@ pub fn with_numbers(
     number_field(alloc, m, to)
 }
 
-/// Adds a key in the form STREAM/SHARD.
+/// Appends the key of a lease in the form STREAM/SHARD.
 pub fn write_key(alloc: Global, key: ShardRef, to: &mut Octets) -> Result<(), Memory>
     ensures ok { OnOk result (to.new ≡ to.old ++ key_text key) }
     ensures err { OnErr result (AddsFront to.old to.new (key_text key)) }
@@ -48,7 +49,7 @@ pub fn write_key(alloc: Global, key: ShardRef, to: &mut Octets) -> Result<(), Me
     write_u64(alloc, key.shard.0, to)
 }
 
-/// Adds a word, a space and a key.
+/// Appends a word, a space and the key of a lease.
 pub fn with_key(alloc: Global, word: &[u8], key: ShardRef, to: &mut Octets) -> Result<(), Memory>
     ensures ok { OnOk result (to.new ≡ to.old ++ (word.now ++ 32 ∷ key_text key)) }
     ensures err { OnErr result (AddsFront to.old to.new (word.now ++ 32 ∷ key_text key)) }

@@ -1,4 +1,6 @@
-//! The hand-off of a lease that a worker releases. All turns of a hand-off run at one moment.
+//! Hands off the leases that workers release. A hand-off finishes the batch that the processor has, sets the
+//! checkpoint, and frees the row of the lease. All turns of a hand-off have the same time. A turn is a command with its
+//! sender and its time.
 ghost use Rattle.std.specs.Prelude.{◌≡◌, ◌⊎◌, ◌<◌, ◌≤◌, ◌^◌, ◌∷◌, ◌++◌, false, true, None, Some, IfOk, OnErr, OnOk};
 ghost use Rattle.kds_defs.specs.Histories.{answer};
 ghost use Rattle.kds_defs.specs.Kinds.{is_service};
@@ -23,7 +25,7 @@ use kds_base::{Memory, Moment, Octets, ShardRef};
 use kds_defs::{Answer, Command, Machine, Turn};
 use std::alloc::Global;
 
-/// Makes the processor call that is due, if any.
+/// Makes the processor call that is due in the hand-off, if any.
 fn call_hand(hand: &mut Handover<Stock>) -> Result<(), Memory>
     ensures few { turns_left_in hand.new ≤ turns_left_in hand.old }
     ensures none_due { OnOk result (due_call hand.new.consumer.phase ≡ None) }
@@ -36,8 +38,8 @@ fn call_hand(hand: &mut Handover<Stock>) -> Result<(), Memory>
 }
 
 impl<M: Machine, K: Keep> Sim<M, K> {
-    /// Runs the turn of the hand-off's command `what`, and adds the command and its answer to the line of output. If
-    /// memory runs out, the turn may have run.
+    /// Applies the command `what` of a hand-off as a turn, and adds the command and its answer to the line of output.
+    /// If memory runs out, the turn may already have been applied.
     fn hand_turn(
         &mut self,
         alloc: Global,
@@ -60,8 +62,8 @@ impl<M: Machine, K: Keep> Sim<M, K> {
         Ok(answer)
     }
 
-    /// Runs the next command of a hand-off, and makes the processor call that is due after the answer. If memory runs
-    /// out, the turn may have run.
+    /// Applies the next command of a hand-off as a turn, and then makes the processor call that is due after the
+    /// answer, if any. If memory runs out, the turn may already have been applied.
     fn hand_round(
         &mut self,
         alloc: Global,
@@ -87,8 +89,8 @@ impl<M: Machine, K: Keep> Sim<M, K> {
         call_hand(hand)
     }
 
-    /// Runs a hand-off to its end, and adds its line of output. If memory runs out, nothing is added to the output, and
-    /// some or all of the hand-off's turns may have run, from the first on.
+    /// Carries out a hand-off to its end, and adds its line of output. If memory runs out, no output is added, and any
+    /// number of the hand-off's first turns may already have been applied.
     fn hand_over(
         &mut self,
         alloc: Global,
@@ -116,9 +118,10 @@ impl<M: Machine, K: Keep> Sim<M, K> {
         to.extend(text.as_slice())
     }
 
-    /// Hands off the lease of `key` that the worker of actor `by` holds. If memory runs out, nothing is added to the
-    /// output, and some or all of the hand-off's turns may have run, from the first on. The run is then over if the
-    /// worker had released the lease.
+    /// Hands off the lease of the shard `key` that the worker with the actor number `by` holds, and adds a line of
+    /// output. If there is no such worker or lease, only the line `none` is added. If memory runs out, no output is
+    /// added. If memory runs out after the worker has released the lease, the run of the schedule is over, and any
+    /// number of the hand-off's first turns may already have been applied.
     pub(crate) fn hand(
         &mut self,
         alloc: Global,

@@ -1,4 +1,6 @@
-//! What a run keeps of its turns: all of them, none, or the text of what they add (decision 103).
+//! A schedule is a recorded workload. A turn is a command with its sender and its time, and a history is a list of
+//! turns. The run of a schedule keeps all its turns, none of them, or a text that it gathers from them (decision 103).
+//! Such a text is, for example, a journal (an event log).
 ghost use Rattle.std.specs.Prelude.{◌≡◌, ℕ, Bool, [], ◌∷◌, List, refl, reverse, true, false, IfOk, OnOk, OnErr};
 ghost use Rattle.kds_defs.specs.declared.command.Turn.{Turn};
 ghost use Rattle.kds_defs.specs.Histories.{answer};
@@ -11,31 +13,33 @@ use kds_base::{Memory, Octets};
 use kds_defs::{Answer, Machine, Turn};
 use std::alloc::Global;
 
-/// Decides what a run keeps of its turns.
+/// Decides what the run of a schedule keeps of its turns. An implementation may gather a text from the turns, such as a
+/// journal. A run outputs either this text, or the texts of the answers to its turns.
 pub trait Keep {
-    /// `keeps k since h`: `k` has kept what it should of the history `h`, whose newest turn comes first. The text was
-    /// last emptied when the history was `since`.
+    /// `keeps k since h` means that `k` holds what is to be kept of the turns of the history `h` (newest turn first),
+    /// and that the gathered text was last emptied when the history was `since`.
     ghost keeps: { Self → List Turn → List Turn → Type 0 };
 
-    /// Whether the texts of answers are wanted.
+    /// Whether the run outputs the texts of answers.
     ghost wanted: { Bool };
 
-    /// The text of a history. A run outputs it if the texts of answers aren't wanted.
+    /// The text that is gathered from the turns of a history. A run outputs this text if `wanted` is false.
     ghost text: { List Turn → List ℕ };
 
     ghost nothing: { text [] ≡ [] };
 
-    /// Whether the texts of answers are wanted. If not, no text of an answer is made.
+    /// Whether the run outputs the texts of the answers to its turns. If not, the run makes no text of an answer.
     fn wants_answers() -> bool
         ensures { result ≡ wanted };
 
-    /// A further turn only appends to the text of a history.
+    /// States that adding a turn to a history only appends to the text that is gathered from this history.
     fn grows()
         ensures { (h : List Turn) (turn : Turn) → GoesOn (text h) (text (turn ∷ h)) };
 
-    /// Applies a turn to the machine, and keeps what should be kept of the turn and of its answer. Precondition: the
-    /// machine stands for a history, and `self` has kept what it should of that history. If memory runs out, the turn
-    /// isn't applied and nothing is kept of it.
+    /// Applies a turn to the machine, and keeps what is to be kept of the turn and of its answer. Preconditions: the
+    /// values of the turn are in the ranges of the API, the machine has answered exactly the turns of some history
+    /// (`stands_for`), and `self` holds what is to be kept of these turns. If memory runs out, the turn isn't applied,
+    /// and nothing is kept of it.
     fn apply<M: Machine>(
         &mut self,
         alloc: Global,
@@ -52,18 +56,18 @@ pub trait Keep {
         ensures own { is_service turn.what ≡ true → IfOk result (λ a. is_service_answer a ≡ true) }
         ensures leased { is_service turn.what ≡ false → IfOk result (λ a. is_lease_answer a ≡ true) };
 
-    /// Empties the text of the turns.
+    /// Empties the text that was gathered from the turns.
     fn clear(&mut self)
         ensures { (since h : List Turn) → keeps self.old since h → keeps self.new h h };
 
-    /// Appends to `to` the text of the turns that ran since the text was last emptied. If memory runs out, nothing is
-    /// appended. The call also returns `Memory` if memory for the text ran out in an earlier turn.
+    /// Appends to `to` the text that was gathered from the turns since the text was last emptied. If memory runs out,
+    /// nothing is appended. The error is also returned if memory for this text ran out in an earlier turn.
     fn tell(&self, to: &mut Octets) -> Result<(), Memory>
         ensures ok { (since h : List Turn) → keeps self.now since h → OnOk result (AddsText (text since) (text h) to.old to.new) }
         ensures err { OnErr result (to.new ≡ to.old) };
 }
 
-/// Keeps all turns, in the order in which they ran.
+/// Keeps all turns, in the order in which they were applied.
 #[derive(Drop)]
 pub struct AllTurns {
     turns: Vec<Turn>,

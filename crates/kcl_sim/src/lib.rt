@@ -1,4 +1,6 @@
-//! Runs the lines of a schedule on a machine.
+//! Runs the lines of a schedule on a machine. A schedule is a recorded workload: each line is a request, a lease
+//! command, or an instruction to a worker. A turn is a command with its sender and its time. A tenure is one worker's
+//! hold on a lease.
 #![tactic(auto)]
 
 ghost use Rattle.std.specs.Prelude.{◌≡◌, ℕ, List, ◌∷◌, ◌++◌, length};
@@ -27,8 +29,9 @@ mod workers;
 pub use keep::{AllTurns, Keep, NoTurns};
 pub use sim::Sim;
 
-/// In every schedule all turns are lawful. The same holds for the turns of the first lines of a schedule, even if
-/// memory ran out in the middle of the next line.
+/// All turns of every schedule are lawful: their values are in the ranges of the API. This is also true of a run that
+/// has executed only a prefix of the schedule's lines, even if memory runs out in the middle of the line after this
+/// prefix.
 pub fn lawful()
     ensures whole { (bytes : List ℕ) → IsHistory (history bytes) }
     ensures first { (bytes : List ℕ) (lines later : List Line) → (judged bytes).lines ≡ lines ++ later
@@ -40,8 +43,9 @@ pub fn lawful()
     one_spelling();
 }
 
-/// In every schedule, the processors of each worker, and of each lease that it released, are called for the given reads
-/// of their tenures. The same holds after the first lines of a schedule.
+/// A read is called given once the batch that it returned counts as processed. In the run of every schedule, the calls
+/// that each lease's processor gets are those for the given reads of the lease's tenure (`AreAllServed`). This is also
+/// true of the leases that a worker has released. It is true after each line of a schedule, and not only at the end.
 pub fn served()
     ensures whole { (bytes : List ℕ) → AreAllServed (ran bytes) }
     ensures first { (bytes : List ℕ) (lines later : List Line) → (judged bytes).lines ≡ lines ++ later
@@ -51,9 +55,10 @@ pub fn served()
     service();
 }
 
-/// Consider a schedule after any of its lines, and a hand-off that freed its row. Each batch that the hand-off's
-/// processor was handed has been given. As long as the row exists, all records that were given are at or below the
-/// row's checkpoint. None of these records is delivered in a tenure of the key that begins after these lines.
+/// A hand-off passes on a lease that a worker releases. Consider a run after any line of its schedule, and a hand-off
+/// that has already freed its lease's row in the lease table. Each batch that was handed to the hand-off's processor is
+/// given (it counts as processed). As long as the row exists, its checkpoint is at or above all records that were given
+/// in the tenure of the hand-off. A tenure of the same key that begins later reads none of these records.
 pub fn handed_off()
     ensures marked { (bytes : List ℕ) (lines later : List Line) → (judged bytes).lines ≡ lines ++ later
         → AreHandedOff (with_schedule fresh lines) }
@@ -66,7 +71,8 @@ pub fn handed_off()
     never_again();
 }
 
-/// Lines run one after another: later lines continue from the state that the earlier lines left.
+/// The lines of a schedule are executed one after another: each line continues from the state that the lines before it
+/// have left.
 pub fn one_after_another()
     ensures judged { (texts more : List (List ℕ)) (end : End) → (judged_texts texts).ending ≡ whole
         → judge 0 (texts ++ more) end ≡ preceded_by (judged_texts texts).lines (judge (length texts) more end) }
@@ -74,7 +80,7 @@ pub fn one_after_another()
     ensures outputs { (ran : Ran) (ls ks : List Line) → outputs ran (ls ++ ks) ≡ outputs ran ls ++ outputs (with_schedule ran ls) ks }
 {}
 
-/// A line adds at most three turns to a run, even if memory runs out in the middle of the line.
+/// A line of a schedule adds at most three turns to a run, even if memory runs out in the middle of the line.
 pub fn few_turns()
     ensures line { (ran : Ran) (line : Line) → GrowsFew ran.history (with_line ran line).history }
     ensures part { (s : SimValue) (ran : Ran) (line : Line) → HasRunPart s ran line → GrowsFew ran.history s.history }

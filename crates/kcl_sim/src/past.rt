@@ -1,4 +1,5 @@
-//! The turns that ran, used in contracts only (decision 103).
+//! The turns that a run has applied, as a value that only contracts use (decision 103). A turn is a command with its
+//! sender and its time.
 ghost use Rattle.std.specs.Prelude.{◌≡◌, List, [], ◌∷◌};
 ghost use Rattle.std.specs.Borrow.{ftrue};
 ghost use Rattle.kds_defs.specs.declared.command.Turn.{Turn};
@@ -6,8 +7,10 @@ ghost use Rattle.kds_defs.specs.declared.command.Turn.{Turn};
 use kds_defs::Turn;
 use std::marker::Model;
 
-/// The turns that ran, the newest first. A value of this type takes no bytes, and its functions do nothing. Only the
-/// invariant of its holder ties the value to what was done, as the invariant of a run ties it to the run's machine.
+/// The turns that were applied, the newest first. A value of this type takes no bytes, and its functions do nothing at
+/// run time. The type itself doesn't guarantee that these turns were really applied. The guarantee is an invariant of
+/// the struct that has a field of this type. For example, the invariant of `Sim` relates the turns to the machine of
+/// the `Sim`.
 #[derive(Drop)]
 pub struct History {
     pub ghost turns: { List Turn },
@@ -18,21 +21,21 @@ impl Model for History {
 }
 
 impl History {
-    /// The history in which no turn ran.
+    /// Returns the history without turns.
     pub fn new() -> History
         ensures { result.turns ≡ [] }
     {
         History {}
     }
 
-    /// A copy with the same turns.
+    /// Returns a copy with the same turns.
     pub fn copy(&self) -> History
         ensures { result.turns ≡ self.now.turns }
     {
         History {}
     }
 
-    /// The history after the further turn `_turn`.
+    /// Returns this history with the turn `_turn` added.
     pub fn then(&self, _turn: &Turn) -> History
         ensures { result.turns ≡ _turn.now ∷ self.now.turns }
     {

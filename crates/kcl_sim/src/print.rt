@@ -1,5 +1,6 @@
-//! Functions that add lines of output. A short line is first made in a buffer that is reused. A line is added whole or
-//! not at all.
+//! Adds lines to the output of a run. A short line is first built in a buffer that is reused. Each line of output is
+//! added whole or not at all. A turn is a command with its sender and its time. A survey is the lease command that
+//! lists the shards and the rows of the lease table.
 ghost use Rattle.std.specs.Prelude.{◌≡◌, [], ◌∷◌, ◌++◌, codes, decimal, take, vec_len, true, false, IsUtf8, OnOk, OnErr};
 ghost use Rattle.kds_defs.specs.Kinds.{is_lease_answer};
 ghost use Rattle.kds_reply.specs.Replies.{fault_reply};
@@ -14,7 +15,8 @@ use kds_json_members::Fault;
 use kds_reply::fault;
 use std::alloc::Global;
 
-/// Adds a status, and a space if a body follows. If memory runs out, a prefix of this may have been added.
+/// Adds a status in decimal, and a space if the body isn't empty. If memory runs out, a prefix of this text may have
+/// been added.
 fn fill_head(alloc: Global, status: u16, body: &[u8], line: &mut Octets) -> Result<(), Memory>
     ensures { OnOk result (line.new ++ body.now ≡ line.old ++ (decimal status ++ body_part body.now)) }
 {
@@ -36,8 +38,8 @@ fn add_line(text: &mut Vec<u8>, head: &[u8], body: &[u8]) -> Result<(), Memory>
     Ok(())
 }
 
-/// Adds a line with a status and a body. The body, which may be long, is copied once: only the status is made in
-/// `line`. If memory runs out, nothing is added.
+/// Adds a line with a status and a body. The body may be long, so it is copied only once, directly to the output. The
+/// buffer `line` holds only the status. If memory runs out, nothing is added.
 pub fn print(
     alloc: Global,
     status: u16,
@@ -60,8 +62,8 @@ pub fn print(
     added
 }
 
-/// Adds the line of output for a request with a fault. Such a request makes no turn. If memory runs out, nothing is
-/// added.
+/// Adds the line of output for a faulty request: the status and the body of the error. A faulty request makes no turn.
+/// If memory runs out, nothing is added.
 pub fn print_fault(
     alloc: Global,
     problem: &Fault,
@@ -76,7 +78,9 @@ pub fn print_fault(
     print(alloc, status, body.as_slice(), line, to)
 }
 
-/// Adds a line with the text of the answer to a lease command. If memory runs out, nothing is added.
+/// Adds a line with the text of the answer to a lease command. `long` matters only for a survey: if `long` is true, the
+/// text has each row of the lease table, and otherwise only the numbers of shards and rows. If memory runs out, nothing
+/// is added.
 pub fn print_raw(
     alloc: Global,
     answer: &Answer,
@@ -94,7 +98,7 @@ pub fn print_raw(
     to.extend(line.as_slice())
 }
 
-/// Adds a line that consists of `word`. If memory runs out, nothing is added.
+/// Adds a line that consists only of `word`. If memory runs out, nothing is added.
 pub fn print_word(word: &[u8], line: &mut Octets, to: &mut Octets) -> Result<(), Memory>
     ensures ok { OnOk result (to.new ≡ to.old ++ (word.now ++ 10 ∷ [])) }
     ensures err { OnErr result (to.new ≡ to.old) }
@@ -105,7 +109,7 @@ pub fn print_word(word: &[u8], line: &mut Octets, to: &mut Octets) -> Result<(),
     to.extend(line.as_slice())
 }
 
-/// Adds a line with the number of a worker's actor. If memory runs out, nothing is added.
+/// Adds the line `worker BY`, where BY is the number of a worker's actor. If memory runs out, nothing is added.
 pub fn print_worker(
     alloc: Global,
     by: u64,
@@ -122,7 +126,7 @@ pub fn print_worker(
     to.extend(line.as_slice())
 }
 
-/// Adds the answer to a worker's command, behind the command that is already in the line, and ends the line.
+/// Ends a line that already contains the command of a worker: adds ` = `, the answer to this command, and a line feed.
 pub fn print_answered(alloc: Global, answer: &Answer, line: &mut Octets) -> Result<(), Memory>
     requires { is_lease_answer answer.now ≡ true }
     ensures { OnOk result (line.new ≡ line.old ++ (codes " = " ++ (answer_text false answer.now ++ 10 ∷ []))) }
@@ -132,7 +136,8 @@ pub fn print_answered(alloc: Global, answer: &Answer, line: &mut Octets) -> Resu
     line.extend(b"\n".as_slice())
 }
 
-/// Adds the answer to a hand-off's command, behind the command that is already in the line. The line isn't ended.
+/// Continues a line that already contains a command of a hand-off: adds ` = `, the answer to this command, and `; `.
+/// The line isn't ended.
 pub fn print_part(alloc: Global, answer: &Answer, line: &mut Octets) -> Result<(), Memory>
     requires { is_lease_answer answer.now ≡ true }
     ensures { OnOk result (line.new ≡ line.old ++ (codes " = " ++ (answer_text false answer.now ++ codes "; "))) }
@@ -142,7 +147,8 @@ pub fn print_part(alloc: Global, answer: &Answer, line: &mut Octets) -> Result<(
     line.extend(b"; ".as_slice())
 }
 
-/// Adds the outcome of a hand-off, and ends the line.
+/// Ends the line of a hand-off: adds the word `refused` if the hand-off ended with a refusal, and otherwise the word
+/// `handed`, and then a line feed.
 pub fn print_left(left: Option<Left>, line: &mut Octets) -> Result<(), Memory>
     ensures { OnOk result (line.new ≡ line.old ++ (left_text left ++ 10 ∷ [])) }
 {

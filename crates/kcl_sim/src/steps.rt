@@ -1,4 +1,6 @@
-//! How a run executes the lines that add, step and stop workers.
+//! Executes the lines that start, step or stop workers. A step first makes the processor calls that are due in a
+//! worker, and then makes the worker's next turn. A turn is a command with its sender and its time. Each sender, such
+//! as a worker, is called an actor and has a number.
 ghost use Rattle.std.specs.Prelude.{◌≡◌, ℕ, ◌∷◌, ◌++◌, ◌<◌, ◌≤◌, ◌^◌, length, slice_get, true, false, ◌⊎◌, Some, IfSome, IsSome, OnErr, OnOk};
 ghost use Rattle.kcl_defs.specs.Workers.{usual_settings};
 ghost use Rattle.kds_defs.specs.Histories.{answer};
@@ -22,7 +24,8 @@ use kds_defs::limits::MOST_ACTOR;
 use kds_defs::{Command, Machine, Origin, Turn};
 use std::alloc::Global;
 
-/// The usual settings of a worker, with `from` as the origin at which its rows begin.
+/// Returns the usual settings of a worker, but with `from` as the initial position in the stream. Each row that the
+/// worker makes in the lease table begins at this position.
 fn settings(from: Origin) -> Settings
     ensures { result ≡ record usual_settings { from = from } }
 {
@@ -32,7 +35,8 @@ fn settings(from: Origin) -> Settings
 }
 
 impl<M: Machine, K: Keep> Sim<M, K> {
-    /// Adds a worker, and adds a line of output with the number of its actor. If memory runs out, nothing has changed.
+    /// Starts a worker, and adds the line `worker BY` to the output, where BY is the worker's actor number. If memory
+    /// runs out, the run and the output are unchanged.
     pub(crate) fn hire(
         &mut self,
         alloc: Global,
@@ -60,7 +64,7 @@ impl<M: Machine, K: Keep> Sim<M, K> {
         }
     }
 
-    /// The index of the worker of actor `by`, or `None` if that actor has no worker.
+    /// Returns the index of the worker that is the actor `by`, or `None` if no worker is this actor.
     pub(crate) fn index_of(&self, by: u32) -> Option<usize>
         ensures { result ≡ place_among by (length self.now.workers) }
     {
@@ -75,7 +79,8 @@ impl<M: Machine, K: Keep> Sim<M, K> {
         }
     }
 
-    /// Stops the worker of actor `by`. If memory runs out, nothing has changed.
+    /// Stops the worker that is the actor `by`, and adds the line `stopping` to the output. If no worker is this actor,
+    /// only the line `none` is added. If memory runs out, the run and the output are unchanged.
     pub(crate) fn stop(&mut self, at: Moment, by: u32, to: &mut Octets) -> Result<(), Memory>
         requires { self.old.over ≡ false }
         ensures goes { OnOk result ((ran : Ran) → RunsSo self.old ran → GoesOn K.wanted self.new ran (line.Stop at by) to.old to.new) }
@@ -94,8 +99,8 @@ impl<M: Machine, K: Keep> Sim<M, K> {
         }
     }
 
-    /// Runs the command `what` as a turn of the worker at `place`, and adds its line of output. If memory runs out,
-    /// nothing is added to the output, and the turn may have run.
+    /// Applies the command `what` as a turn of the worker at the index `place`, and adds a line of output with the
+    /// command and its answer. If memory runs out, no output is added, and the turn may already have been applied.
     fn turn_of(
         &mut self,
         alloc: Global,
@@ -127,8 +132,9 @@ impl<M: Machine, K: Keep> Sim<M, K> {
         to.extend(text.as_slice())
     }
 
-    /// Makes a step of the worker at `place`: first all processor calls that are due, then its turn. If memory runs
-    /// out, nothing is added to the output, and the turn may have run.
+    /// Makes a step of the worker at the index `place`: makes all processor calls that are due, and then makes the
+    /// worker's next turn. If the worker is idle, it makes no turn, and the line `idle` is added. If memory runs out,
+    /// no output is added, and the turn may already have been applied.
     fn step_at(
         &mut self,
         alloc: Global,
@@ -154,8 +160,9 @@ impl<M: Machine, K: Keep> Sim<M, K> {
         }
     }
 
-    /// Makes a step of the worker of actor `by`. If memory runs out, nothing is added to the output, the turn may have
-    /// run, and the run is over if the actor has a worker.
+    /// Makes a step of the worker that is the actor `by`. If no worker is this actor, only the line `none` is added. If
+    /// memory runs out, no output is added, and the turn may already have been applied. If memory runs out in the step
+    /// of a worker, the run of the schedule is over.
     pub(crate) fn step_worker(
         &mut self,
         alloc: Global,

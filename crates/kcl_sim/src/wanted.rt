@@ -1,4 +1,6 @@
-//! Functions that add lines of output if `K` wants answers. Otherwise they make no text and add nothing.
+//! Functions that add lines of output if the run outputs answers. The type `K` decides whether it does: `K` wants
+//! answers if the run outputs them. If `K` doesn't want answers, these functions make no text and add nothing. A survey
+//! is the lease command that lists the shards and the rows of the lease table.
 ghost use Rattle.std.specs.Prelude.{◌≡◌, ◌∷◌, ◌++◌, [], codes, decimal, true, false, IsUtf8, OnErr, OnOk};
 ghost use Rattle.kds_defs.specs.Kinds.{is_lease_answer, is_service, is_service_answer};
 ghost use Rattle.kds_reply.specs.Replies.{fault_reply, reply_of};
@@ -19,7 +21,7 @@ use kds_json_members::Fault;
 use kds_reply::reply;
 use std::alloc::Global;
 
-/// Adds a line with the answer to a request. If memory runs out, nothing is added.
+/// Adds a line with the status and the body of the reply to a request. If memory runs out, nothing is added.
 fn print_reply(
     alloc: Global,
     answer: &Answer,
@@ -34,7 +36,8 @@ fn print_reply(
     print(alloc, status, body.as_slice(), line, to)
 }
 
-/// Adds a line with the answer to a request. If memory runs out, nothing is added.
+/// Adds a line with the status and the body of the reply to a request, if `K` wants answers. If memory runs out,
+/// nothing is added.
 pub fn say_reply<K: Keep>(
     alloc: Global,
     answer: &Answer,
@@ -52,7 +55,7 @@ pub fn say_reply<K: Keep>(
     }
 }
 
-/// Adds the line of output for a request with a fault. If memory runs out, nothing is added.
+/// Adds the line of output for a faulty request, if `K` wants answers. If memory runs out, nothing is added.
 pub fn say_fault<K: Keep>(
     alloc: Global,
     problem: &Fault,
@@ -70,7 +73,9 @@ pub fn say_fault<K: Keep>(
     }
 }
 
-/// Adds a line with the text of the answer to a lease command. If memory runs out, nothing is added.
+/// Adds a line with the text of the answer to a lease command, if `K` wants answers. `long` matters only for a survey:
+/// if `long` is true, the text has each row of the lease table, and otherwise only the numbers of shards and rows. If
+/// memory runs out, nothing is added.
 pub fn say_raw<K: Keep>(
     alloc: Global,
     answer: &Answer,
@@ -89,7 +94,7 @@ pub fn say_raw<K: Keep>(
     }
 }
 
-/// Adds a line that consists of `word`. If memory runs out, nothing is added.
+/// Adds a line that consists only of `word`, if `K` wants answers. If memory runs out, nothing is added.
 pub fn say_word<K: Keep>(word: &[u8], line: &mut Octets, to: &mut Octets) -> Result<(), Memory>
     ensures ok { OnOk result (to.new ≡ to.old ++ if_wanted K.wanted (word.now ++ 10 ∷ [])) }
     ensures err { OnErr result (to.new ≡ to.old) }
@@ -101,7 +106,8 @@ pub fn say_word<K: Keep>(word: &[u8], line: &mut Octets, to: &mut Octets) -> Res
     }
 }
 
-/// Adds a line with the number of a worker's actor. If memory runs out, nothing is added.
+/// Adds the line `worker BY`, where BY is the number of a worker's actor, if `K` wants answers. If memory runs out,
+/// nothing is added.
 pub fn say_worker<K: Keep>(
     alloc: Global,
     by: u64,
@@ -118,7 +124,7 @@ pub fn say_worker<K: Keep>(
     }
 }
 
-/// Adds the text of a command. If memory runs out, nothing is added.
+/// Adds the text of a lease command, if `K` wants answers. If memory runs out, nothing is added.
 pub fn say_command<K: Keep>(alloc: Global, what: &Command, to: &mut Octets) -> Result<(), Memory>
     requires { is_service what.now ≡ false }
     ensures ok { OnOk result (to.new ≡ to.old ++ if_wanted K.wanted (command_text what.now)) }
@@ -131,7 +137,8 @@ pub fn say_command<K: Keep>(alloc: Global, what: &Command, to: &mut Octets) -> R
     }
 }
 
-/// Adds the answer to a worker's command, behind the command that is already in the line, and ends the line.
+/// Ends a line that already contains the command of a worker, if `K` wants answers: adds ` = `, the answer to this
+/// command, and a line feed.
 pub fn say_answered<K: Keep>(
     alloc: Global,
     answer: &Answer,
@@ -147,7 +154,8 @@ pub fn say_answered<K: Keep>(
     }
 }
 
-/// Adds the answer to a hand-off's command, behind the command that is already in the line. The line isn't ended.
+/// Continues a line that already contains a command of a hand-off, if `K` wants answers: adds ` = `, the answer to this
+/// command, and `; `. The line isn't ended.
 pub fn say_part<K: Keep>(alloc: Global, answer: &Answer, line: &mut Octets) -> Result<(), Memory>
     requires { is_lease_answer answer.now ≡ true }
     ensures { OnOk result (line.new ≡ line.old ++ if_wanted K.wanted (codes " = " ++ (answer_text false answer.now ++ codes "; "))) }
@@ -159,7 +167,8 @@ pub fn say_part<K: Keep>(alloc: Global, answer: &Answer, line: &mut Octets) -> R
     }
 }
 
-/// Adds the outcome of a hand-off, and ends the line.
+/// Ends the line of a hand-off, if `K` wants answers: adds the word `refused` if the hand-off ended with a refusal, and
+/// otherwise the word `handed`, and then a line feed.
 pub fn say_left<K: Keep>(left: Option<Left>, line: &mut Octets) -> Result<(), Memory>
     ensures { OnOk result (line.new ≡ line.old ++ if_wanted K.wanted (left_text left ++ 10 ∷ [])) }
 {

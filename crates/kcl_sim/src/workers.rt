@@ -1,4 +1,5 @@
-//! What a step does with its worker. If memory runs out in one of these functions, its work may be partly done.
+//! The parts of a worker's step: the processor calls, the next command, and the answer to this command. If memory runs
+//! out in one of these functions, the function may have done a part of its work.
 ghost use Rattle.std.specs.Prelude.{◌≡◌, ◌<◌, ◌^◌, false, None, Result, IfSome, OnOk, IsSome, MatchOption};
 ghost use Rattle.kcl_worker_lists.specs.Lists.{due_in};
 ghost use Rattle.kcl_sim.specs.Standing.{Employs, HasAsked};
@@ -11,7 +12,7 @@ use kcl_worker::{NoRoom, Worker};
 use kds_base::{Memory, Moment};
 use kds_defs::{Answer, Command, let_go};
 
-/// Makes all processor calls that are due.
+/// Makes all processor calls of the worker that are due, one after another.
 pub fn call_all(worker: &mut Worker<Stock, Kind>) -> Result<(), Memory>
     requires { worker.old.waiting ≡ None }
     ensures free { worker.new.waiting ≡ None }
@@ -24,7 +25,8 @@ pub fn call_all(worker: &mut Worker<Stock, Kind>) -> Result<(), Memory>
     Ok(())
 }
 
-/// The worker's next command, or `None` if the worker is idle.
+/// Returns the worker's next command at the time `now`. If the worker was stopped and has nothing left to do, it is
+/// idle, and the result is `None`. Preconditions: no processor call is due, and the worker waits for no answer.
 pub fn ask(worker: &mut Worker<Stock, Kind>, now: Moment) -> Option<Command>
     requires free { worker.old.waiting ≡ None }
     requires none_due { due_in worker.old.consumers ≡ None }
@@ -41,13 +43,13 @@ pub fn ask(worker: &mut Worker<Stock, Kind>, now: Moment) -> Option<Command>
     }
 }
 
-/// Drops the answer that the worker had no memory to take.
+/// Drops the answer that the worker couldn't process because memory ran out, and returns the error.
 fn without(left: NoRoom) -> Memory {
     let_go(left.answer);
     Memory
 }
 
-/// Takes the answer to the worker's command.
+/// Hands the worker the answer to its command. If memory runs out, the answer is dropped.
 pub fn absorb(worker: &mut Worker<Stock, Kind>, now: Moment, answer: Answer) -> Result<(), Memory>
     requires { IsSome worker.old.waiting }
     ensures free { OnOk result (worker.new.waiting ≡ None) }

@@ -1,4 +1,4 @@
-//! The journal entries of accepted commands on streams.
+//! Computes the entries that accepted commands on streams add to the journal, which is an event log.
 ghost use Rattle.std.specs.Prelude.{◌≡◌, ◌+◌, ◌<◌, ◌∷◌, [], IfOk};
 ghost use Rattle.std.specs.List.{filter};
 ghost use Rattle.kds_defs.specs.declared.entry.Entry.TheVariants as entry;
@@ -10,7 +10,7 @@ use kds_base::{Items, Memory, Seq, ShardNo, StreamNo};
 use kds_defs::{Command, Entry, NewItem, Outcome, Place, Reply};
 use std::alloc::Global;
 
-/// A list with one entry.
+/// Returns a list that contains only `entry`.
 pub fn one(alloc: Global, entry: Entry) -> Result<Items<Entry>, Memory>
     ensures { IfOk result (λ es. es ≡ entry ∷ []) }
 {
@@ -19,7 +19,8 @@ pub fn one(alloc: Global, entry: Entry) -> Result<Items<Entry>, Memory>
     Ok(entries)
 }
 
-/// The entry of a record that was put at `place`.
+/// Returns the entry of the record `item`, which was put into the stream with the number `stream`. `place` is the
+/// record's shard and sequence number.
 fn put(stream: StreamNo, item: &NewItem, place: &Place) -> Entry
     ensures { result ≡ put_entry stream item.now place.now }
 {
@@ -33,7 +34,8 @@ fn put(stream: StreamNo, item: &NewItem, place: &Place) -> Entry
     }
 }
 
-/// The entries of records that were put by one command. Records that the throughput limits rejected get no entry.
+/// Returns the entries of the records that one PutRecords command stored, in the order of the command. A record that
+/// the throughput limits rejected has no entry.
 fn puts(
     alloc: Global,
     stream: StreamNo,
@@ -51,7 +53,8 @@ fn puts(
     Ok(entries)
 }
 
-/// The splits and merges among `entries`.
+/// Returns copies of the splits and merges among `entries`, in order. These are the steps of a scaling
+/// (UpdateShardCount).
 fn steps(alloc: Global, entries: &[Entry]) -> Result<Items<Entry>, Memory>
     ensures { IfOk result (λ es. es ≡ filter is_step entries.now) }
 {
@@ -92,7 +95,8 @@ fn steps(alloc: Global, entries: &[Entry]) -> Result<Items<Entry>, Memory>
     Ok(steps)
 }
 
-/// The entry of a split of one of the stream's shards. The two children get the numbers after the stream's last shard.
+/// Returns the entry of a split of `shard` at the hash key `at`. The split gets the stream's next sequence number, and
+/// its two children get the next shard numbers. Precondition: these numbers are available.
 fn split(stream: &Known, shard: ShardNo, at: u128) -> Entry
     requires drawn { stream.now.drawn < last_number }
     requires shard { stream.now.shard + 1 < last_number }
@@ -108,7 +112,8 @@ fn split(stream: &Known, shard: ShardNo, at: u128) -> Entry
     }
 }
 
-/// The entry of a merge of two of the stream's shards. The child gets the number after the stream's last shard.
+/// Returns the entry of a merge of `shard` and `other`. The merge gets the stream's next sequence number, and its child
+/// gets the next shard number. Precondition: these numbers are available.
 fn merged(stream: &Known, shard: ShardNo, other: ShardNo) -> Entry
     requires drawn { stream.now.drawn < last_number }
     requires shard { stream.now.shard < last_number }
@@ -123,8 +128,8 @@ fn merged(stream: &Known, shard: ShardNo, other: ShardNo) -> Entry
     }
 }
 
-/// The entries of an accepted command on a stream, given its reply. Precondition: the sequence numbers and shard
-/// numbers that the command uses up are within range.
+/// Returns the entries of the accepted command `what` on `stream`. `reply` is the reply to this command. Precondition:
+/// if the command is a split or a merge, the sequence number and the shard numbers that it assigns are available.
 pub fn on_stream(
     alloc: Global,
     stream: &Known,

@@ -1,4 +1,5 @@
-//! The live streams in a scribe's state.
+//! What the scribe, the writer of the journal (event log), knows of each live stream. A stream is live from its
+//! creation until its deletion.
 ghost use Rattle.std.specs.Prelude.{◌≡◌, option_map};
 ghost use Rattle.kcl_sim_scribe.specs.Known.{changed, known_as, renumbered};
 
@@ -6,8 +7,8 @@ use kds_base::{Name, StreamNo};
 use kds_defs::Entry;
 use std::marker::Model;
 
-/// A live stream: its number, its name, the sequence number that it assigned last (0 if none), and the number of its
-/// last shard.
+/// A live stream: its number, its name, the last sequence number that it assigned (0 if it has assigned none), and the
+/// number of its last shard.
 #[derive(Drop)]
 pub struct Known {
     pub no: StreamNo,
@@ -25,7 +26,7 @@ impl Model for Known {
 }
 
 impl Known {
-    /// Updates the stream's last sequence number and last shard after an entry.
+    /// Updates the last sequence number and the last shard, if the entry is a put, a split or a merge in this stream.
     fn renumber(&mut self, what: &Entry)
         ensures { self.new ≡ renumbered what.now self.old }
     {
@@ -62,14 +63,15 @@ impl Known {
     }
 }
 
-/// The live stream called `name`, if there is one.
+/// Returns the live stream called `name`, if there is one.
 pub fn find<'a>(streams: &'a [Known], name: &Name) -> Option<&'a Known>
     ensures { option_map (λ k. k.now) result ≡ known_as name.now streams.now }
 {
     streams.iter().find(|known| known.name == *name)
 }
 
-/// Updates the streams after an entry, which isn't the creation of a stream.
+/// Updates the live streams after an entry. A stream that the entry deletes is removed. Entries that create a stream
+/// aren't handled here.
 pub fn keep(streams: &mut Vec<Known>, what: &Entry)
     ensures { streams.new.items ≡ changed what.now streams.old.items }
 {

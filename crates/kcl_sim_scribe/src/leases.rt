@@ -1,4 +1,5 @@
-//! The journal entries of accepted commands for leases.
+//! Computes the entries that accepted lease commands add to the journal, which is an event log. A tenure is one
+//! worker's hold on a lease.
 ghost use Rattle.std.specs.Prelude.{◌≡◌, ◌∷◌, [], IfOk};
 ghost use Rattle.kds_defs.specs.declared.entry.Entry.TheVariants as entry;
 ghost use Rattle.kds_defs.specs.declared.reply.Reply.TheVariants as reply;
@@ -9,7 +10,7 @@ use kds_base::{Items, Memory, Seq, TenureNo};
 use kds_defs::{Command, Entry, Reply, Stored};
 use std::alloc::Global;
 
-/// The sequence numbers of the records.
+/// Returns the sequence numbers of the records in `batch`.
 fn numbers_of(alloc: Global, batch: &[Stored]) -> Result<Items<Seq>, Memory>
     ensures { IfOk result (λ ns. ns ≡ numbers_read batch.now) }
 {
@@ -20,7 +21,8 @@ fn numbers_of(alloc: Global, batch: &[Stored]) -> Result<Items<Seq>, Memory>
     Ok(numbers)
 }
 
-/// The entry of a read, as a list.
+/// Returns a list with the entry of one read in the tenure `tenure`. The read asked for at most `limit` records and
+/// returned the records in `batch`. `end` says whether the read reached the end of its shard.
 fn read_entries(
     alloc: Global,
     tenure: TenureNo,
@@ -42,7 +44,8 @@ fn read_entries(
     )
 }
 
-/// The entries of a command whose reply is a row's counter.
+/// Returns the entries of the accepted command `what`. The reply to this command is `counter`, the new counter of a row
+/// in the lease table.
 fn counted(alloc: Global, what: &Command, counter: u64) -> Result<Items<Entry>, Memory>
     ensures { IfOk result (λ es. es ≡ lease_entries what.now (reply.Counter counter)) }
 {
@@ -70,7 +73,8 @@ fn counted(alloc: Global, what: &Command, counter: u64) -> Result<Items<Entry>, 
     }
 }
 
-/// The entries of a command that needs no value from its reply.
+/// Returns a list with the entry of the accepted command `what` if this command is OpenShard, Give or CutLease, and an
+/// empty list otherwise. The entries of these three commands need no value from the reply.
 fn plain(alloc: Global, what: &Command) -> Result<Items<Entry>, Memory>
     ensures { IfOk result (λ es. es ≡ lease_entries what.now reply.Done) }
 {
@@ -85,7 +89,7 @@ fn plain(alloc: Global, what: &Command) -> Result<Items<Entry>, Memory>
     }
 }
 
-/// The entries of an accepted command for leases, given its reply.
+/// Returns the entries of the accepted lease command `what`. `reply` is the reply to this command.
 pub fn on_leases(alloc: Global, what: &Command, reply: &Reply) -> Result<Items<Entry>, Memory>
     ensures { IfOk result (λ es. es ≡ lease_entries what.now reply.now) }
 {

@@ -1,4 +1,5 @@
-//! Computes the lines of the journal from turns and their answers.
+//! Computes the lines of a journal, which is an event log, from commands and the machine's answers to these commands. A
+//! command with its sender and its time is called a turn.
 #![tactic(auto)]
 
 mod entries;

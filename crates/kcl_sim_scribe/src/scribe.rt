@@ -1,4 +1,5 @@
-//! The scribe, which writes the journal.
+//! The scribe: the writer of the journal, which is the event log of the turns. A turn is a command with its sender and
+//! its time.
 ghost use Rattle.std.specs.Prelude.{◌≡◌, ◌+◌, ◌≤◌, ◌==◌, ◌∷◌, [], false, List, map, IfOk, OnErr, OnOk, option_map};
 ghost use Rattle.kds_defs.specs.declared.command.Turn.{Turn};
 ghost use Rattle.kds_defs.specs.declared.entry.Entry.TheVariants as entry;
@@ -18,13 +19,13 @@ use kds_defs::{Answer, Command, Entry, Reply, Turn};
 use std::alloc::Global;
 use std::marker::Model;
 
-/// Computes the lines that each turn adds to the journal. It uses only the turns and their answers. It stands for the
-/// history of the turns that it has noted.
+/// Computes the lines that each turn adds to the journal, from the turns and their answers alone. A scribe represents
+/// the history of the turns that it has noted. `StandsFor` relates a scribe to this history.
 #[derive(Drop)]
 pub struct Scribe {
     clock: Moment,
     made: u64,
-    /// The live streams in the order of their numbers.
+    /// The live streams, in the order of their numbers.
     streams: Vec<Known>,
 }
 
@@ -36,7 +37,7 @@ impl Model for Scribe {
     ghost view = { λ s. record { clock = s.clock; made = s.made; streams = s.streams.items } };
 }
 
-/// The name of the stream that a command changes. `None` if the command changes no stream, or creates it.
+/// Returns the name of the stream that a command changes. `None` if the command changes no stream, or creates one.
 fn changed_name(what: &Command) -> Option<&Name>
     ensures { option_map (λ n. n.now) result ≡ name_changed what.now }
 {
@@ -47,8 +48,9 @@ fn changed_name(what: &Command) -> Option<&Name>
     }
 }
 
-/// The entries of an accepted command that doesn't create a stream. Precondition: the sequence numbers and shard
-/// numbers that the command uses up are within range.
+/// Returns the entries of the accepted command `what`, which doesn't create a stream. `reply` is the reply to this
+/// command. Precondition: if the command is a split or a merge, the sequence number and the shard numbers that it
+/// assigns are available.
 fn entries_of(
     alloc: Global,
     streams: &[Known],
@@ -67,7 +69,7 @@ fn entries_of(
     }
 }
 
-/// The journal lines of `entries`, all with the actor `by` and the clock `clock`.
+/// Returns the journal lines of `entries`. Each line has the time `clock` and the actor `by`.
 fn lines_of(
     alloc: Global,
     clock: Moment,
@@ -83,7 +85,7 @@ fn lines_of(
     Ok(lines)
 }
 
-/// Updates the streams after the entries of these lines, one after another.
+/// Updates the live streams after the entries of `lines`, one after another.
 fn keep_all(streams: &mut Vec<Known>, lines: &[EntryLine])
     ensures { streams.new.items ≡ changed_by (map (λ l. l.what) lines.now) streams.old.items }
 {
@@ -93,7 +95,7 @@ fn keep_all(streams: &mut Vec<Known>, lines: &[EntryLine])
 }
 
 impl Scribe {
-    /// A scribe that has noted no turn.
+    /// Returns a scribe that has noted no turn.
     pub fn new(alloc: Global) -> Scribe
         ensures { StandsFor result [] }
     {
@@ -104,7 +106,8 @@ impl Scribe {
         }
     }
 
-    /// Notes that a stream was created. If memory runs out, nothing has changed.
+    /// Notes that the actor `by` created a stream. Returns a list with the journal line of this creation. If memory
+    /// runs out, the scribe is unchanged.
     fn make(
         &mut self,
         alloc: Global,
@@ -139,8 +142,8 @@ impl Scribe {
         Ok(lines)
     }
 
-    /// Notes that a command was accepted: returns its lines, and updates the state. If memory runs out, nothing has
-    /// changed.
+    /// Notes that the command `what` of the actor `by` was accepted with the reply `reply`. Returns the lines that the
+    /// command adds to the journal. If memory runs out, the scribe is unchanged.
     fn accept(
         &mut self,
         alloc: Global,
@@ -163,9 +166,10 @@ impl Scribe {
         Ok(lines)
     }
 
-    /// Notes a turn, and returns the lines that it adds to the journal, given its answer. Every turn must be noted,
-    /// even if it was refused. Precondition: the turn is lawful, and `answer` is the one that the definitions give
-    /// after the turns noted so far. If memory runs out, nothing has changed.
+    /// Notes a turn, and returns the lines that it adds to the journal. Every turn must be noted, even if it was
+    /// refused. Preconditions: the turn is lawful (its values are in the ranges of the API), and `answer` is the answer
+    /// that the definitions give to this turn after the turns noted so far. If memory runs out, the scribe is
+    /// unchanged.
     pub fn note(
         &mut self,
         alloc: Global,
