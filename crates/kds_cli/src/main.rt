@@ -1,4 +1,4 @@
-//! The function `main` of the program.
+//! The function `main` of the program `kds`. It calls `run_here` with the host runtime.
 #![tactic(auto)]
 
 use kds_cli_runs::run_here;

@@ -1,4 +1,6 @@
-//! The journal entries of a schedule's turns, as text.
+//! Collects the journal entries of a schedule's turns, as text. A schedule is a recorded workload. A turn is one
+//! command with its sender and its time. A journal is an event log: it has an entry for each change that a turn makes.
+//! A scribe computes these entries, and an audit checks whether a journal is valid.
 ghost use Rattle.std.specs.Prelude.{◌≡◌, ◌∷◌, ◌++◌, [], List, ℕ, refl, true, false, IfOk, OnOk, OnErr};
 ghost use Rattle.kds_defs.specs.declared.command.Turn.{Turn};
 ghost use Rattle.kds_defs.specs.Histories.{answer as answer_after};
@@ -16,18 +18,20 @@ use kds_base::{Memory, Octets};
 use kds_defs::{Answer, Machine, Turn};
 use std::alloc::Global;
 
-/// Keeps the text of the entries that the turns add to the journal. Its contract also records that the numbers of all
-/// turns fit their types, which the soundness of a journal needs. A machine owes some answers even when no memory is
-/// left. So running out of memory for the text stops no turn; from then on there is no text.
+/// Collects the text of the entries that a run's turns add to the journal. The contract of this type also states that
+/// the numbers in all turns fit their machine types. The proof that an audit accepts the journal needs this fact. Some
+/// commands must be answered even if no memory is left. So if memory for the text runs out, the turn is still made, but
+/// from then on there is no text.
 #[derive(Drop)]
 pub struct Journal {
     scribe: Scribe,
-    /// The text that was added since the text was last emptied. `None` after memory for the text ran out.
+    /// The text of the entries that were added since the text was last emptied. `None` once memory for the text has run
+    /// out.
     text: Option<Octets>,
 }
 
 impl Journal {
-    /// The journal before the first turn.
+    /// Returns the journal before the first turn, with an empty text.
     pub fn new(alloc: Global) -> Journal
         ensures text { IsNoted result.scribe result.text [] [] }
     {
@@ -38,7 +42,7 @@ impl Journal {
     }
 }
 
-/// Appends `lines`, each followed by a line feed, to `text`.
+/// Appends the entries `lines` to `text`, each followed by a line feed, and returns the text.
 fn print_entries(alloc: Global, lines: &[EntryLine], text: Octets) -> Result<Octets, Memory>
     ensures { IfOk result (λ to. to ≡ text ++ entries_text lines.now) }
 {
@@ -50,9 +54,9 @@ fn print_entries(alloc: Global, lines: &[EntryLine], text: Octets) -> Result<Oct
     Ok(text)
 }
 
-/// Appends to `text` the entries of the further turn `turn`, whose answer is `answer`. The result is `None` if memory
-/// for the entries runs out. Preconditions: the turn is lawful, and `answer` is the one that the definitions give after
-/// the turns that the scribe has noted.
+/// Appends the journal entries of `turn`, whose answer is `answer`, to `text`. The result is `None` if memory for the
+/// entries runs out. Preconditions: the arguments of the turn are within their ranges (`IsLawful`), and `answer` is the
+/// answer that the specification gives to this turn after all turns that the scribe noted before.
 fn note_turn(
     alloc: Global,
     scribe: &mut Scribe,
@@ -75,7 +79,8 @@ fn note_turn(
     }
 }
 
-/// Like `note_turn`, but `text` is `None` if memory ran out in an earlier turn, and then the result is `None` too.
+/// Does what `note_turn` does if there is a text. If `text` is `None`, because memory for the text ran out in an
+/// earlier turn, the result is `None` too.
 fn note(
     alloc: Global,
     scribe: &mut Scribe,

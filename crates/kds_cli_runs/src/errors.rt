@@ -1,4 +1,4 @@
-//! Writes messages to the error output. This allocates no memory.
+//! Writes the program's messages to the error output. No memory is allocated for this.
 ghost use Rattle.std.specs.Prelude.{◌≡◌, ◌⊎◌, ◌≤◌, OnOk};
 ghost use Rattle.std.specs.Io.KnownBytes.{Appends};
 ghost use Rattle.kds_ends.specs.Causes.{Rose, HasCause};
@@ -40,7 +40,8 @@ fn write_text<E: Sink>(err: &mut E, status: Status) -> Result<(), Failed>
     }
 }
 
-/// Writes to the error output how the run ended. If that output fails, the failure is ignored.
+/// Writes the message for the status of a run to the error output. The statuses Done and Unsound have no message. If
+/// writing the message fails, the failure is ignored.
 pub fn tell<E: Sink>(err: &mut E, status: Status)
     ensures { Appends (E.held err.old) (E.held err.new) (error_text status) ⊎ Rose (E.faults err.old) (E.faults err.new) }
 {

@@ -8,8 +8,8 @@ use std::process::ExitCode;
 use std::sync::Wait;
 use std::thread::Threads;
 
-/// The words after the program's name. `None` if memory runs out. If the words can't be read for another reason,
-/// because they aren't UTF-8, they are treated as words that name no task.
+/// Returns the command-line arguments after the program's name. The result is `None` if memory runs out. If an argument
+/// isn't UTF-8, the result is an empty list, which asks for no task.
 fn given_words(rt: &HostRuntime) -> Option<Vec<String>> {
     let mut words = Vec::new(rt.alloc());
     match env::args(rt) {
@@ -24,10 +24,11 @@ fn given_words(rt: &HostRuntime) -> Option<Vec<String>> {
     }
 }
 
-/// The body of `main`: calls `run` with the words after the program's name, and with the system's input, output, error
-/// output, clock and sockets. It is in this crate since a check of the program's crate reloads everything that the
-/// program reaches. Only `main` may state which value starts threads and waits for them, so it passes the system twice,
-/// as `rt` and as `threads`.
+/// Does the work of `main`: calls `run` with the command-line arguments, and with the system's standard input, standard
+/// output, error output, clock and sockets. The function is in this library and not in the program's own crate, because
+/// each check of that crate reloads everything that the program uses, and this takes long. Outside `main` and tests, a
+/// value can be used as `Threads` and `Wait` only if its type is a type parameter. So `main` passes the host runtime
+/// twice: as `rt`, and as `threads` for these two traits.
 pub fn run_here<R: Threads + Wait + Sync>(rt: HostRuntime, threads: &R) -> ExitCode {
     let mut err = StdSink::new(rt.stderr());
     let Some(words) = given_words(&rt) else {

@@ -1,4 +1,6 @@
-//! Runs a schedule to its end, and writes its journal.
+//! Runs a schedule, which is a recorded workload, and writes the schedule's journal. A journal is an event log: it has
+//! an entry for each change that a turn makes. A turn is one command with its sender and its time. An audit checks
+//! whether a journal is valid.
 ghost use Rattle.std.specs.Prelude.{◌≡◌, ◌≤◌, ◌++◌, [], List, ℕ, OnOk, IfSome};
 ghost use Rattle.std.specs.declared.option.Option.{Option};
 ghost use Rattle.std.specs.Io.KnownBytes.{Appends};
@@ -23,8 +25,8 @@ use kds_ends::{Sink, Source, Status, write_all};
 use kds_lines::read_lines;
 use std::alloc::Global;
 
-/// Appends the last line of a journal, which states `clock`. If memory runs out, a prefix of the line may have been
-/// appended.
+/// Appends the last line of a journal to `to`: the word `end`, a space, `clock` in milliseconds, and a line feed. If
+/// memory runs out, a prefix of the line may have been appended.
 fn print_last(alloc: Global, clock: Moment, to: &mut Octets) -> Result<(), Memory>
     ensures { OnOk result (to.new ≡ to.old ++ last_line clock) }
 {
@@ -32,7 +34,9 @@ fn print_last(alloc: Global, clock: Moment, to: &mut Octets) -> Result<(), Memor
     to.extend(b"\n".as_slice())
 }
 
-/// Writes the last line of a journal, which states `clock`.
+/// Writes the last line of a journal, with the time `clock`, to `out`. Returns the status Done if the line was written,
+/// and Write if the sink failed before the whole line was written. If memory ran out, nothing was written and the
+/// status is Memory.
 fn write_last<K: Sink>(alloc: Global, clock: Moment, out: &mut K) -> Status
     ensures told { EndTells result clock (K.held out.old) (K.held out.new) }
     ensures write { result ≡ Status.Write → Rose (K.faults out.old) (K.faults out.new) }
@@ -48,7 +52,8 @@ fn write_last<K: Sink>(alloc: Global, clock: Moment, out: &mut K) -> Status
     }
 }
 
-/// Runs the lines of a schedule, and writes the journal entries of their turns. Precondition: no line has run before.
+/// Runs the lines of the schedule in `input`, and writes the journal entries of the turns that these lines make.
+/// Precondition: `sim` has run no line yet.
 fn write_entries<M: Machine, S: Source, K: Sink>(
     alloc: Global,
     sim: &mut Sim<M, Journal>,
@@ -77,8 +82,9 @@ fn is_done(status: Status) -> bool
     matches!(status, Status::Done)
 }
 
-/// Runs the lines of a schedule, and writes the rest of the journal behind its first line: the entries and, exactly if
-/// the schedule was read to its end, the last line. Precondition: no line has run before.
+/// Runs the lines of the schedule in `input`, and writes the schedule's journal without the first line: the entries,
+/// and then the last line. The last line is written to its end if and only if the status is Done. Precondition: `sim`
+/// has run no line yet.
 fn write_rest<M: Machine, S: Source, K: Sink>(
     alloc: Global,
     sim: &mut Sim<M, Journal>,
@@ -103,14 +109,15 @@ fn write_rest<M: Machine, S: Source, K: Sink>(
     status
 }
 
-/// What recording a schedule leaves: the status, and the machine and the workers at the end.
+/// The result of `record_schedule`: the status, and the machine and the workers as the run left them.
 #[derive(Drop)]
 pub struct Recorded<M: Machine> {
     pub status: Status,
     pub sim: Sim<M, Journal>,
 }
 
-/// Runs a schedule on a machine, and writes its journal. Precondition: the machine stands for the empty history.
+/// Runs the schedule in `input` on `machine`, and writes the schedule's journal to `out`. Precondition: `machine` has
+/// made no turn yet.
 pub fn record_schedule<M: Machine + Drop, S: Source, K: Sink>(
     alloc: Global,
     machine: M,
@@ -121,12 +128,15 @@ pub fn record_schedule<M: Machine + Drop, S: Source, K: Sink>(
     ensures told { IfSome (S.left input.old) (λ bytes.
         JournalTells result.status bytes (S.left input.new) (K.held out.old) (K.held out.new)) }
 
-    // The turns that ran are those of the answered lines of the schedule. These are all its lines, unless an input or
-    // output failed or memory ran out. With the status `Memory`, the first turns of the next line may have run too.
+    // The turns that were made are those of the lines that were run. If the input and the output didn't fail and memory
+    // didn't run out, the lines that were run are those before the first line that is invalid or too long. If there is
+    // no such line, all lines were run. If the status is Memory, the first turns of the next line may have been made
+    // too.
     ensures ran { IfSome (S.left input.old) (λ bytes.
         RanBy (recorded result.status) result.status bytes (K.held out.old) (K.held out.new) result.sim) }
 
-    // A journal that is written to its end is legal.
+    // If the journal was written to its end, and both its lines and the whole journal are within an audit's limits on
+    // length, an audit finds the journal sound (valid).
     ensures sound { result.status ≡ Status.Done → IfSome (S.left input.old) IsAuditedSound }
     ensures read { result.status ≡ Status.Read → Rose (S.faults input.old) (S.faults input.new) }
     ensures write { result.status ≡ Status.Write → Rose (K.faults out.old) (K.faults out.new) }

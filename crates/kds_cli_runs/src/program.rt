@@ -1,4 +1,7 @@
-//! The program as a whole.
+//! The program as a whole, from the command-line arguments to the exit status. A schedule is a recorded workload, a
+//! journal is the event log of a schedule's run, and an audit checks whether a journal is valid. A turn is a command
+//! with its sender and its time. A tenure is one worker's hold on a lease. A read is delivered once its batch counts as
+//! processed.
 ghost use Rattle.std.specs.Prelude.{◌≡◌, ◌⊎◌, Bool, true, false, None, Some, IfSome};
 ghost use Rattle.kds_defs.specs.Histories.{clock as clock_of, journal as journal_of};
 ghost use Rattle.kds_defs.specs.Safe.{IsSafe};
@@ -23,7 +26,8 @@ use std::alloc::Global;
 use std::sync::Wait;
 use std::thread::Threads;
 
-/// Performs the task that the words name, and returns its status.
+/// Performs the task that the command-line arguments `words` ask for, and returns the task's status. If they ask for no
+/// task, the input and the output are untouched, and the status is Usage (or Memory, if memory ran out).
 fn perform_words<R, S, K, C, D>(
     rt: &R,
     alloc: Global,
@@ -63,20 +67,26 @@ where
     }
 }
 
-/// The program as a whole, with its words, input, output, error output, clock and door. Returns the exit status.
+/// Runs the program, and returns its exit status. `words` are the command-line arguments after the program's name,
+/// `err` is the error output, and `door` is a listening socket.
 ///
-/// - `usage`, `refused`, `untouched`: the exit status is 2 only if the words name no task. If they name no task, it is
-///   2 or 6, and the input and the output are untouched.
-/// - `door_left`, `input_left`: the door and the input are untouched unless the task uses them.
-/// - `ended`: each task ends as its contract states, and the message for the exit status is written to the error
-///   output.
-/// - `complete`: if no input or output fails, the bytes of the input decide how each task ends, unless memory runs out.
-/// - `safe`, `served`: if a schedule is replayed, with answers or with a journal, the state after its turns is safe, at
-///   their clock, and the processors of its workers are called for the delivered reads of their tenures.
-/// - `handed`: records that were delivered in a tenure which was then handed off aren't read in a tenure of the same
-///   key that begins later.
-/// - `sound`: an audit of a journal that was written to its end finds it sound.
-/// - `read`, `write`, `door`: the exit status is 4, 5 or 8 only if the input, the output or the door failed.
+/// - `usage`, `refused`, `untouched`: the exit status is 2 only if `words` ask for no task. If they ask for no task,
+///   the exit status is 2 (or 6, if memory ran out), and the input and the output are untouched.
+/// - `door_left`, `input_left`: if there is no task, or if the task doesn't use the door, the door is untouched. If
+///   there is no task, or if the task doesn't read the input, the input is untouched.
+/// - `ended`: if `words` ask for a task, the task ended as its contract states. The message for the status was written
+///   to the error output, unless the error output failed.
+/// - `complete`: if the input, the output and the door don't fail and memory doesn't run out, the bytes of the input
+///   determine how the task ends.
+/// - `safe`, `served`: suppose that the task is to replay a schedule, with answers or with a journal. After the turns
+///   that the schedule's lines make, the state is safe at the greatest time of these turns (`laws::safety` says what
+///   safe means). The processors of the schedule's workers are called for the delivered reads of the workers' tenures.
+/// - `handed`: a hand-off passes a lease on to another worker. If a hand-off ended a tenure by freeing the lease, no
+///   later tenure of that lease reads records that were delivered in the ended tenure.
+/// - `sound`: if the journal was written to its end, and both its lines and the whole journal are within an audit's
+///   limits on length, an audit finds the journal sound (valid).
+/// - `read`, `write`, `door`: the exit status is 4 only if the input failed, 5 only if the output failed, and 8 only if
+///   the door failed.
 pub fn run<R, S, K, E, C, D>(
     rt: &R,
     alloc: Global,

@@ -1,4 +1,7 @@
-//! Runs a schedule, a connection or a door.
+//! Runs a schedule, answers the requests of one connection, or serves a door. A schedule is a recorded workload, and
+//! its journal is the event log of its run. An audit checks whether a journal is valid. A door is a listening socket.
+//! Commands become turns of a machine: a turn is one command with its sender and its time. A read is delivered once its
+//! batch counts as processed.
 ghost use Rattle.std.specs.Prelude.{◌≡◌, ◌≤◌, [], ℕ, true, IfSome};
 ghost use Rattle.kds_defs.specs.Histories.{clock as clock_of, journal as journal_of};
 ghost use Rattle.kds_defs.specs.Safe.{IsSafe};
@@ -26,40 +29,41 @@ use std::alloc::Global;
 use std::sync::{Mutex, Wait};
 use std::thread::Threads;
 
-/// Runs a schedule from its bytes, and writes the answers to its lines. If `journal` is true, it writes the journal
-/// instead: the first line, an entry for each change that a turn makes, and the last line exactly if the status is
-/// Done. Done: the schedule was read to its end. BadLine: exactly at the first line that isn't a line of a schedule.
-/// TooLong: exactly if a line or the input is longer than the limits. One of these three is returned unless the input
-/// or the output failed, or memory ran out, before. Read, Write: the source or the sink failed. Memory: memory ran out.
+/// Runs the schedule in `input`, and writes the answer to each line. If `journal` is true, the schedule's journal is
+/// written instead: the first line, an entry for each change that a turn makes, and the last line. The last line is
+/// written to its end if and only if the status is Done. The statuses are as follows. Done: the schedule was read to
+/// its end. BadLine: the line with this number is the first that isn't a schedule line. TooLong: a line or the input is
+/// longer than the limits. Read: the source failed before one of these three ends was reached. Write: the sink failed
+/// before that. Memory: memory ran out before that.
 pub fn run_replay<S: Source, K: Sink>(
     alloc: Global,
     input: &mut S,
     out: &mut K,
     journal: bool,
 ) -> Status
-    // If the source's contract exposes its bytes, these bytes determine the output and the status.
+    // If the source's contract exposes its bytes, the output and the status are as `ReplayTells` states for the bytes.
     ensures told { IfSome (S.left input.old) (λ bytes.
         ReplayTells journal result bytes (S.left input.new) (K.held out.old) (K.held out.new)) }
 
-    // The turns that were made are those of the answered lines of the schedule; if the status is Memory, the first
-    // turns of the next line may have been made too. The state after these turns is safe, at their clock. The workers'
-    // processors were called for the delivered reads, and the records that these workers handed off aren't read again.
+    // The turns that were made are those of the lines that were run. If the status is Memory, the first turns of the
+    // next line may have been made too. At the greatest time of all these turns, the state is safe (`laws::safety`).
+    // After the lines that were run, the processors have been called for the delivered reads, and `handed` holds.
     ensures ran { IfSome (S.left input.old) (λ bytes.
         RanSafely (shown journal result) result bytes (K.held out.old) (K.held out.new)) }
 
-    // The same holds for all turns and workers of the whole schedule.
+    // The state after the whole schedule is safe too, and the processors have then been called for the delivered reads.
     ensures safe { IfSome (S.left input.old) (λ bytes. IsSafe (journal_of (history bytes)) (clock_of (history bytes))) }
     ensures served { IfSome (S.left input.old) (λ bytes. AreAllServed (ran bytes)) }
 
-    // Records that were delivered in a tenure which was then handed off aren't read in a tenure of the same key that
-    // begins later.
+    // A tenure is one worker's hold on a lease. A hand-off passes a lease on to another worker. If a hand-off ended a
+    // tenure by freeing the lease, no later tenure of that lease reads records that were delivered in the ended tenure.
     ensures handed { IfSome (S.left input.old) AreHandedOn }
 
-    // An audit of a journal that was written to its end finds it sound.
+    // If the journal was written to its end, within the length limits of an audit, an audit finds it sound (valid).
     ensures sound { journal ≡ true → result ≡ Status.Done → IfSome (S.left input.old) IsAuditedSound }
 
-    // If neither the source nor the sink fails, the bytes decide the status, unless memory runs out. If all lines are
-    // lines of a schedule, the status is Done, and so the whole output is written.
+    // If the source and the sink don't fail and memory doesn't run out, the bytes of the input determine the status. If
+    // all lines of the schedule are valid and within the limits, the status is Done, so the whole output is written.
     ensures complete { (Rose (S.faults input.old) (S.faults input.new) → ⊥) → (Rose (K.faults out.old) (K.faults out.new) → ⊥)
         → IfSome (S.left input.old) (λ bytes. ReplaysAs bytes result) }
     ensures read { result ≡ Status.Read → Rose (S.faults input.old) (S.faults input.new) }
@@ -76,22 +80,22 @@ pub fn run_replay<S: Source, K: Sink>(
     run_schedule(alloc, World::new(alloc), input, out).status
 }
 
-/// Serves one connection from its bytes, on a machine without earlier turns, and writes the responses. Done: the bytes
-/// ended between two requests, or a request closed the connection. Cut: exactly if they ended inside a request.
-/// Refused: exactly if a request's head was refused. Read, Write: the source or the sink failed. Memory: memory ran
-/// out.
+/// Reads the requests of one connection from `input`, answers them with a new machine, and writes the responses to
+/// `out`. The status is Done if the bytes ended between two requests or a request closed the connection, Cut if the
+/// bytes ended inside a request, and Refused if the head of a request was refused. It is Read if the source failed,
+/// Write if the sink failed, and Memory if memory ran out.
 pub fn run_answer<S: Source, K: Sink, C: Clock>(
     alloc: Global,
     input: &mut S,
     out: &mut K,
     clock: &mut C,
 ) -> Status
-    // A turn is made for each command, at a moment from the clock. If the source's contract exposes its bytes, these
-    // bytes determine the commands, the responses and the status.
+    // Each command becomes a turn, at the time that the clock returns for the command. If the source's contract exposes
+    // the bytes of the input, the commands, the responses and the status are as `Served` states for these bytes.
     ensures served { Served [] (around (S.left input.old) (S.left input.new)) (around (C.moments clock.old) (C.moments clock.new))
         (around (K.held out.old) (K.held out.new)) result }
 
-    // If neither the source nor the sink fails, the bytes decide how the connection ends, unless memory runs out.
+    // If the source and the sink don't fail and memory doesn't run out, the bytes of the input determine the status.
     ensures complete { (Rose (S.faults input.old) (S.faults input.new) → ⊥) → (Rose (K.faults out.old) (K.faults out.new) → ⊥)
         → IfSome (S.left input.old) (λ bytes. EndsAs bytes result) }
     ensures read { result ≡ Status.Read → Rose (S.faults input.old) (S.faults input.new) }
@@ -102,8 +106,9 @@ pub fn run_answer<S: Source, K: Sink, C: Clock>(
     serve_lone(alloc, &mut machine, input, out, clock)
 }
 
-/// Serves the connections of a door on a machine without earlier turns, with `passes` passes. Each connection is served
-/// in a thread of its own.
+/// Serves the connections that `door` accepts, on a new machine with `passes` passes. A pass is the right of one
+/// connection to make turns, so at most `passes` connections are served at the same time. Each connection is served in
+/// a thread of its own, if a thread can be started.
 fn serve_door<R, C, D>(rt: &R, alloc: Global, passes: u32, clock: C, door: &mut D) -> Status
 where
     R: Threads + Wait + Sync,
@@ -123,8 +128,9 @@ where
     }
 }
 
-/// Listens at a port, writes `listening`, and serves the connections that arrive. Door: the door failed. Write: the
-/// sink failed. Memory: memory ran out.
+/// Makes the door, which is a listening socket, listen at `port`. Then writes the line `listening`, and serves the
+/// connections that arrive. The status is Door if the door failed, Write if the sink failed, and Memory if memory ran
+/// out.
 pub fn run_serve<R, K, C, D>(
     rt: &R,
     alloc: Global,
@@ -142,7 +148,7 @@ where
     D::Input: Send,
     D::Output: Send,
     requires { 1 ≤ passes }
-    // It writes `listening` only after it has begun to listen at this port.
+    // The line `listening` is written only after the door has begun to listen at this port.
     ensures told { ServeTells result (K.held out.old) (K.held out.new) (D.listens door.new port) }
     ensures write { result ≡ Status.Write → Rose (K.faults out.old) (K.faults out.new) }
     ensures door { result ≡ Status.Door → Rose (D.faults door.old) (D.faults door.new) }

@@ -1,4 +1,5 @@
-//! Runs a schedule to its end on any machine.
+//! Runs a schedule, which is a recorded workload, on any machine, and writes the answers to the schedule's lines. A
+//! turn is one command of a schedule, with its sender and its time.
 ghost use Rattle.std.specs.Prelude.{◌≡◌, [], IfSome};
 ghost use Rattle.kds_ends.specs.Causes.{Rose};
 ghost use Rattle.kds_cli_runs.specs.Answered.{status_of as status_at, RanSo};
@@ -10,14 +11,16 @@ use kds_ends::{Sink, Source, Status};
 use kds_lines::{Outcome, read_lines};
 use std::alloc::Global;
 
-/// The status of a schedule's run, with the machine and the workers at the run's end. The turns aren't kept.
+/// The result of `run_schedule`: the status, and the machine and the workers as the run left them. No list of the run's
+/// turns is kept.
 #[derive(Drop)]
 pub struct Replay<M: Machine> {
     pub status: Status,
     pub sim: Sim<M, NoTurns>,
 }
 
-/// The status of a run, given how reading its input ended. If the last line has no line feed, it is a bad line.
+/// Returns the status of a run whose input was read with the outcome `outcome`. A last line without a line feed counts
+/// as a bad line.
 pub fn status_of(outcome: Outcome) -> Status
     ensures { result ≡ status_at outcome }
 {
@@ -31,7 +34,8 @@ pub fn status_of(outcome: Outcome) -> Status
     }
 }
 
-/// Runs a schedule on a machine, and writes the answers. Precondition: the machine stands for the empty history.
+/// Runs the schedule in `input` on `machine`, and writes the answers to `out`. Precondition: `machine` has made no turn
+/// yet.
 pub fn run_schedule<M: Machine + Drop, S: Source, K: Sink>(
     alloc: Global,
     machine: M,
@@ -42,9 +46,10 @@ pub fn run_schedule<M: Machine + Drop, S: Source, K: Sink>(
     ensures told { IfSome (S.left input.old) (λ bytes.
         Tells result.status bytes (S.left input.new) (K.held out.old) (K.held out.new)) }
 
-    // The turns that were made are those of the answered lines of the schedule. All turns of these lines were made,
-    // unless an input or output failed or memory ran out. If the status is Memory, the first turns of the next line may
-    // have been made too. The machine stands for all turns that were made.
+    // The turns that were made are those of the lines that were run. If the input and the output didn't fail and memory
+    // didn't run out, the lines that were run are those before the first line that is invalid or too long. If there is
+    // no such line, all lines were run. If the status is Memory, the first turns of the next line may have been made
+    // too. The machine represents (`stands_for`) the history of all turns that were made.
     ensures ran { IfSome (S.left input.old) (λ bytes. RanSo result.status bytes (K.held out.old) (K.held out.new) result.sim) }
     ensures read { result.status ≡ Status.Read → Rose (S.faults input.old) (S.faults input.new) }
     ensures write { result.status ≡ Status.Write → Rose (K.faults out.old) (K.faults out.new) }

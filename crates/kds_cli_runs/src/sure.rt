@@ -1,4 +1,4 @@
-//! Runs a schedule with an input and an output that never fail.
+//! Runs a schedule, which is a recorded workload, with an input and an output that never fail.
 ghost use Rattle.std.specs.Prelude.{◌≡◌};
 ghost use Rattle.kds_cli_runs.specs.Completed.{ReplaysAs};
 
@@ -7,8 +7,8 @@ use kds_base::Octets;
 use kds_ends::{Status, SureSink, SureSource};
 use std::alloc::Global;
 
-/// Runs a schedule from bytes in memory, and drops its output. Unless memory runs out, the bytes decide whether the
-/// status is Done, BadLine or TooLong.
+/// Runs the schedule `bytes`, with the answers or the journal as its output, and drops the output. If memory doesn't
+/// run out, the bytes determine whether the status is Done, BadLine or TooLong.
 pub fn replay_surely(alloc: Global, bytes: Octets, journal: bool) -> Status
     ensures { ReplaysAs bytes result }
 {

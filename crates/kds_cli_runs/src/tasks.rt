@@ -1,4 +1,4 @@
-//! Performs each task.
+//! Performs the tasks of the program.
 ghost use Rattle.std.specs.Prelude.{◌≡◌, false};
 ghost use Rattle.kds_ends.specs.Causes.{Rose};
 ghost use Rattle.kds_cli_words.specs.Words.{IsWithin};
@@ -15,9 +15,10 @@ use std::alloc::Global;
 use std::sync::Wait;
 use std::thread::Threads;
 
-/// Performs a task, and returns its status. Precondition: the task's numbers are within their ranges. Read, Write,
-/// Door: the source, the sink or the door failed. A task leaves the inputs and outputs that it doesn't use untouched
-/// (`door_left`, `input_left`).
+/// Performs `task`, and returns the status. Precondition: the numbers of the task are within their ranges. The status
+/// is Read if the source failed, Write if the sink failed, and Door if the door (a listening socket) failed. A task
+/// that doesn't use the door leaves the door untouched (`door_left`). A task that doesn't use the input leaves the
+/// input untouched (`input_left`).
 pub fn perform<R, S, K, C, D>(
     rt: &R,
     alloc: Global,

@@ -1,11 +1,11 @@
-//! The command line's subcommands and their arguments, as `clap` gets them.
+//! Describes the program's subcommands and their arguments for `clap`.
 ghost use Rattle.std.specs.Prelude.{IfOk};
 ghost use Rattle.kds_cli_words.specs.Apps.{HasApp, answer_kds, audit_kds, bare_app, drill_app, kds_app, replay_app, replay_kds, serve_app, serve_kds};
 
 use clap::{Arg, ArgAction, Command};
 use std::alloc::{AllocError, Global};
 
-/// The subcommand `replay`, with its flag.
+/// Returns the subcommand `replay`, with its flag `--journal`.
 fn replay_command<'a>(alloc: Global) -> Result<Command<'a>, AllocError>
     ensures { IfOk result (λ c. HasApp c replay_app) }
 {
@@ -15,7 +15,7 @@ fn replay_command<'a>(alloc: Global) -> Result<Command<'a>, AllocError>
     Command::new(alloc, "replay").arg(journal)
 }
 
-/// The subcommand `serve`, with two arguments.
+/// Returns the subcommand `serve`, with its required arguments `port` and `members`.
 fn serve_command<'a>(alloc: Global) -> Result<Command<'a>, AllocError>
     ensures { IfOk result (λ c. HasApp c serve_app) }
 {
@@ -24,7 +24,7 @@ fn serve_command<'a>(alloc: Global) -> Result<Command<'a>, AllocError>
     Command::new(alloc, "serve").arg(port)?.arg(members)
 }
 
-/// The subcommand `drill`, with three arguments.
+/// Returns the subcommand `drill`, with its required arguments `number`, `workers` and `records`.
 fn drill_command<'a>(alloc: Global) -> Result<Command<'a>, AllocError>
     ensures { IfOk result (λ c. HasApp c drill_app) }
 {
@@ -37,7 +37,8 @@ fn drill_command<'a>(alloc: Global) -> Result<Command<'a>, AllocError>
         .arg(records)
 }
 
-/// The program without subcommands. `clap` gets the words without the program's name, and adds no help.
+/// Returns the program's command without subcommands. `clap` gets the words without the program's name, and adds no
+/// help flag and no help subcommand.
 fn bare_command<'a>(alloc: Global) -> Command<'a>
     ensures { HasApp result bare_app }
 {
@@ -48,7 +49,7 @@ fn bare_command<'a>(alloc: Global) -> Command<'a>
     bare
 }
 
-/// The program with the subcommand `replay`.
+/// Returns the program's command with the subcommand `replay`.
 fn with_replay<'a>(alloc: Global) -> Result<Command<'a>, AllocError>
     ensures { IfOk result (λ c. HasApp c replay_kds) }
 {
@@ -56,7 +57,7 @@ fn with_replay<'a>(alloc: Global) -> Result<Command<'a>, AllocError>
     bare_command(alloc).subcommand(replay)
 }
 
-/// The program with the subcommands `replay` and `answer`.
+/// Returns the program's command with the subcommands `replay` and `answer`.
 fn with_answer<'a>(alloc: Global) -> Result<Command<'a>, AllocError>
     ensures { IfOk result (λ c. HasApp c answer_kds) }
 {
@@ -64,7 +65,7 @@ fn with_answer<'a>(alloc: Global) -> Result<Command<'a>, AllocError>
     one.subcommand(Command::new(alloc, "answer"))
 }
 
-/// The program with the subcommands `replay`, `answer` and `audit`.
+/// Returns the program's command with the subcommands `replay`, `answer` and `audit`.
 fn with_audit<'a>(alloc: Global) -> Result<Command<'a>, AllocError>
     ensures { IfOk result (λ c. HasApp c audit_kds) }
 {
@@ -72,7 +73,7 @@ fn with_audit<'a>(alloc: Global) -> Result<Command<'a>, AllocError>
     two.subcommand(Command::new(alloc, "audit"))
 }
 
-/// The program with all subcommands except `drill`.
+/// Returns the program's command with all subcommands except `drill`.
 fn with_serve<'a>(alloc: Global) -> Result<Command<'a>, AllocError>
     ensures { IfOk result (λ c. HasApp c serve_kds) }
 {
@@ -81,8 +82,8 @@ fn with_serve<'a>(alloc: Global) -> Result<Command<'a>, AllocError>
     three.subcommand(serve)
 }
 
-/// The program with all subcommands. Each function above adds one subcommand, so that few values are alive whenever
-/// memory may run out.
+/// Returns the program's command with all subcommands. Each function above whose name begins with `with_` adds one
+/// subcommand, so that few values are live at each point at which memory may run out.
 pub fn kds_command<'a>(alloc: Global) -> Result<Command<'a>, AllocError>
     ensures { IfOk result (λ c. HasApp c kds_app) }
 {

@@ -1,4 +1,5 @@
-//! The tasks of the command line, and reading the task from the words with `clap`.
+//! The tasks of the command line. `clap` parses the words of the command line, and the task is read from the result of
+//! this parse.
 #![tactic(auto)]
 
 mod command;

@@ -22,7 +22,7 @@ fn has_leading_hyphen(word: &str) -> bool
     }
 }
 
-/// Whether a word doesn't begin with a hyphen, or is the only flag.
+/// Whether a word is `--journal` (the only flag) or doesn't begin with a hyphen.
 fn is_word_text(word: &str) -> bool
     ensures { result ≡ is_word word.now }
 {
@@ -36,7 +36,8 @@ fn are_words(words: &Vec<String>) -> bool
     words.iter().all(|word| is_word_text(word.as_str()))
 }
 
-/// The task of the subcommand `name` with the arguments in `found`.
+/// Returns the task of the subcommand `name` with the arguments in `found`. Returns `None` if an argument is missing or
+/// isn't a number in its range, or if no subcommand has this name.
 fn told_by(name: &str, found: &ArgMatches) -> Option<Task>
     ensures task { result ≡ told_with name.now (first_value (found_of found.now)) }
     ensures within { IfSome result IsWithin }
@@ -62,7 +63,7 @@ fn told_by(name: &str, found: &ArgMatches) -> Option<Task>
     }
 }
 
-/// The task in the result of a parse by `clap`.
+/// Reads the task from the result of a parse by `clap`. Returns `None` if this result has no valid task.
 fn read_task(matches: &ArgMatches) -> Option<Task>
     ensures task { result ≡ told (subcommand_rows_of matches.now) }
     ensures within { IfSome result IsWithin }
@@ -71,7 +72,8 @@ fn read_task(matches: &ArgMatches) -> Option<Task>
     told_by(name, found)
 }
 
-/// The task of words that may be passed to `clap`.
+/// Parses the words with `clap`, and returns their task. Returns `None` if the words aren't a valid command line.
+/// Preconditions: there are at most four words, and `is_word_text` holds for each.
 fn parse_task(alloc: Global, words: &Vec<String>) -> Result<Option<Task>, Memory>
     requires few { length words.now.items ≤ 4 }
     requires words { list_all (λ w. is_word (string_bytes w)) words.now.items ≡ true }
@@ -88,8 +90,8 @@ fn parse_task(alloc: Global, words: &Vec<String>) -> Result<Option<Task>, Memory
     }
 }
 
-/// The task of the words after the program's name. `None` if the words aren't a valid command line. An error always
-/// means that memory ran out.
+/// Returns the task of the words after the program's name, or `None` if the words aren't a valid command line. The
+/// error means out of memory.
 pub fn find_task(alloc: Global, words: &Vec<String>) -> Result<Option<Task>, Memory>
     ensures task { IfOk result (λ task. task ≡ task_of (texts_of words.now.items)) }
     ensures within { IfOk result (λ task. IfSome task IsWithin) }

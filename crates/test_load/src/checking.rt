@@ -1,20 +1,21 @@
-//! Checks that a machine has exactly the records that the passes put.
+//! Checks that a machine has the records that the passes put. A turn is one command to the machine, and a pass is the
+//! right of one thread to make turns. Each pass puts one record in each round.
 
 use crate::commands::{SHARDS, put, read};
 use kds_base::{Items, Memory, Moment, read_u64};
 use kds_defs::{Answer, Command, Machine, Reply, Stored, Turn};
 use std::alloc::Global;
 
-/// The most records that one read returns.
+/// The maximum number of records that one read returns.
 const MOST: u32 = 10_000;
 
-/// For each pass, the round in which it put the next record to be read.
+/// Which record of each pass is expected next: `rounds[n]` is the round in which the pass `n` put this record.
 #[derive(Drop)]
 struct Next {
     rounds: Vec<u32>,
 }
 
-/// Whether a record is the record that the pass `by` put in the round `round`.
+/// Whether `record` has the partition key and the payload of the record that the pass `by` put in the round `round`.
 fn is_put(alloc: Global, record: &Stored, by: u32, round: u32) -> Result<bool, Memory> {
     match put(alloc, by, round)? {
         Command::Put { name: _, item } => {
@@ -27,14 +28,15 @@ fn is_put(alloc: Global, record: &Stored, by: u32, round: u32) -> Result<bool, M
     }
 }
 
-/// Returns the number of the pass that put a record.
+/// Returns the number of the pass that put `record`. This number is the record's partition key. The result is `None` if
+/// the key isn't a number below 2^32.
 fn pass_of(record: &Stored) -> Option<u32> {
     let by = read_u64(record.key.as_slice())?;
     u32::try_from(by).ok()
 }
 
 impl Next {
-    /// Moves past a record of a pass. Returns whether this record is the next record of that pass.
+    /// Counts `record` as read, and returns whether it was the expected next record of its pass.
     fn go_past(&mut self, alloc: Global, record: &Stored) -> Result<bool, Memory> {
         let Some(by) = pass_of(record) else {
             return Ok(false);
@@ -48,7 +50,8 @@ impl Next {
     }
 }
 
-/// Returns the records in an answer, and the position at which reading goes on.
+/// Returns the records in the answer to a read, and the position at which the next read begins. The result is `None` if
+/// the answer isn't a list of records, or if it says that the shard has ended.
 pub fn records_of(answer: Answer) -> Option<(Items<Stored>, u64)> {
     match answer {
         Ok(
@@ -66,7 +69,8 @@ pub fn records_of(answer: Answer) -> Option<(Items<Stored>, u64)> {
     }
 }
 
-/// Reads a shard to its end, and moves past its records. Returns whether each record is the next record of its pass.
+/// Reads a shard from its beginning to its end, and returns whether each record was the expected next record of its
+/// pass. Reading stops at the first unexpected record.
 fn read_shard<M: Machine>(
     alloc: Global,
     machine: &mut M,
@@ -97,8 +101,8 @@ fn read_shard<M: Machine>(
     Ok(false)
 }
 
-/// Whether the machine has, for each pass from 1 to `last`, the record of each round of that pass exactly once and in
-/// order.
+/// Whether, for each pass from 1 to `last`, the machine has the record of each round exactly once and in order. Rounds
+/// are counted from 0 to `rounds` - 1.
 pub fn is_sound<M: Machine>(
     alloc: Global,
     machine: &mut M,

@@ -1,12 +1,14 @@
-//! The join of all passes.
+//! Joins all passes of a hall into one. A turn is one command to a machine. A hall is a lock around one machine. A pass
+//! is the right of one thread to make turns of the machine. After a pass has been joined into another pass, this other
+//! pass has seen the turns of both.
 ghost use Rattle.std.specs.Prelude.{◌≡◌, All, IfSome};
 ghost use Rattle.kds_turn.specs.Passes.{HasAll};
 
 use kds_defs::Machine;
 use kds_turn::{Hall, Pass};
 
-/// Joins all other passes into the last of `passes`, and returns that pass. The result is `None` if the passes aren't
-/// those with the numbers 1 to `last`, in order.
+/// Joins all other passes into the last of `passes`, and returns this last pass. It has then seen the turns of all
+/// passes. The result is `None` if `passes` aren't the passes with the numbers 1 to `last`, in this order.
 pub fn join_all<M: Machine>(hall: &Hall<M>, passes: Vec<Pass<M>>, last: u32) -> Option<Pass<M>>
     requires { All (λ p. p.hall ≡ hall.now.id) passes.items }
     ensures hall { IfSome result (λ p. p.hall ≡ hall.now.id) }

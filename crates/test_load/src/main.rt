@@ -1,8 +1,11 @@
-//! Runs many passes of a hall concurrently, over the same kind of machine as the server: `test_load PASSES ROUNDS`.
-//! Each pass makes one turn first, and then two turns in each round. The program prints the number of turns in the
-//! closed history, and whether the records of each pass are there exactly once and in order. Before that, it shows
-//! what a second pass reads after a note from the first, and runs four passes with one turn each. `rt run -- 64 30000`
-//! makes 3,840,064 turns.
+//! A load test, `test_load PASSES ROUNDS`: many threads make turns concurrently on one machine of the kind that the
+//! server uses. A turn is one command that the machine carries out. A hall is a lock around the machine, and keeps one
+//! history of all turns. A pass is the right of one thread to make turns. Each pass makes one turn first, and then two
+//! turns in each round. The program prints the number of turns in the history of the closed hall, and whether the
+//! machine has the records of each pass exactly once and in order. Before this run, the program makes two small runs.
+//! In the first, a second pass learns of the first pass's turns from a note (a message between passes), and the program
+//! prints what the second pass then reads. In the other run, four passes make one turn each. `rt run -- 64 30000` makes
+//! 3,840,064 turns in its last run.
 #![tactic(auto)]
 
 ghost use Rattle.std.specs.Prelude.{◌≤◌, IfSome};
@@ -21,7 +24,8 @@ use running::{Outcome, run};
 use std::process::ExitCode;
 use std::{env, io};
 
-/// Reads a word as a number from 1 to `most`. The result is `None` for any other word.
+/// Parses a command-line argument as a number from 1 to `most`. The result is `None` if the argument is missing or
+/// isn't such a number.
 fn number(word: Option<String>, most: u64) -> Option<u32>
     ensures { IfSome result (λ n. 1 ≤ n) }
 {
@@ -33,8 +37,8 @@ fn number(word: Option<String>, most: u64) -> Option<u32>
     }
 }
 
-/// Returns the two numbers after the program's name: the number of passes, 1 to 64, and the number of rounds, 1 to
-/// 1,000,000.
+/// Parses the two command-line arguments: how many passes, 1 to 64, and how many rounds, 1 to 1,000,000. The result is
+/// `None` if one of them is missing or invalid.
 fn arguments(rt: &HostRuntime) -> Option<(u32, u32)>
     ensures { IfSome result (λ n. 1 ≤ n.0) }
 {
@@ -45,7 +49,7 @@ fn arguments(rt: &HostRuntime) -> Option<(u32, u32)>
     Some((passes, rounds))
 }
 
-/// Prints the outcome of a run with `passes` passes. Returns the exit status.
+/// Prints the outcome of a run with `passes` passes, and returns the exit status for this outcome.
 fn show(rt: &HostRuntime, passes: u32, outcome: Outcome) -> io::Result<u8> {
     match outcome {
         Outcome::Sound { turns } => {
@@ -63,7 +67,8 @@ fn show(rt: &HostRuntime, passes: u32, outcome: Outcome) -> io::Result<u8> {
     }
 }
 
-/// Prints which record a second pass reads after a note from the first pass.
+/// Prints which record the second pass read after it had learned of the first pass's turns from a note, and the number
+/// of turns.
 fn show_relayed(rt: &HostRuntime, relayed: Relayed) -> io::Result<()> {
     let turns = relayed.turns;
     match relayed.number {

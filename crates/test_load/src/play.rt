@@ -1,4 +1,5 @@
-//! Passes that make their turns concurrently.
+//! Makes the turns of all passes concurrently. A hall is a lock around one machine. A pass is the right of one thread
+//! to make turns of the machine. A turn is one command.
 ghost use Rattle.std.specs.Prelude.{◌≡◌, All};
 ghost use Rattle.kds_defs.specs.Lawful.{IsLawfulCommand};
 
@@ -10,7 +11,8 @@ use std::alloc::Global;
 use std::sync::Wait;
 use std::thread::{Threads, for_each_mut};
 
-/// Makes one turn of a pass, and returns its answer.
+/// Makes one turn of a pass with the command `what`, and returns the answer. If the hall returns any error, the result
+/// is the error `Memory`.
 pub fn ask<M: Machine, R: Wait>(
     rt: &R,
     hall: &Hall<M>,
@@ -28,7 +30,7 @@ pub fn ask<M: Machine, R: Wait>(
     }
 }
 
-/// Makes one turn of a pass, and drops its answer.
+/// Makes one turn of a pass with the command `what`, and drops the answer.
 pub fn turn<M: Machine, R: Wait>(
     rt: &R,
     hall: &Hall<M>,
@@ -44,7 +46,7 @@ pub fn turn<M: Machine, R: Wait>(
     Ok(())
 }
 
-/// Makes the two turns of a pass in one round.
+/// Makes the two turns of a pass in the round `number`.
 fn round<M: Machine, R: Wait>(
     rt: &R,
     alloc: Global,
@@ -61,7 +63,8 @@ fn round<M: Machine, R: Wait>(
     turn(rt, hall, pass, now, other(number, now))
 }
 
-/// Makes the stream, unless another pass has already made it, and then the turns of `count` rounds.
+/// Makes all turns of a pass. The first turn creates the stream. This turn is refused if another pass has already
+/// created the stream. Then the pass makes the turns of `count` rounds.
 fn rounds<M: Machine, R: Wait>(
     rt: &R,
     alloc: Global,
@@ -80,7 +83,7 @@ fn rounds<M: Machine, R: Wait>(
     Ok(())
 }
 
-/// Makes the turns of a pass, until memory runs out or all are made.
+/// Makes all turns of a pass, or stops early if memory runs out.
 fn play_one<M: Machine, R: Wait>(
     rt: &R,
     alloc: Global,
@@ -94,7 +97,7 @@ fn play_one<M: Machine, R: Wait>(
     let _ = rounds(rt, alloc, hall, pass, count);
 }
 
-/// Has all passes make their turns concurrently, each in a thread of its own.
+/// Makes the turns of all passes concurrently. Each pass has a thread of its own.
 pub fn play<M: Machine + Send, R: Threads + Wait + Sync>(
     rt: &R,
     alloc: Global,

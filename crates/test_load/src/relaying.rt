@@ -1,4 +1,6 @@
-//! A note from one pass to another.
+//! Uses a note, a message between passes, to tell one pass which turns another pass has seen. A turn is one command to
+//! a machine, and a pass is the right of one thread to make turns. A hall is a lock around the machine, with one
+//! history of all turns.
 ghost use Rattle.std.specs.Prelude.{◌≡◌, [], IfOk};
 
 use crate::checking::records_of;
@@ -11,25 +13,27 @@ use kds_turn::{Hall, Note, Pass};
 use std::alloc::Global;
 use std::sync::Wait;
 
-/// The shard in which the record of pass 1 is stored.
+/// The number of the shard in which the record of pass 1 is stored.
 const HOME: u64 = 3;
 
-/// What a second pass reads after a note, and the number of turns in the history then.
+/// What the second pass read after it had received the note, and the number of turns in the history of the closed hall.
 #[derive(Drop)]
 pub struct Relayed {
-    /// The sequence number of the first record that was read, if there is a record.
+    /// The sequence number of the first record that the second pass read. `None` if it read no record.
     pub number: Option<Seq>,
     pub turns: u64,
 }
 
-/// Returns the sequence number of the first record in an answer.
+/// Returns the sequence number of the first record that `records_of` finds in the answer, or `None` if it finds no
+/// record.
 fn number_in(answer: Answer) -> Option<Seq> {
     let (batch, _next) = records_of(answer)?;
     let record = batch.as_slice().first()?;
     Some(record.seq)
 }
 
-/// Has a pass make the stream and put a record. Returns a note of everything that the pass has seen.
+/// Makes two turns of `pass`: the first creates the stream, the second puts a record. Returns a note of all turns that
+/// the pass has seen.
 fn told<M: Machine, R: Wait>(
     rt: &R,
     alloc: Global,
@@ -47,8 +51,8 @@ fn told<M: Machine, R: Wait>(
     hall.tell(pass)
 }
 
-/// Has a pass get an iterator of the shard `HOME`, and read the shard from its beginning. Returns the sequence number
-/// of the first record.
+/// Makes two turns of `pass`: the first gets an iterator for the shard `HOME`, the second reads the shard's first
+/// record. Returns the sequence number of this record, or `None` if there is no record.
 fn first_read<M: Machine, R: Wait>(
     rt: &R,
     alloc: Global,
@@ -69,8 +73,9 @@ fn first_read<M: Machine, R: Wait>(
     Ok(number_in(answer))
 }
 
-/// Passes a note from the first of two passes over a new machine to the second, has the second pass read, joins the
-/// passes and closes their hall. The result is `None` if memory ran out.
+/// Makes a hall with two passes over the new machine `machine`. The first pass puts a record. The second pass learns
+/// from a note which turns the first pass has seen, and then reads the record. Finally, the passes are joined, and the
+/// hall is closed. The result is `None` if memory ran out.
 pub fn relay<M: Machine + Drop, R: Wait>(rt: &R, alloc: Global, machine: M) -> Option<Relayed>
     requires { M.stands_for machine [] }
 {

@@ -1,4 +1,5 @@
-//! A run of a hall, from its making to its close.
+//! Runs the load test once: makes a hall, makes the turns of its passes, closes the hall and checks the result. A hall
+//! is a lock around one machine. A pass is the right of one thread to make turns of the machine. A turn is one command.
 ghost use Rattle.std.specs.Prelude.{◌≤◌, []};
 
 use crate::checking::is_sound;
@@ -14,14 +15,15 @@ use std::thread::Threads;
 /// The outcome of a run.
 #[derive(Drop)]
 pub enum Outcome {
-    /// The closed history has `turns` turns, and the records of each pass are there exactly once and in order.
+    /// The history of the closed hall has `turns` turns, as many as expected, and the machine has the records of each
+    /// pass exactly once and in order.
     Sound { turns: u64 },
     Unsound,
     OutOfMemory,
 }
 
-/// Runs `passes` passes concurrently over a new machine for `rounds` rounds, and checks the records that the machine
-/// has then. Precondition: `passes` is at least 1.
+/// Makes a run on the new machine `machine`: the passes make their turns concurrently, and then the machine's records
+/// are checked. `passes`, at least 1, is the number of passes, and `rounds` is the number of rounds.
 pub fn run<M: Machine + Drop + Send, R: Threads + Wait + Sync>(
     rt: &R,
     alloc: Global,

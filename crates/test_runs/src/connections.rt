@@ -1,4 +1,4 @@
-//! Tests of connections, and of what is written to each.
+//! Tests of HTTP connections, and of the responses that are written to them. All times are in milliseconds.
 use crate::harness::{Left, RowDoor, Run, run_on};
 use kds_base::{Items, Moment, Octets};
 use kds_cli_runs::run_serve;
@@ -10,7 +10,7 @@ use std::test::Fail;
 pub const LIST: &str =
     "POST / HTTP/1.1\r\nHost: 127.0.0.1:4567\r\nX-Amz-Target: Kinesis_20131202.ListStreams\r\nContent-Type: application/x-amz-json-1.1\r\nAuthorization: AWS4-HMAC-SHA256 x\r\nContent-Length: 2\r\n\r\n{}";
 
-/// A request that makes a stream.
+/// A request that creates a stream with one shard.
 const CREATE: &str =
     "POST / HTTP/1.1\r\nHost: 127.0.0.1:4567\r\nX-Amz-Target: Kinesis_20131202.CreateStream\r\nContent-Type: application/x-amz-json-1.1\r\nAuthorization: AWS4-HMAC-SHA256 x\r\nContent-Length: 33\r\n\r\n{\"StreamName\":\"s\",\"ShardCount\":1}";
 
@@ -18,7 +18,7 @@ const CREATE: &str =
 const PUT: &str =
     "POST / HTTP/1.1\r\nHost: 127.0.0.1:4567\r\nX-Amz-Target: Kinesis_20131202.PutRecord\r\nContent-Type: application/x-amz-json-1.1\r\nAuthorization: AWS4-HMAC-SHA256 x\r\nContent-Length: 51\r\n\r\n{\"StreamName\":\"s\",\"Data\":\"aGk=\",\"PartitionKey\":\"a\"}";
 
-/// A request that puts a record, over HTTP/1.0.
+/// A request that puts a record. It is an HTTP/1.0 request, so the connection closes after the response.
 const LAST_PUT: &str =
     "POST / HTTP/1.0\r\nHost: 127.0.0.1:4567\r\nX-Amz-Target: Kinesis_20131202.PutRecord\r\nContent-Type: application/x-amz-json-1.1\r\nAuthorization: AWS4-HMAC-SHA256 x\r\nContent-Length: 51\r\n\r\n{\"StreamName\":\"s\",\"Data\":\"aGk=\",\"PartitionKey\":\"a\"}";
 
@@ -26,11 +26,11 @@ const LAST_PUT: &str =
 const OTHER_OPERATION: &str =
     "POST / HTTP/1.1\r\nHost: 127.0.0.1:4567\r\nX-Amz-Target: Kinesis_20131202.Foo\r\nContent-Type: application/x-amz-json-1.1\r\nAuthorization: AWS4-HMAC-SHA256 x\r\nContent-Length: 2\r\n\r\n{}";
 
-/// A request whose content type isn't JSON.
+/// A request whose content type is CBOR, not JSON.
 const OTHER_TYPE: &str =
     "POST / HTTP/1.1\r\nHost: 127.0.0.1:4567\r\nX-Amz-Target: Kinesis_20131202.PutRecord\r\nContent-Type: application/x-amz-cbor-1.1\r\nAuthorization: AWS4-HMAC-SHA256 x\r\nContent-Length: 2\r\n\r\n{}";
 
-/// A request that reads the first record, with an iterator made at the moment 3000.
+/// A request that reads the first record, with a shard iterator that was issued at the time 3000 ms.
 const READ: &str =
     "POST / HTTP/1.1\r\nHost: 127.0.0.1:4567\r\nX-Amz-Target: Kinesis_20131202.GetRecords\r\nContent-Type: application/x-amz-json-1.1\r\nAuthorization: AWS4-HMAC-SHA256 x\r\nContent-Length: 40\r\n\r\n{\"ShardIterator\":\"S0kxOjE6MDoxOjMwMDA=\"}";
 
@@ -38,35 +38,35 @@ const READ: &str =
 pub const LISTED: &str =
     "HTTP/1.1 200 OK\r\nContent-Type: application/x-amz-json-1.1\r\nContent-Length: 41\r\n\r\n{\"HasMoreStreams\":false,\"StreamNames\":[]}";
 
-/// The response to `CREATE`.
+/// The response to `CREATE` if the stream is created.
 const CREATED: &str =
     "HTTP/1.1 200 OK\r\nContent-Type: application/x-amz-json-1.1\r\nContent-Length: 0\r\n\r\n";
 
-/// The response to the `PUT` of the first record.
+/// The response to `PUT` if it puts the first record of the stream.
 const FIRST: &str =
     "HTTP/1.1 200 OK\r\nContent-Type: application/x-amz-json-1.1\r\nContent-Length: 55\r\n\r\n{\"SequenceNumber\":\"1\",\"ShardId\":\"shardId-000000000000\"}";
 
-/// The response to the `PUT` of the second record.
+/// The response to `PUT` if it puts the second record of the stream.
 const SECOND: &str =
     "HTTP/1.1 200 OK\r\nContent-Type: application/x-amz-json-1.1\r\nContent-Length: 55\r\n\r\n{\"SequenceNumber\":\"2\",\"ShardId\":\"shardId-000000000000\"}";
 
-/// The response to `READ` at the moment 4000; the record was put at 3000.
+/// The response to `READ` at the time 4000 ms, if the record was put at the time 3000 ms.
 const FIRST_READ: &str =
     "HTTP/1.1 200 OK\r\nContent-Type: application/x-amz-json-1.1\r\nContent-Length: 167\r\n\r\n{\"MillisBehindLatest\":0,\"NextShardIterator\":\"S0kxOjE6MDoyOjQwMDA=\",\"Records\":[{\"ApproximateArrivalTimestamp\":3,\"Data\":\"aGk=\",\"PartitionKey\":\"a\",\"SequenceNumber\":\"1\"}]}";
 
-/// The response to `LAST_PUT` of the first record, after which the connection closes.
+/// The response to `LAST_PUT` if it puts the first record of the stream. The connection closes after this response.
 const LAST: &str =
     "HTTP/1.1 200 OK\r\nContent-Type: application/x-amz-json-1.1\r\nContent-Length: 55\r\nConnection: close\r\n\r\n{\"SequenceNumber\":\"1\",\"ShardId\":\"shardId-000000000000\"}";
 
-/// The response if the operation doesn't exist.
+/// The response to a request for an operation that doesn't exist.
 const UNKNOWN: &str =
     "HTTP/1.1 400 Bad Request\r\nContent-Type: application/x-amz-json-1.1\r\nContent-Length: 68\r\n\r\n{\"__type\":\"UnknownOperationException\",\"message\":\"unknown operation\"}";
 
-/// The response if the body isn't a JSON object.
+/// The response to a request whose body isn't a JSON object, or whose content type isn't JSON.
 const NO_OBJECT: &str =
     "HTTP/1.1 400 Bad Request\r\nContent-Type: application/x-amz-json-1.1\r\nContent-Length: 73\r\n\r\n{\"__type\":\"SerializationException\",\"message\":\"body is not a JSON object\"}";
 
-/// The response if the stream doesn't exist.
+/// The response to a request that names a stream that doesn't exist.
 const NO_STREAM: &str =
     "HTTP/1.1 400 Bad Request\r\nContent-Type: application/x-amz-json-1.1\r\nContent-Length: 67\r\n\r\n{\"__type\":\"ResourceNotFoundException\",\"message\":\"stream not found\"}";
 
@@ -74,7 +74,7 @@ const CUT: &str = "input ended inside a message\n";
 
 const REFUSED: &str = "message refused\n";
 
-/// The three parts, one after another.
+/// Returns the three parts as one text, one part after another.
 fn joined(alloc: Global, parts: [&str; 3]) -> Result<Octets, Fail> {
     let mut all = Octets::new(alloc);
     for part in parts {
@@ -83,8 +83,9 @@ fn joined(alloc: Global, parts: [&str; 3]) -> Result<Octets, Fail> {
     Ok(all)
 }
 
-/// Requests on one connection: several one after another, requests with faults, and a request that closes the
-/// connection. The input comes byte by byte and in larger pieces. If it ends inside a request, the run reports that.
+/// Each case sends up to three requests on one connection. Some requests are faulty, and some close the connection. The
+/// input is read in pieces of at most 1, 7 or 4096 bytes. If the input ends inside a request, the run ends with the
+/// exit status 7 and a message.
 #[test]
 fn requests_are_answered_one_after_another(rt: HostRuntime) -> Result<(), Fail> {
     let alloc = rt.alloc();
@@ -150,8 +151,8 @@ fn requests_are_answered_one_after_another(rt: HostRuntime) -> Result<(), Fail> 
     Ok(())
 }
 
-/// The head of a request with `headers` headers besides Content-Length. The last header's value has `bytes` bytes, and
-/// `end` follows it.
+/// Returns the head of a request, followed by `end`. The head has the header Content-Length, and then `headers` more
+/// headers. The value of the last header has `bytes` bytes, and the values of the headers in between are empty.
 fn long_head(alloc: Global, headers: u64, bytes: u64, end: &str) -> Result<Octets, Fail> {
     let mut head = Octets::of(alloc, b"POST / HTTP/1.1\r\nContent-Length: 0".as_slice())?;
     for _ in 0..headers {
@@ -164,8 +165,8 @@ fn long_head(alloc: Global, headers: u64, bytes: u64, end: &str) -> Result<Octet
     Ok(head)
 }
 
-/// Heads that are refused, each alone on its connection. An unfinished head of one byte less than the limit isn't
-/// refused yet.
+/// Each connection but the last begins with a head that is refused. The last connection ends inside its head, after
+/// 16,383 bytes. This is one byte below the limit, so the head isn't refused.
 #[test]
 fn a_head_is_refused_by_its_first_fault(rt: HostRuntime) -> Result<(), Fail> {
     let alloc = rt.alloc();
@@ -216,7 +217,9 @@ fn a_head_is_refused_by_its_first_fault(rt: HostRuntime) -> Result<(), Fail> {
     Ok(())
 }
 
-/// How the run differs from one whose connection is refused with `status`. Empty if there is no difference.
+/// Runs a connection with the input `bytes`. The expected result is that the request is refused with the HTTP status
+/// `status`. The returned text describes how the result differs from the expected one. The text is empty if there is no
+/// difference.
 fn other_refusal(alloc: Global, bytes: &[u8], status: &str) -> Result<String, Fail> {
     let out = joined(
         alloc,
@@ -230,7 +233,7 @@ fn other_refusal(alloc: Global, bytes: &[u8], status: &str) -> Result<String, Fa
     Ok(left.other(alloc, 10, out.as_slice(), REFUSED)?)
 }
 
-/// The read after the first request fails; then, in another run, the first write fails.
+/// In the first run, the read after the first request fails. In the second run, the first write fails.
 #[test]
 fn what_came_before_a_failing_end_is_answered(rt: HostRuntime) -> Result<(), Fail> {
     let alloc = rt.alloc();
@@ -245,7 +248,8 @@ fn what_came_before_a_failing_end_is_answered(rt: HostRuntime) -> Result<(), Fai
     Ok(())
 }
 
-/// The machine's clock gives milliseconds since 1970: its moment is after the year 2020 and before the year 3000.
+/// The system's clock gives milliseconds since 1970. Its time lies between the beginning of the year 2020 and the
+/// beginning of the year 3000.
 #[test]
 fn the_clock_tells_milliseconds_since_1970(rt: HostRuntime) {
     let mut clock = SystemClock::new(rt);
@@ -254,8 +258,8 @@ fn the_clock_tells_milliseconds_since_1970(rt: HostRuntime) {
     assert!(rt; now < 32_503_680_000_000, "{now}");
 }
 
-/// The door holds the first connection's input back until the second connection has written, so both must be served at
-/// once.
+/// The door, a listening socket in memory, holds back the input of the first connection until a response has been
+/// written to the second connection. So the test passes only if both connections are served at the same time.
 #[test]
 fn two_connections_are_served_at_once(rt: HostRuntime) -> Result<(), Fail> {
     let alloc = rt.alloc();
@@ -276,7 +280,7 @@ fn two_connections_are_served_at_once(rt: HostRuntime) -> Result<(), Fail> {
     Ok(())
 }
 
-/// A clock that gives the moments 1000, 2000, 3000 and 4000.
+/// Returns a clock that gives the times 1000, 2000, 3000 and 4000, in milliseconds, one after another.
 fn four_moments(alloc: Global) -> Result<MemClock, Fail> {
     let mut moments = Items::new(alloc);
     moments.push(Moment::new(1000).ok_or("moment")?)?;
@@ -286,9 +290,10 @@ fn four_moments(alloc: Global) -> Result<MemClock, Fail> {
     Ok(MemClock::new(moments))
 }
 
-/// Four connections, one after the other, on a server with two slots. The first is cut inside a request, and a read of
-/// the second fails. The third puts a record, and the fourth reads the record with the moment of its arrival. Each
-/// connection ends without effect on the others, and the server ends when the door fails.
+/// Four connections are served one after the other, by a server that serves at most two at a time. The input of the
+/// first connection ends inside a request, and a read on the second one fails. The third connection puts a record. The
+/// fourth connection reads this record and its arrival time. The end of one connection has no effect on the others. The
+/// server ends when the door, its listening socket, fails.
 #[test]
 fn connections_end_each_alone(rt: HostRuntime) -> Result<(), Fail> {
     let alloc = rt.alloc();

@@ -1,11 +1,12 @@
-//! Runs in which one read or one write fails, each in turn.
+//! Tests of runs in which one read or one write fails. A run executes a schedule or serves a connection. A schedule is
+//! a recorded workload: each line is one request, one lease command, or one instruction to a worker.
 use crate::connections::{LIST, LISTED};
 use crate::harness::{Case, Run};
 use crate::schedules::FIRST;
 use std::test::Fail;
 
-/// Each read and each write fails in turn: in the run of the first path's schedule, and in a connection that lists the
-/// streams. Both run byte by byte and in one piece.
+/// The schedule `FIRST` and a connection with the request `LIST` are run many times. In each run a different read or
+/// write fails. Input and output are transferred byte by byte, or in one piece.
 #[test]
 fn each_failing_call_leaves_what_came_before(rt: HostRuntime) -> Result<(), Fail> {
     let (input, _, out, _) = FIRST;

@@ -1,10 +1,14 @@
-//! Schedules with hand-offs, what each of them writes, and the journal of one of them.
+//! Tests of hand-offs, in which a worker releases a lease gracefully. The tests are schedules (recorded workloads) with
+//! their outputs, and one schedule with its journal (the event log of a run). Each line of a schedule is one request,
+//! one lease command, or one instruction to a worker. An actor is the number of a client or a worker that sends
+//! commands. A turn is one command, applied to the streams and leases.
 use crate::harness::{Row, Run, first_other};
 use std::test::Fail;
 
-/// After ten steps both records have been delivered. The hand-off marks them as processed and frees the row. Another
-/// worker then begins after these records. Nothing is handed off if the worker doesn't hold the lease any more, or if
-/// the actor has no worker.
+/// After ten steps of the worker, its processor has processed both records. The hand-off sets the checkpoint to the
+/// second record and frees the lease. Another worker then takes the lease and reads from the position after these
+/// records. The last three lines hand nothing off, because the worker holds no lease of the given shard, or because the
+/// actor in the line isn't a worker.
 const GIVEN: Row = (
     r#"3000 api CreateStream {"StreamName":"s","ShardCount":1}
 3000 api PutRecord {"StreamName":"s","Data":"aGk=","PartitionKey":"a"}
@@ -54,7 +58,8 @@ none
     "",
 );
 
-/// After seven steps the batch has been read, but not handed to the processor: nothing is given or marked.
+/// After seven steps the worker has read a batch, but its processor hasn't been called for the batch. So the hand-off
+/// reports no batch as processed and sets no checkpoint. It only frees the lease.
 const READ: Row = (
     r#"3000 api CreateStream {"StreamName":"s","ShardCount":1}
 3000 api PutRecord {"StreamName":"s","Data":"aGk=","PartitionKey":"a"}
@@ -88,7 +93,8 @@ ok 1 1/0 - 2 TRIM_HORIZON 0
     "",
 );
 
-/// The lines up to the eighth step, which first hands the batch to the processor, and then a hand-off.
+/// A schedule with eight steps of a worker, and then a hand-off. In the eighth step, the worker calls its processor
+/// with the batch.
 const HANDED_LINES: &str = r#"3000 api CreateStream {"StreamName":"s","ShardCount":1}
 3000 api PutRecord {"StreamName":"s","Data":"aGk=","PartitionKey":"a"}
 3000 api PutRecord {"StreamName":"s","Data":"","PartitionKey":"abc"}
@@ -104,7 +110,8 @@ const HANDED_LINES: &str = r#"3000 api CreateStream {"StreamName":"s","ShardCoun
 3000 hand 1000 1/0
 "#;
 
-/// The hand-off gives the batch that the processor was handed, marks it, and then frees the row.
+/// The hand-off makes three turns: `give` reports the processor's batch as processed, `mark` sets the checkpoint to the
+/// batch's last record, and `free` frees the lease.
 const HANDED: Row = (
     HANDED_LINES,
     0,
@@ -125,8 +132,8 @@ give 1 = ok delivered 3; mark 1 1 2 = ok counter 2; free 1 2 = ok counter 3; han
     "",
 );
 
-/// The journal of `HANDED_LINES`, which has an entry for each of the hand-off's three turns. The hash keys are the MD5
-/// hashes of the partition keys (RFC 1321).
+/// The journal of `HANDED_LINES`. Its last three entries come from the hand-off's three turns. Its hash keys are the
+/// MD5 hashes of the partition keys (RFC 1321).
 const HANDED_JOURNAL: Row = (
     HANDED_LINES,
     0,
@@ -146,7 +153,8 @@ end 3000
     "",
 );
 
-/// The lease was taken away before the hand-off: the mark is refused, and the row isn't freed.
+/// Another actor takes the lease before the hand-off. So the hand-off's `mark` is refused, and the hand-off doesn't
+/// free the lease.
 const TAKEN_AWAY: Row = (
     r#"3000 api CreateStream {"StreamName":"s","ShardCount":1}
 3000 api PutRecord {"StreamName":"s","Data":"aGk=","PartitionKey":"a"}

@@ -1,4 +1,5 @@
-//! The harness of the tests: runs over inputs and outputs in memory, and what a run leaves behind.
+//! The harness of the tests: it makes runs with inputs and outputs in memory, and compares their results with the
+//! expected ones.
 
 mod cases;
 mod left;

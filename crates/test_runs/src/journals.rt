@@ -1,9 +1,12 @@
-//! Tests of the journals of schedules, and of the audits of these journals.
+//! Tests of the journals (event logs) of schedules, and of the audits that verify these journals. A schedule is a
+//! recorded workload: each line is one request, one lease command, or one instruction to a worker. A journal has an
+//! entry for each change. An actor is the number of a client or a worker that sends commands, and a turn is one
+//! command.
 use crate::harness::{Named, Run, first_other, run_on};
 use std::test::Fail;
 
-/// A lease is taken from its holder. The batch that the old tenure has read may still be given, but a mark by the old
-/// tenure is refused.
+/// Actor 1 has read a batch when actor 2 takes the lease away from it. Actor 1 may still report this batch as processed
+/// (`give`), but it can't set the checkpoint any more: its `mark` is refused.
 const ROBBED: &str = r#"1000 api CreateStream {"StreamName":"s","ShardCount":1}
 1000 api PutRecord {"StreamName":"s","Data":"aGk=","PartitionKey":"a"}
 1001 api PutRecord {"StreamName":"s","Data":"","PartitionKey":"abc"}
@@ -18,8 +21,9 @@ const ROBBED: &str = r#"1000 api CreateStream {"StreamName":"s","ShardCount":1}
 3000 raw 2 mark 1 2 2
 "#;
 
-/// The journal of `ROBBED`: the stream, its two puts, the row, two takings, the opening, the read and the giving.
-/// Refused turns add no entry. The hash keys are the MD5 hashes of the partition keys (RFC 1321).
+/// The journal of `ROBBED`. It has an entry for the stream, for each of the two records, for the new lease, for each of
+/// the two times that the lease is taken, and for the accepted `open`, `read` and `give`. Refused turns add no entry.
+/// The hash keys are the MD5 hashes of the partition keys (RFC 1321).
 const JOURNAL: &str = "journal 2
 1000 0 made 1 s 1
 1000 0 put 1 0 1 16955237001963240173058271559858726497 2 1
@@ -33,7 +37,8 @@ const JOURNAL: &str = "journal 2
 end 3000
 ";
 
-/// The same journal in the journal's first version, whose put entries don't state the bytes of the partition keys.
+/// `JOURNAL` in the first version of the journal format. It has no heading, and its `put` entries don't state the
+/// length of the partition key.
 const FIRST_VERSION: &str = "1000 0 made 1 s 1
 1000 0 put 1 0 1 16955237001963240173058271559858726497 2
 1001 0 put 1 0 2 191415658344158766168031473277922803570 0
@@ -46,7 +51,7 @@ const FIRST_VERSION: &str = "1000 0 made 1 s 1
 end 3000
 ";
 
-/// `JOURNAL` with a further entry: a mark by the tenure that lost its row.
+/// `JOURNAL` with one more entry: actor 1 sets a checkpoint after it has lost the lease.
 const STALE_MARK: &str = "journal 2
 1000 0 made 1 s 1
 1000 0 put 1 0 1 16955237001963240173058271559858726497 2 1
@@ -61,8 +66,8 @@ const STALE_MARK: &str = "journal 2
 end 3000
 ";
 
-/// A worker hands its lease off while its processor has a batch that isn't given yet. The line of the hand-off makes
-/// three turns: give, mark and free.
+/// A worker hands its lease off while its processor has a batch that isn't reported as processed yet. The `hand` line
+/// makes three turns: `give`, `mark` and `free`.
 const HANDED: &str = r#"1000 api CreateStream {"StreamName":"s","ShardCount":1}
 1000 api PutRecord {"StreamName":"s","Data":"aGk=","PartitionKey":"a"}
 1001 api PutRecord {"StreamName":"s","Data":"","PartitionKey":"abc"}
@@ -78,7 +83,7 @@ const HANDED: &str = r#"1000 api CreateStream {"StreamName":"s","ShardCount":1}
 3000 hand 1000 1/0
 "#;
 
-/// The journal of `HANDED`: ten entries, of which the last three are the hand-off's.
+/// The journal of `HANDED`. It has ten entries, and the last three come from the hand-off.
 const HANDED_JOURNAL: &str = "journal 2
 1000 0 made 1 s 1
 1000 0 put 1 0 1 16955237001963240173058271559858726497 2 1
@@ -93,7 +98,7 @@ const HANDED_JOURNAL: &str = "journal 2
 end 3000
 ";
 
-/// Schedules that stop early, so that their journals have no last line.
+/// Schedules with a bad line. The run ends at this line, so the journal doesn't get its last line, `end CLOCK`.
 const STOPPED: [Named; 3] = [
     (
         "a bad first line",
@@ -124,8 +129,8 @@ const STOPPED: [Named; 3] = [
     ),
 ];
 
-/// The last line states the clock. A turn that changes nothing still advances the clock, but a line that makes no turn
-/// doesn't.
+/// The last line of a journal states the clock, which is the greatest time of a turn. Even a turn that changes nothing
+/// advances the clock. A schedule line that makes no turn doesn't advance it.
 const CLOCKS: [Named; 3] = [
     ("no lines", ("", 0, "journal 2\nend 0\n", "")),
     (
@@ -205,8 +210,9 @@ fn an_audit_names_the_first_bad_entry(rt: HostRuntime) -> Result<(), Fail> {
     Ok(())
 }
 
-/// A read or a write fails. For the journal of a schedule it is the second read, the first write, the write of the
-/// entries, or the last write. For an audit it is the second read, or the only write.
+/// In each case one read or one write fails. In a run that writes a journal, the failing call is the second read, the
+/// write of the first line, the write of the entries, or the write of the last line. In an audit, the failing call is
+/// the second read, or the only write.
 #[test]
 fn what_came_before_a_failing_end_is_written(rt: HostRuntime) -> Result<(), Fail> {
     let (entries, _) = JOURNAL

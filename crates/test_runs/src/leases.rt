@@ -1,9 +1,14 @@
-//! Schedules that work with leases, and what each of them writes.
+//! Tests of lease commands. The tests are schedules (recorded workloads) with their outputs. Each line of a schedule is
+//! one request, one lease command, or one instruction to a worker. An actor is the number of a client or a worker that
+//! sends commands. The row of a lease is its item in the lease table, and a tenure is one worker's hold on a lease. The
+//! command `open` opens the shard of a tenure, `read` reads a batch, `give` reports a batch as processed, and `mark`
+//! sets the checkpoint.
 use crate::harness::{Row, Run, first_other};
 use std::test::Fail;
 
-/// A lease is taken from its holder. The batch that the old tenure has read may still be given, but a mark by the old
-/// tenure is refused. Then the new tenure tries reads, gives and marks in several orders.
+/// Actor 1 has read a batch when actor 2 takes the lease away from it. Actor 1 may still report this batch as processed
+/// (`give`), but it can't set the checkpoint any more: its `mark` is refused. Then actor 2, in its new tenure, tries
+/// `read`, `give` and `mark` in several orders.
 const ROBBED: Row = (
     r#"1000 api CreateStream {"StreamName":"s","ShardCount":1}
 1000 api PutRecord {"StreamName":"s","Data":"aGk=","PartitionKey":"a"}
@@ -61,8 +66,8 @@ refused Lost 0
     "",
 );
 
-/// The shard is the child of a merge. Its opening is refused while only its first parent has ended, and accepted once
-/// the other parent has ended too.
+/// Shard 2 is the child of a merge. It can't be opened before both of its parents have been processed to their ends. So
+/// `open` is refused at first, and again when only one parent is done. When both parents are done, `open` is accepted.
 const BOTH_ENDED: Row = (
     r#"4000 api CreateStream {"StreamName":"s","ShardCount":2}
 4000 api MergeShards {"StreamName":"s","ShardToMerge":"shardId-000000000000","AdjacentShardToMerge":"shardId-000000000001"}
@@ -108,8 +113,9 @@ ok
     "",
 );
 
-/// As in `BOTH_ENDED`, one parent ends. The other parent expires: then the child can be opened, and the row of the
-/// expired shard may be removed.
+/// As in `BOTH_ENDED`, a shard is the child of a merge. One of its parents is processed to its end. The other parent
+/// isn't processed to its end, but it expires. Then the child can be opened, and the row of the expired parent can be
+/// removed.
 const ONE_EXPIRED: Row = (
     r#"4000 api CreateStream {"StreamName":"s","ShardCount":2}
 4000 api MergeShards {"StreamName":"s","ShardToMerge":"shardId-000000000000","AdjacentShardToMerge":"shardId-000000000001"}
@@ -149,7 +155,8 @@ ok
     "",
 );
 
-/// A record is read, and then trimmed before it is given.
+/// A record is read, and expires before its batch is reported as processed. The batch can still be reported, and the
+/// checkpoint can still be set to the record.
 const TRIMMED: Row = (
     r#"1000 api CreateStream {"StreamName":"s","ShardCount":1}
 1000 api PutRecord {"StreamName":"s","Data":"aGk=","PartitionKey":"a"}
@@ -173,7 +180,9 @@ ok counter 2
     "",
 );
 
-/// Requests for rows and tenures that don't exist, a read before the opening, and more reads than may be pending.
+/// Commands that are refused: commands for a row, a shard and a tenure that don't exist, a `make` for a row that exists
+/// already, a `read` before the `open`, a second `open`, and a ninth `read` while eight batches are read but not yet
+/// reported as processed.
 const READS: Row = (
     r#"1000 api CreateStream {"StreamName":"s","ShardCount":1}
 3000 raw 1 take 1/0 0 w1
@@ -219,8 +228,9 @@ refused TooManyPending
     "",
 );
 
-/// A row begins at LATEST: earlier records aren't read, and no mark may go below this position. Then the shard is
-/// split, and its child is read from its first record.
+/// The row of a lease is made with the initial position LATEST. Earlier records aren't read, and no checkpoint may be
+/// set below this position. Then the shard is split. The row of the child is made with LATEST too, but the child is
+/// read from its first record.
 const LATEST: Row = (
     r#"1000 api CreateStream {"StreamName":"s","ShardCount":1}
 1000 api PutRecord {"StreamName":"s","Data":"aGk=","PartitionKey":"a"}
@@ -262,8 +272,9 @@ ok tenure 2 counter 1 start TRIM_HORIZON
     "",
 );
 
-/// As in `LATEST`, but the rows are made after the split. The parent's row begins above the end of its shard, so the
-/// child's row begins at LATEST too.
+/// As in `LATEST`, but both rows are made after the split. The initial position of the parent's row is then above the
+/// parent's last sequence number. For this reason, the initial position of the child's row is LATEST too, and not the
+/// child's first record.
 const LATEST_AFTER_A_SPLIT: Row = (
     r#"1000 api CreateStream {"StreamName":"s","ShardCount":1}
 1000 api SplitShard {"StreamName":"s","ShardToSplit":"shardId-000000000000","NewStartingHashKey":"170141183460469231731687303715884105728"}
@@ -281,8 +292,8 @@ ok tenure 1 counter 1 start 1
     "",
 );
 
-/// Rows begin at a moment: at the first record that arrived at or after it, or, if there is none, at the next sequence
-/// number.
+/// Rows are made with a given time as their start (AT_TIMESTAMP). The position of such a row is the first record that
+/// arrived at this time or later. If there is no such record, the position is the next sequence number.
 const MOMENTS: Row = (
     r#"1000 api CreateStream {"StreamName":"s","ShardCount":1}
 1000 api PutRecord {"StreamName":"s","Data":"aGk=","PartitionKey":"a"}

@@ -1,6 +1,7 @@
-//! Tests of whole runs, which cross crates: schedules with their streams, leases, workers and journals, audits,
-//! connections, and a served door. The tests call the functions of the runs and not the program, since a check of the
-//! tests would then load the program's words too.
+//! Tests of whole runs. Each run uses the code of many crates. A run executes a schedule (a recorded workload on
+//! streams, leases and workers), writes or audits a journal (an event log), serves a connection, or runs a server. The
+//! tests call functions for single tasks, such as `run_replay`, and not the whole program. Otherwise a check of the
+//! tests would also load the code that parses the command line.
 #![tactic(auto)]
 
 #[cfg(test)]

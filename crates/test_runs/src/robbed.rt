@@ -1,11 +1,14 @@
-//! Another actor takes a worker's row after two, three, and up to ten of the worker's steps. The test looks at what
-//! follows, and audits the journal.
+//! Tests in which another actor takes the lease of a worker's shard, after 2 to 10 steps of the worker. An actor is the
+//! number of a client or a worker that sends commands. Each test runs a schedule. A schedule is a recorded workload,
+//! and its lines are requests, lease commands and instructions to workers. The worker's next step is checked, and the
+//! run's journal (its event log) is audited, that is, verified.
 use crate::harness::{Left, Run, run_on};
 use kds_ends::Status;
 use std::alloc::Global;
 use std::test::Fail;
 
-/// The lines that make a stream of one shard, put two records and add a worker; then the output of these lines.
+/// The first lines of each schedule, and their output. They create a stream of one shard, put two records and start a
+/// worker.
 const BEGINNING: (&str, &str) = (
     r#"3000 api CreateStream {"StreamName":"s","ShardCount":1}
 3000 api PutRecord {"StreamName":"s","Data":"aGk=","PartitionKey":"a"}
@@ -19,7 +22,7 @@ worker 1000
 "#,
 );
 
-/// The output of the worker's steps if nobody takes its lease.
+/// The output of each of the worker's first ten steps, if nobody takes its lease.
 const STEPS: [&str; 10] = [
     "survey = ok 1 0\n",
     "make 1/0 = ok\n",
@@ -35,20 +38,20 @@ const STEPS: [&str; 10] = [
 
 const STEP: &str = "3000 step 1000\n";
 
-/// Actor 9 takes a row that nobody holds: the line, and its output.
+/// The line by which actor 9 takes a lease that nobody holds, and the output of this line.
 const TAKE_FREE: (&str, &str) = (
     "3000 raw 9 take 1/0 0 w9\n",
     "ok tenure 1 counter 1 start TRIM_HORIZON\n",
 );
 
-/// Actor 9 takes the worker's row: the line, and its output.
+/// The line by which actor 9 takes the lease from the worker, and the output of this line.
 const ROB: (&str, &str) = (
     "3000 raw 9 take 1/0 1 w9\n",
     "ok tenure 2 counter 2 start TRIM_HORIZON\n",
 );
 
-/// For each case: the number of steps after which actor 9 takes the row, the line that takes the row with its output,
-/// and the output of the worker's next step.
+/// For each case: the number of steps that the worker makes before actor 9 takes the lease; the line by which actor 9
+/// takes the lease, with its output; and the output of the worker's next step.
 const CASES: [(usize, (&str, &str), &str); 9] = [
     (2, TAKE_FREE, "survey = ok 1 1\n"),
     (3, TAKE_FREE, "take 1/0 0 w1 = refused Moved 1\n"),
@@ -61,11 +64,12 @@ const CASES: [(usize, (&str, &str), &str); 9] = [
     (10, ROB, "mark 1 1 2 = refused Lost 2\n"),
 ];
 
-/// The rows after ten further steps, if the worker had held the row: the thief holds it, and its counter is 2, since
-/// only the two takings of the row were accepted.
+/// The last line of each schedule, and its output in the cases in which the worker held the lease before actor 9 took
+/// it. The line lists the rows of the lease table. Actor 9, whose worker is w9, still holds the lease. The counter of
+/// the row is 2, since only the two commands that took the lease have changed the row.
 const ROWS: (&str, &str) = ("3000 raw 9 rows\n", "ok 1 1/0 w9 2 TRIM_HORIZON 1\n");
 
-/// The schedule of a case, and the expected beginning of its output.
+/// Returns the schedule of a case, and the expected beginning of the schedule's output.
 fn robbed(
     alloc: Global,
     steps: usize,
@@ -89,7 +93,7 @@ fn robbed(
     Ok((lines, out))
 }
 
-/// The audit of the journal that the schedule writes.
+/// Writes the journal of the schedule `lines`, and returns the result of an audit of this journal.
 fn audited(alloc: Global, lines: &str) -> Result<Left, Fail> {
     let journal = run_on(alloc, Run::Journal, lines.as_bytes(), 4096, &[], &[])?;
     let audit = run_on(alloc, Run::Audit, journal.out.held(), 4096, &[], &[])?;

@@ -1,8 +1,10 @@
-//! Tests of which texts are schedules, in pieces of any size, and of long inputs.
+//! Tests that check which texts are valid schedules (recorded workloads), and tests with long inputs and with inputs
+//! that are read in pieces of several sizes. Each line of a schedule is one request, one lease command, or one
+//! instruction to a worker.
 use crate::harness::{Row, Run, first_other, run_on};
 use std::test::Fail;
 
-/// The first path: a stream is made, and a record is put.
+/// A schedule that creates a stream and puts a record.
 pub const FIRST: Row = (
     r#"1000 api CreateStream {"StreamName":"s","ShardCount":1}
 1000 api PutRecord {"StreamName":"s","Data":"aGk=","PartitionKey":"a"}
@@ -17,7 +19,7 @@ pub const FIRST: Row = (
 /// A schedule without lines.
 const NOTHING: Row = ("", 0, "", "");
 
-/// A line with too few fields.
+/// A line with too few fields, so it isn't a schedule line.
 const NO_BODY: Row = (
     "1000 api CreateStream\n",
     3,
@@ -25,7 +27,7 @@ const NO_BODY: Row = (
     "line 1: not a schedule line\n",
 );
 
-/// A request for an operation that doesn't exist.
+/// A request for an operation that doesn't exist. This is a schedule line, and gets an error response.
 const NO_OPERATION: Row = (
     "1000 api Nothing \n",
     0,
@@ -33,7 +35,7 @@ const NO_OPERATION: Row = (
     "",
 );
 
-/// The third line isn't a schedule line.
+/// The third line isn't a schedule line. The run ends at this line.
 const BAD_LINE: Row = (
     r#"1000 api CreateStream {"StreamName":"s","ShardCount":1}
 1000 api PutRecord {"StreamName":"s","Data":"aGk=","PartitionKey":"a"}
@@ -47,7 +49,7 @@ x
     "line 3: not a schedule line\n",
 );
 
-/// The last line has no line feed.
+/// The last line has no line feed, so it isn't a schedule line.
 const NO_FEED: Row = (
     r#"1000 api CreateStream {"StreamName":"s","ShardCount":1}
 1000 api PutRecord {"StreamName":"s","Data":"aGk=","PartitionKey":"a"}"#,
@@ -89,7 +91,7 @@ fn a_run_ends_at_the_first_bad_line(rt: HostRuntime) -> Result<(), Fail> {
     Ok(())
 }
 
-/// The input is a line that is one byte longer than the limit.
+/// The input is one line that is one byte longer than the limit of 16,777,216 bytes.
 #[test]
 fn a_line_beyond_the_limit_ends_the_run(rt: HostRuntime) -> Result<(), Fail> {
     let alloc = rt.alloc();
@@ -100,8 +102,8 @@ fn a_line_beyond_the_limit_ends_the_run(rt: HostRuntime) -> Result<(), Fail> {
     Ok(())
 }
 
-/// The input has lines that cross the pieces in which it is read, and the output is longer than what is held back
-/// before a write.
+/// The input is read in pieces that end in the middle of a line. The output is longer than the 65,536 bytes of output
+/// that are collected before a write.
 #[test]
 fn lines_cross_the_pieces_that_are_read(rt: HostRuntime) -> Result<(), Fail> {
     let line = "1000 api Nothing \n";
@@ -122,7 +124,8 @@ fn lines_cross_the_pieces_that_are_read(rt: HostRuntime) -> Result<(), Fail> {
     Ok(())
 }
 
-/// Partition keys of 0, 256 and 257 characters of three bytes each: only the key of 256 characters is accepted.
+/// Partition keys of 0, 256 and 257 characters are tried, each character with three bytes. Only the key of 256
+/// characters is accepted.
 #[test]
 fn a_partition_key_has_1_to_256_characters(rt: HostRuntime) -> Result<(), Fail> {
     let alloc = rt.alloc();

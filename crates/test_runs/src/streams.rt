@@ -1,8 +1,9 @@
-//! Schedules with streams, shards and records, and what each of them writes.
+//! Tests of requests for streams, shards and records. The tests are schedules (recorded workloads) with their outputs.
+//! Each line of a schedule is one request, one lease command, or one instruction to a worker.
 use crate::harness::{Row, Run, first_other};
 use std::test::Fail;
 
-/// An iterator is made, and records are read with it, with and without a limit.
+/// A shard iterator is requested. Records are read with this iterator, without a limit and with a limit of one record.
 const ITERATORS: Row = (
     r#"1000 api CreateStream {"StreamName":"s","ShardCount":1}
 1000 api PutRecord {"StreamName":"s","Data":"aGk=","PartitionKey":"a"}
@@ -22,7 +23,7 @@ const ITERATORS: Row = (
     "",
 );
 
-/// An iterator is accepted for 300 seconds after it was made, and has expired one millisecond later.
+/// A shard iterator is accepted up to 300 seconds after it was issued. One millisecond later it has expired.
 const EXPIRY: Row = (
     r#"1000 api CreateStream {"StreamName":"s","ShardCount":1}
 302000 api GetRecords {"ShardIterator":"S0kxOjE6MDowOjIwMDA="}
@@ -36,7 +37,8 @@ const EXPIRY: Row = (
     "",
 );
 
-/// Iterators that the service spells otherwise are refused: with a leading zero, without padding, and an empty one.
+/// A shard iterator is refused if the service would have written it in another way. The first iterator has a position
+/// with a leading zero, the second iterator has no base64 padding, and the third iterator is empty.
 const SECOND_SPELLINGS: Row = (
     r#"1000 api CreateStream {"StreamName":"s","ShardCount":1}
 2000 api GetRecords {"ShardIterator":"S0kxOjE6MDowMDoyMDAw"}
@@ -52,7 +54,8 @@ const SECOND_SPELLINGS: Row = (
     "",
 );
 
-/// Iterators are made by sequence number, and at LATEST. An iterator is refused if its sequence number is out of range.
+/// Shard iterators are requested at a sequence number, after a sequence number, and at LATEST. A request is refused if
+/// its sequence number is out of range.
 const POSITIONS: Row = (
     r#"1000 api CreateStream {"StreamName":"s","ShardCount":1}
 1000 api PutRecord {"StreamName":"s","Data":"aGk=","PartitionKey":"a"}
@@ -76,8 +79,8 @@ const POSITIONS: Row = (
     "",
 );
 
-/// A record expires after the retention period. A longer retention period doesn't bring it back. A decrease to a
-/// greater number of hours is refused.
+/// A record expires after the retention period. A later increase of the retention period doesn't bring the record back.
+/// A decrease to more hours than the present retention period is refused.
 const RETENTION: Row = (
     r#"1000 api CreateStream {"StreamName":"s","ShardCount":1}
 1000 api PutRecord {"StreamName":"s","Data":"aGk=","PartitionKey":"a"}
@@ -99,7 +102,7 @@ const RETENTION: Row = (
     "",
 );
 
-/// Partition keys route records to two shards.
+/// The partition keys of the records decide which of two shards gets each record.
 const ROUTING: Row = (
     r#"1000 api CreateStream {"StreamName":"s","ShardCount":2}
 1000 api PutRecord {"StreamName":"s","Data":"","PartitionKey":"a"}
@@ -115,7 +118,8 @@ const ROUTING: Row = (
     "",
 );
 
-/// Explicit hash keys: the greatest one is accepted; one that is too great, and one with a leading zero, are refused.
+/// Records are put with explicit hash keys. The greatest hash key is accepted. A hash key that is too great, and one
+/// with a leading zero, are refused.
 const EXPLICIT_KEYS: Row = (
     r#"1000 api CreateStream {"StreamName":"s","ShardCount":2}
 1000 api PutRecord {"StreamName":"s","Data":"","PartitionKey":"a","ExplicitHashKey":"340282366920938463463374607431768211455"}
@@ -131,8 +135,8 @@ const EXPLICIT_KEYS: Row = (
     "",
 );
 
-/// A shard is split, the closed shard is read to its end, and the shards are listed in pages. The token of a page
-/// expires.
+/// A shard is split. A split at a hash key outside the shard's range is refused, and so is a split of the closed shard.
+/// The closed shard is read to its end. The shards are listed in pages, and the token for the next page expires.
 const SPLIT: Row = (
     r#"4000 api CreateStream {"StreamName":"s","ShardCount":1}
 4000 api SplitShard {"StreamName":"s","ShardToSplit":"shardId-000000000000","NewStartingHashKey":"170141183460469231731687303715884105728"}
@@ -178,7 +182,8 @@ const MERGE: Row = (
     "",
 );
 
-/// 500 shards are open, so a further stream is refused. A stream whose name is taken is refused because of the name.
+/// The first stream has 500 open shards, which is the limit, so another stream is refused. If the name of a new stream
+/// is in use, the stream is refused because of its name instead.
 const OPEN_SHARDS: Row = (
     r#"1000 api CreateStream {"StreamName":"s","ShardCount":500}
 1000 api CreateStream {"StreamName":"t","ShardCount":1}
@@ -192,7 +197,8 @@ const OPEN_SHARDS: Row = (
     "",
 );
 
-/// A stream is deleted. Its iterator then finds no stream, and its stream number isn't used again.
+/// A stream is deleted, and another stream of the same name is created. A shard iterator of the deleted stream finds no
+/// stream, because the number of the deleted stream isn't used again.
 const DELETED: Row = (
     r#"1000 api CreateStream {"StreamName":"s","ShardCount":1}
 1000 api PutRecord {"StreamName":"s","Data":"aGk=","PartitionKey":"a"}
@@ -214,7 +220,8 @@ const DELETED: Row = (
     "",
 );
 
-/// Iterators are made at the moment of a record's arrival, and after all records. The timestamp 1.5 is refused.
+/// Shard iterators are requested for the time at which a record arrived, and for a time after all records. The
+/// timestamp 1.5 is refused, since only whole seconds are accepted.
 const TIMES: Row = (
     r#"1000 api CreateStream {"StreamName":"s","ShardCount":1}
 1000 api PutRecord {"StreamName":"s","Data":"aGk=","PartitionKey":"a"}
@@ -234,7 +241,7 @@ const TIMES: Row = (
     "",
 );
 
-/// Several records are put by one request.
+/// Two records are put by one PutRecords request.
 const TOGETHER: Row = (
     r#"1000 api CreateStream {"StreamName":"s","ShardCount":1}
 1000 api PutRecord {"StreamName":"s","Data":"aGk=","PartitionKey":"a"}
@@ -248,7 +255,7 @@ const TOGETHER: Row = (
     "",
 );
 
-/// The shards of a stream are listed in pages.
+/// The shards of a stream are listed in two pages.
 const PAGES: Row = (
     r#"1000 api CreateStream {"StreamName":"s","ShardCount":2}
 2000 api ListShards {"StreamName":"s","MaxResults":1}
@@ -276,7 +283,7 @@ const SUMMARY: Row = (
     "",
 );
 
-/// The names of streams are listed in pages.
+/// The names of the streams are listed in two pages.
 const NAMES: Row = (
     r#"1000 api CreateStream {"StreamName":"b","ShardCount":1}
 1000 api CreateStream {"StreamName":"a","ShardCount":1}
@@ -292,8 +299,9 @@ const NAMES: Row = (
     "",
 );
 
-/// Two shards are scaled to three uniform ranges, by a merge and two splits. A second request for three shards changes
-/// nothing. Scaling beyond the limits, or of a stream that doesn't exist, is refused.
+/// A stream is scaled from two shards to three shards with uniform ranges, by a merge and two splits. A second request
+/// for three shards changes nothing. A scaling beyond the limits is refused, and so is a scaling of a stream that
+/// doesn't exist.
 const SCALING: Row = (
     r#"1000 api CreateStream {"StreamName":"s","ShardCount":2}
 1000 api UpdateShardCount {"StreamName":"s","TargetShardCount":3,"ScalingType":"UNIFORM_SCALING"}

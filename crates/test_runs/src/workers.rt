@@ -1,9 +1,11 @@
-//! Schedules with workers, and what each of them writes.
+//! Tests of workers. The tests are schedules (recorded workloads) with their outputs. Each line of a schedule is one
+//! request, one lease command, or one instruction to a worker. An actor is the number of a client or a worker that
+//! sends commands. The row of a lease is its item in the lease table.
 use crate::harness::{Row, Run, first_other};
 use std::test::Fail;
 
-/// A worker is restarted while the first one still runs. The restarted worker takes the row over, and the first one's
-/// mark is refused.
+/// The worker w1 is restarted as actor 1001 while it still runs as actor 1000. Actor 1001 takes the lease. Then the
+/// command `mark`, by which actor 1000 sets the checkpoint, is refused.
 const RESTART: Row = (
     r#"3000 api CreateStream {"StreamName":"s","ShardCount":1}
 3000 api PutRecord {"StreamName":"s","Data":"aGk=","PartitionKey":"a"}
@@ -49,7 +51,8 @@ none
     "",
 );
 
-/// The processor asks for a checkpoint at the first number of its batch. The worker's eleventh step makes this mark.
+/// The worker's processor asks for a checkpoint at the first sequence number of its batch. The worker's eleventh step
+/// sets this checkpoint.
 const FIRST_NUMBER: Row = (
     r#"3000 api CreateStream {"StreamName":"s","ShardCount":1}
 3000 api PutRecord {"StreamName":"s","Data":"aGk=","PartitionKey":"a"}
@@ -87,8 +90,9 @@ mark 1 1 1 = ok counter 2
     "",
 );
 
-/// The processor handles user records. The second record is an aggregate of two user records, and all user records but
-/// the last are done. So the worker's eleventh step marks the record before the aggregate.
+/// The worker's processor handles user records. The second record is an aggregate of two user records. The processor
+/// reports that all user records but the last are done. So the worker's eleventh step sets the checkpoint to the record
+/// before the aggregate.
 const USER_RECORDS: Row = (
     r#"3000 api CreateStream {"StreamName":"s","ShardCount":1}
 3000 api PutRecord {"StreamName":"s","Data":"aGk=","PartitionKey":"a"}
@@ -126,7 +130,8 @@ mark 1 1 1 = ok counter 2
     "",
 );
 
-/// A worker that is stopped frees its lease, and then is idle. A line for an actor without a worker prints `none`.
+/// A worker that is stopped frees its lease, and then is idle. A `stop` or `step` line for an actor without a worker
+/// prints `none`.
 const STOPPED: Row = (
     r#"3000 api CreateStream {"StreamName":"s","ShardCount":1}
 3000 api PutRecord {"StreamName":"s","Data":"aGk=","PartitionKey":"a"}
@@ -184,7 +189,8 @@ ok 1 1/0 - 2 TRIM_HORIZON 0
     "",
 );
 
-/// A worker whose rows begin at LATEST reads the records that are put after its row was made.
+/// A worker makes the rows of its leases with the initial position LATEST. So it reads only the records that are put
+/// after the row of their shard was made.
 const AT_LATEST: Row = (
     r#"3000 api CreateStream {"StreamName":"s","ShardCount":1}
 3000 api PutRecord {"StreamName":"s","Data":"aGk=","PartitionKey":"a"}

@@ -1,11 +1,12 @@
-//! Tests of audits of texts, line by line.
+//! Tests of audits that get the text of a journal line by line. An audit checks whether a journal, an event log, is
+//! valid.
 use kcl_audit::AuditTaker;
 use kds_base::{Memory, Octets};
 use kds_lines::Taker;
 use std::alloc::Global;
 use std::test::Fail;
 
-/// Returns the output of an audit of these lines.
+/// Returns the output of an audit of the journal with these lines.
 fn audit(alloc: Global, lines: &[&str]) -> Result<Octets, Memory> {
     let mut taker = AuditTaker::new(alloc);
     let mut out = Octets::new(alloc);
@@ -55,7 +56,7 @@ fn an_audit_tells_the_first_bad_entry(rt: HostRuntime) -> Result<(), Fail> {
             ] as &[&str],
             "entry 10 Lost\n",
         ),
-        // journals with a missing, wrong or repeated end
+        // In these journals the last line, `end CLOCK`, is missing, has a clock that is too small, or comes twice.
         ("nothing", &[] as &[&str], "entry 1 Form\n"),
         (
             "a heading alone",

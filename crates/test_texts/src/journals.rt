@@ -1,4 +1,4 @@
-//! Tests of the text of journals, against examples.
+//! Tests of reading and printing the lines of journals, with example lines. A journal is the event log of a schedule.
 ghost use Rattle.kcl_journal.specs.Entries.{IsVersion};
 
 use kcl_journal::{
@@ -8,8 +8,8 @@ use kds_base::{Memory, Octets};
 use std::alloc::Global;
 use std::test::Fail;
 
-/// The lines of a journal in which a worker's lease is stolen, and further lines, so that each kind of entry occurs.
-const LINES: [&str; 22] = [
+/// The entries of a journal in which a worker's lease is stolen, and more entries, so that every kind of entry occurs.
+const LINES: [&str; 23] = [
     "1000 0 made 1 s 1",
     "2000 0 put 1 0 1 16955237001963240173058271559858726497 2 1",
     "2000 0 put 1 0 2 16955237001963240173058271559858726497 2 1",
@@ -25,6 +25,7 @@ const LINES: [&str; 22] = [
     "2000 0 kept 2 8760",
     "2000 0 enforced 2 on",
     "2000 0 enforced 2 off",
+    "2000 0 gone 2",
     "3000 999 lease 1/0 latest",
     "3000 1000 lease 1/0 time 4611686018427387903",
     "3000 4294967295 renewed 1 18446744073709551615",
@@ -34,7 +35,7 @@ const LINES: [&str; 22] = [
     "4611686018427387903 1 cut 1/0 5",
 ];
 
-/// Texts that aren't entries of the journal's second version.
+/// Texts that aren't entries in the second version of the journal format.
 const OTHERS: [&str; 13] = [
     "journal 2",
     "end 3000",
@@ -51,8 +52,8 @@ const OTHERS: [&str; 13] = [
     "1000 0 gone 1 ",
 ];
 
-/// Reads a text as an entry and prints that entry again. The inner `None` means that the text isn't an entry of this
-/// version.
+/// Parses `text` as an entry in this version of the journal format, and prints the entry again. The result is
+/// `Ok(None)` if the text isn't such an entry.
 fn again(alloc: Global, text: &[u8], version: u8) -> Result<Option<Octets>, Memory>
     requires { IsVersion version }
 {

@@ -1,6 +1,6 @@
-//! Tests of texts, for behavior that no schedule reaches: the texts of schedules and journals, of recorders, scribes
-//! and audits, and the words of the command line. The tests are in a crate of their own, so that no tested crate is
-//! proved a second time beside its tests.
+//! Tests of behavior that no schedule reaches. They test the texts of schedules and journals, the turns that a run of a
+//! schedule keeps, scribes (which compute the entries of journals), audits, and the words of the command line. A crate
+//! with tests is proved a second time together with its tests. So these tests are in a crate of their own.
 #![tactic(auto)]
 
 #[cfg(test)]

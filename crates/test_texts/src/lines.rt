@@ -1,4 +1,4 @@
-//! Tests of the text of a schedule's lines, which no run prints.
+//! Tests of printing the lines of a schedule. No run of a schedule prints these lines.
 
 use kcl_script::{print_line, read_line};
 use kcl_script_fields::print_command;
@@ -30,7 +30,7 @@ const LINES: [&str; 20] = [
     "3000 hand 1000 1/0",
 ];
 
-/// Reads a text as a line of a schedule and prints that line again. The inner `None` means that the text isn't such a
+/// Parses `text` as a line of a schedule, and prints the line again. The result is `Ok(None)` if the text isn't such a
 /// line.
 fn again(alloc: Global, text: &[u8]) -> Result<Option<Octets>, Memory> {
     kcl_script::one_spelling();

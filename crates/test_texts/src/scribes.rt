@@ -1,4 +1,5 @@
-//! Tests of the text of a scribe's lines.
+//! Tests of the journal entries that a scribe makes. A scribe computes the entries that each turn adds to a journal,
+//! the event log of a run. A turn is one command with its sender and its time.
 use kcl_journal::{EntryLine, print_entry};
 use kcl_sim_scribe::Scribe;
 use kds_base::{Items, Memory, Moment, Name, Octets};
@@ -6,7 +7,7 @@ use kds_defs::{Answer, Command, Reply, Turn};
 use std::alloc::Global;
 use std::test::Fail;
 
-/// Returns the entries that a new scribe writes when a stream is made.
+/// Returns the journal entries that a new scribe makes for the turn that creates the stream `name` with one shard.
 fn made(alloc: Global, name: Name) -> Result<Items<EntryLine>, Memory> {
     let mut scribe = Scribe::new(alloc);
     let turn = Turn::request(Moment::start(), Command::Create { name, shards: 1 });

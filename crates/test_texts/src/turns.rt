@@ -1,4 +1,4 @@
-//! The turns that a run keeps.
+//! Tests of the turns that a run of a schedule keeps. A turn is one command with its sender and its time.
 ghost use Rattle.std.specs.Prelude.{[]};
 
 use kcl_sim::Sim;
@@ -9,7 +9,7 @@ use kds_lines::Taker;
 use std::alloc::Global;
 use std::test::Fail;
 
-/// A robbed lease.
+/// A schedule in which the worker w2 takes a lease away from the worker w1.
 const ROBBED: [&str; 11] = [
     r#"1000 api CreateStream {"StreamName":"s","ShardCount":1}"#,
     r#"1000 api PutRecord {"StreamName":"s","Data":"aGk=","PartitionKey":"a"}"#,
@@ -24,7 +24,8 @@ const ROBBED: [&str; 11] = [
     "3000 raw 1 mark 1 1 2",
 ];
 
-/// A worker whose lease is handed off by one line, once its processor has the batch: three turns.
+/// A schedule in which a worker's processor gets a batch, and whose last line then hands off this worker's lease. The
+/// last line makes three turns.
 const HANDED: [&str; 13] = [
     r#"1000 api CreateStream {"StreamName":"s","ShardCount":1}"#,
     r#"1000 api PutRecord {"StreamName":"s","Data":"aGk=","PartitionKey":"a"}"#,
@@ -41,7 +42,8 @@ const HANDED: [&str; 13] = [
     "3000 hand 1000 1/0",
 ];
 
-/// The clock of a run of these lines over a new machine, and how many turns it has kept.
+/// Runs the lines on the new machine `machine`, up to the first line that isn't a schedule line. Returns the greatest
+/// time of the turns, in milliseconds, and the number of turns that the run has kept.
 fn run<M: Machine + Drop>(alloc: Global, machine: M, lines: &[&str]) -> Result<(u64, usize), Memory>
     requires { M.stands_for machine [] }
 {

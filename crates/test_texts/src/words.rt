@@ -1,9 +1,10 @@
-//! Tests of the words of the command line: which words ask for which task.
+//! Tests of which words on the command line ask for which task.
 use kds_cli_words::{Task, find_task};
 use std::alloc::Global;
 use std::test::Fail;
 
-/// Command lines for each task, with the least and the greatest numbers allowed.
+/// Command lines that ask for each of the tasks. Each number in these lines is the least or the greatest number that is
+/// allowed.
 const TASKS: [(&str, Task); 8] = [
     ("replay", Task::Replay { journal: false }),
     ("replay --journal", Task::Replay { journal: true }),

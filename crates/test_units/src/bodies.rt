@@ -1,4 +1,5 @@
-//! Tests of which bodies are JSON (RFC 8259), and of which member counts if two have the same name.
+//! Tests of request bodies: which bodies are accepted as JSON (RFC 8259), and which member counts if several members of
+//! a JSON object have the same name.
 use kds_base::{Memory, Octets};
 use kds_defs::Command;
 use kds_json::ask;
@@ -6,7 +7,8 @@ use kds_json_members::FaultKind;
 use std::alloc::Global;
 use std::test::Fail;
 
-/// Returns the stream name that DeleteStream takes from a body, or the kind of the body's fault.
+/// Reads `body` as the body of a DeleteStream request. Returns the stream's name or, if the body is refused, the kind
+/// of its fault.
 fn named(alloc: Global, body: &[u8]) -> Result<Result<Octets, FaultKind>, Memory> {
     match ask(alloc, b"DeleteStream".as_slice(), body)? {
         Ok(Command::Delete { name }) => Ok(Ok(Octets::of(alloc, name.bytes())?)),
@@ -15,8 +17,8 @@ fn named(alloc: Global, body: &[u8]) -> Result<Result<Octets, FaultKind>, Memory
     }
 }
 
-/// Whether a body is accepted that names a stream and has `value` as a second member. `Some(false)` means that the
-/// fault is `Serialization`, and `None` means any other result.
+/// Makes a body with a stream name and a second member whose value is `value`. Returns `Some(true)` if the body is
+/// accepted, `Some(false)` if it is refused with the fault `Serialization`, and `None` for any other result.
 fn is_read(alloc: Global, value: &[u8]) -> Result<Option<bool>, Memory> {
     let mut body = Octets::of(alloc, b"{\"StreamName\":\"s\",\"x\":".as_slice())?;
     body.extend(value)?;
@@ -97,8 +99,8 @@ fn a_value_is_read_exactly_if_it_is_json(rt: HostRuntime) -> Result<(), Fail> {
     Ok(())
 }
 
-/// A body is a single object. If several members have the same name, the last of them counts, even if it is null or of
-/// another kind.
+/// A body is a single JSON object. If several of its members have the same name, the last one counts, even if its value
+/// is null or has the wrong type.
 #[test]
 fn the_last_member_of_a_name_counts(rt: HostRuntime) -> Result<(), Fail> {
     let cases: [(&str, Result<&str, FaultKind>); 22] = [
@@ -151,7 +153,7 @@ fn the_last_member_of_a_name_counts(rt: HostRuntime) -> Result<(), Fail> {
     Ok(())
 }
 
-/// A value with bytes that aren't UTF-8 is refused, wherever these bytes are in the body.
+/// A value with bytes that aren't UTF-8 is refused, whether these bytes are inside or outside a JSON string.
 #[test]
 fn bytes_that_are_no_text_are_no_value(rt: HostRuntime) -> Result<(), Fail> {
     let cases: [(&[u8], bool); 5] = [
@@ -168,7 +170,7 @@ fn bytes_that_are_no_text_are_no_value(rt: HostRuntime) -> Result<(), Fail> {
     Ok(())
 }
 
-/// A body with nested arrays or nested objects is accepted up to 127 levels, of which the body itself is the first.
+/// A body may have at most 127 levels of nested arrays or objects. The body itself is the first level.
 #[test]
 fn a_body_has_at_most_127_levels(rt: HostRuntime) -> Result<(), Fail> {
     for (open, close) in [("[", "]"), ("{\"a\":", "}")] {

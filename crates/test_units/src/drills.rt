@@ -1,9 +1,9 @@
-//! A test of the first commands of a drill.
+//! A test of the generator of a drill. A drill is a self-test, and its generator makes the commands of the test.
 use kcl_drill::generate;
 use kds_defs::Command;
 use std::test::Fail;
 
-/// A drill of one record has two commands: it creates the stream, and then puts the record.
+/// The generator of a drill with one record returns two commands: one creates the stream, and one puts the record.
 #[test]
 fn one_record(rt: HostRuntime) -> Result<(), Fail> {
     let mut generator = generate(rt.alloc(), 7, 1);

@@ -1,4 +1,4 @@
-//! Tests of the inputs, outputs and clocks of the operating system, for behavior that no contract states.
+//! Tests of the inputs, outputs, sockets and clocks of the operating system, for behavior that no contract states.
 use kds_ends::{Clock, Door, Sink, Source, StdSink, StdSource, SystemClock, TcpDoor, write_all};
 use std::io;
 use std::io::{Read, Write};
@@ -8,13 +8,13 @@ use std::sync::atomic::{AtomicU32, Ordering};
 use std::test::Fail;
 use std::time::Duration;
 
-/// Returns a TCP port that is free.
+/// Returns a TCP port of the local machine that no socket uses.
 fn free_port(rt: &HostRuntime) -> Result<u16, Fail> {
     let listener = TcpListener::bind(rt, "127.0.0.1:0")?;
     Ok(listener.local_addr()?.port())
 }
 
-/// Bytes pass in both directions through a TCP connection of this process with itself.
+/// A door is a listening socket. The test listens and connects in the same process, and sends bytes in both directions.
 #[test]
 fn a_door_listens_over_tcp(rt: HostRuntime) -> Result<(), Fail> {
     let port = free_port(&rt)?;
@@ -35,7 +35,7 @@ fn a_door_listens_over_tcp(rt: HostRuntime) -> Result<(), Fail> {
     Ok(())
 }
 
-/// A reader whose first call returns one byte, and whose later calls fail.
+/// A reader that returns one byte at its first call, and fails at each later call.
 #[derive(Drop)]
 struct FailingReader {
     calls: u32,
@@ -52,7 +52,7 @@ impl Read for FailingReader {
     }
 }
 
-/// The failure of a reader isn't taken for the end of the input.
+/// If a reader fails, the source (the input) that reads from it reports an error, and not the end of the input.
 #[test]
 fn failing_reader(rt: HostRuntime) -> Result<(), Fail> {
     let mut source = StdSource::new(FailingReader { calls: 0 });
@@ -63,8 +63,8 @@ fn failing_reader(rt: HostRuntime) -> Result<(), Fail> {
     Ok(())
 }
 
-/// A writer that accepts two bytes at its first call and no bytes at its second, and that fails from its third call
-/// on.
+/// A writer that accepts at most two bytes at its first call, accepts no bytes at its second call, and fails at each
+/// later call.
 #[derive(Drop)]
 struct FailingWriter {
     calls: u32,
@@ -85,7 +85,7 @@ impl Write for FailingWriter {
     }
 }
 
-/// A write fails if the writer accepts no bytes or returns an error.
+/// A write to a sink (an output) fails if the sink's writer accepts no bytes or returns an error.
 #[test]
 fn failing_writer(rt: HostRuntime) -> Result<(), Fail> {
     let mut sink = StdSink::new(FailingWriter { calls: 0 });
@@ -95,7 +95,8 @@ fn failing_writer(rt: HostRuntime) -> Result<(), Fail> {
     Ok(())
 }
 
-/// A timer that returns 5 ms at its first call, fails at its second, and returns 7 ms from its third on.
+/// A timer that returns the time 5 ms at its first call, fails at its second call, and returns the time 7 ms at each
+/// later call.
 #[derive(Drop)]
 struct FailingTimer {
     calls: AtomicU32,
@@ -115,7 +116,8 @@ impl Timer for FailingTimer {
     }
 }
 
-/// A clock asks the operating system at each call. If that fails, the clock returns its last moment again.
+/// Each call of a clock's `now` asks the timer for the time. If the timer fails, `now` returns the same moment as in
+/// the previous call.
 #[test]
 fn failing_timer(rt: HostRuntime) {
     let mut clock = SystemClock::new(FailingTimer {

@@ -1,9 +1,11 @@
-//! Tests of request heads at the limits of the table of statuses, and of the text of responses.
+//! Tests of the heads of HTTP requests, including heads at and beyond the limits of the service, and tests of the text
+//! of responses.
 use kds_base::Octets;
 use kds_head::{Found, head, response};
 use std::test::Fail;
 
-/// Returns the status of a finding, with 0 for a head that needs more bytes and 200 for a whole head.
+/// Returns a status: the HTTP status of the refusal if the head is refused, 0 if the head needs more bytes, and 200 if
+/// the head is complete and accepted.
 fn status(found: &Found) -> u16 {
     match found {
         Found::Need => 0,

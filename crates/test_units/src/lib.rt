@@ -1,6 +1,6 @@
-//! Tests of behavior that no schedule reaches. Each test is of one crate: first numbers, logs, trees, tokens, JSON
-//! bodies, inputs and outputs, and request heads, and then the parts of workers and drills. The tests are in a crate
-//! of their own, so that no tested crate is proved a second time beside its tests.
+//! Unit tests for behavior that no schedule (a recorded workload) can show. Each test is of one crate. The tests come
+//! in this order: numbers, logs, shard trees, tokens, JSON bodies, inputs and outputs, request heads, and the parts of
+//! workers and of drills (self-tests). The tests are in a crate of their own, since a crate with tests is proved twice.
 #![tactic(auto)]
 
 #[cfg(test)]

@@ -1,4 +1,4 @@
-//! Tests of a shard's log: its batches, a trim, and a record in reserved memory.
+//! Tests of a shard's log: reading batches, trimming records, and appending a record to reserved memory.
 ghost use Rattle.std.specs.Prelude.{◌≡◌, ◌<◌};
 
 use kds_base::{Memory, Moment, Octets, Seq};
@@ -17,7 +17,8 @@ fn moment(ms: u64) -> Moment
     }
 }
 
-/// Returns a log with record 1, which arrived at 1000 ms, and record 2, which arrived at 1001 ms.
+/// Returns a log of two records. The record with the sequence number 1 arrived at 1000 ms, and the record with the
+/// number 2 arrived at 1001 ms.
 fn two_records(alloc: Global) -> Result<ShardLog, Memory> {
     let mut log = ShardLog::new(alloc, Seq(1));
     log.append(Stored {

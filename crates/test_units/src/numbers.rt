@@ -1,4 +1,4 @@
-//! Tests of hash-key ranges, of the hashes of partition keys, and of the texts of numbers.
+//! Tests of hash-key ranges, of the hashes of partition keys, and of numbers as decimal text.
 use kds_base::{Octets, Range, hash_of, read_u64, read_u128, write_u128};
 use std::test::Fail;
 
@@ -33,7 +33,7 @@ fn splits_and_joins(rt: HostRuntime) -> Result<(), Fail> {
     Ok(())
 }
 
-/// The MD5 test suite of RFC 1321, section A.5.
+/// Checks the hashes of four partition keys, which are strings from the MD5 test suite (RFC 1321, section A.5).
 #[test]
 fn hashes_of_the_standard(rt: HostRuntime) -> Result<(), Fail> {
     let vectors: [(&str, u128); 4] = [

@@ -1,4 +1,4 @@
-//! Tests of what ready-made processors keep of two batches, and which checkpoints they ask for.
+//! A test of the ready-made processors: what they keep of two batches, and which checkpoint they ask for.
 use crate::rows::key;
 use kcl_consumer::{Maker, Processor};
 use kcl_defs::Ask;

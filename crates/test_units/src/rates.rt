@@ -1,4 +1,4 @@
-//! Tests of how much a shard accepts within a second.
+//! A test of how many bytes a shard accepts within one second.
 use kds_base::Moment;
 use kds_rate::Window;
 

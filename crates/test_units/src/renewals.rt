@@ -1,4 +1,4 @@
-//! Tests of when a lease is due for renewal.
+//! A test of when a worker must renew a lease.
 use crate::rows::key;
 use kcl_defs::Held;
 use kcl_renew::due;

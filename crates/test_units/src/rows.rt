@@ -1,4 +1,4 @@
-//! Keys and rows of leases for the tests, all for shards of stream 1.
+//! Lease keys and rows of the lease table, for use in tests. All of them are for shards of stream 1.
 use kds_base::{Checkpoint, Seq, ShardNo, ShardRef, StreamNo, TenureNo, WorkerNo};
 use kds_defs::Row;
 
@@ -10,8 +10,9 @@ pub fn key(shard: u64) -> ShardRef {
     }
 }
 
-/// Returns a row that begins at the trim horizon. It has no owner, or the owner `owner` and a tenure of the same
-/// number.
+/// Returns a row of the lease table whose checkpoint is the trim horizon. If `owner` is `None`, no worker owns the row.
+/// Otherwise the worker `owner` owns the row, and the number of the row's tenure (this worker's hold on the lease) is
+/// also `owner`.
 pub fn row(shard: u64, owner: Option<u32>, counter: u64) -> Row {
     Row {
         key: key(shard),

@@ -1,4 +1,4 @@
-//! Tests of the steps of a scaling to three ranges.
+//! Tests of the merges and splits that scale a stream to three shards with uniform hash-key ranges.
 use kds_defs::ScaleStep;
 use kds_scale::plan;
 use std::test::Fail;

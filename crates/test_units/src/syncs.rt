@@ -1,4 +1,5 @@
-//! A test of a sync plan: one listed shard has no row, and one row's shard isn't listed.
+//! A test of the sync plan, by which a worker makes and removes rows of the lease table. A shard is listed if
+//! ListShards returns it. In the test, one listed shard has no row, and one row is for a shard that isn't listed.
 use crate::rows::{key, row};
 use kcl_defs::SyncStep;
 use kcl_sync::plan;
@@ -6,7 +7,7 @@ use kds_base::Items;
 use kds_defs::Origin;
 use std::test::Fail;
 
-/// Returns the sync plan if the shards 0 and 2 are listed and the shards 0 and 1 have rows.
+/// Returns the sync plan for the listed shards 0 and 2 and for a lease table with rows for the shards 0 and 1.
 fn steps_from(rt: &HostRuntime, from: &Origin) -> Result<Items<SyncStep>, Fail> {
     Ok(plan(
         rt.alloc(),

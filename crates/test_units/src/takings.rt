@@ -1,4 +1,5 @@
-//! Tests of take plans: what is stolen if one worker owns five rows or two workers own six, and when a row is expired.
+//! Tests of the take plan, by which a worker chooses the leases that it takes. The tests are about which lease a worker
+//! steals from another worker that has too many leases, and about when a lease counts as expired.
 use crate::rows::{key, row};
 use kcl_defs::{Held, TakeStep};
 use kcl_take::{Observed, plan};
@@ -9,8 +10,8 @@ fn moment(ms: u64) -> Result<Moment, Fail> {
     Ok(Moment::new(ms).ok_or("a moment")?)
 }
 
-/// Returns the take plan of the worker w1 if the rows have these owners; 0 means that the row doesn't exist. The
-/// worker has just seen all rows, and holds the leases of the rows that it owns.
+/// Returns the take plan of worker 1. `owners[i]` is the worker that owns the lease of shard i, or 0 if there is no
+/// such lease. Worker 1 has just seen all leases, and holds those that it owns.
 fn taken(rt: &HostRuntime, owners: [u32; 6]) -> Result<Vec<TakeStep>, Fail> {
     let now = moment(3000)?;
     let mut rows = Vec::new(rt.alloc());

@@ -1,4 +1,4 @@
-//! Tests of the tokens of shard iterators: how they are written, and how they are read.
+//! A test of the tokens of shard iterators: how a token is written, and how it is read.
 use kds_base::{Moment, ShardNo, StreamNo};
 use kds_defs::Iter;
 use kds_token::{read_iter, write_iter};
@@ -14,9 +14,9 @@ fn texts_of_iterators(rt: HostRuntime) -> Result<(), Fail> {
     });
     let cases = [
         ("S0kxOjE6MDozOjIwMDA=", iter),
-        // KI1:1:0:0:4611686018427387904
+        // Base64 of `KI1:1:0:0:4611686018427387904`: the time of issue, 2^62 ms, is above the greatest moment
         ("S0kxOjE6MDowOjQ2MTE2ODYwMTg0MjczODc5MDQ=", None),
-        // KI1:18446744073709551616:0:0:0
+        // Base64 of `KI1:18446744073709551616:0:0:0`: the stream's number, 2^64, is above the greatest `u64`
         ("S0kxOjE4NDQ2NzQ0MDczNzA5NTUxNjE2OjA6MDow", None),
     ];
     for (text, want) in cases {

@@ -1,4 +1,4 @@
-//! Tests of the shards of a stream after a split and after a merge.
+//! Tests of the shards of a stream: after a shard was split, and after two shards were merged.
 use kds_base::{Moment, Seq, ShardNo};
 use kds_defs::Refusal;
 use kds_tree::ShardTree;

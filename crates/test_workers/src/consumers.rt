@@ -1,4 +1,4 @@
-//! A test of a processor whose calls run out of memory once: the same call stays due until it succeeds.
+//! A test of a consumer whose processor runs out of memory once per call. The same call stays due until it succeeds.
 use kcl_consumer::{Ahead, Consumer, Due, Processor};
 use kcl_defs::Ask;
 use kds_base::{
@@ -8,7 +8,8 @@ use kds_defs::{Command, Reply, Stored, Target};
 use std::process::Abort;
 use std::test::Fail;
 
-/// A processor that refuses its first call and then every other call, and counts the calls that it granted.
+/// A processor that runs out of memory at its first, third, fifth call and so on. `granted` is the number of the other
+/// calls, which succeed.
 #[derive(Drop)]
 struct Refusing {
     refused: bool,
@@ -49,7 +50,8 @@ impl Processor for Refusing {
     }
 }
 
-/// Checks that the call `wanted` is due, makes it, and sees it refused; then the call is due again, and is granted.
+/// Makes the processor call `wanted` twice: the first attempt runs out of memory, and the second succeeds. Checks
+/// before each attempt that this call is due.
 fn refused_and_granted(rt: &impl Abort, c: &mut Consumer<Refusing>, wanted: Due) {
     for granted in [false, true] {
         let due = c.due();
@@ -59,7 +61,7 @@ fn refused_and_granted(rt: &impl Abort, c: &mut Consumer<Refusing>, wanted: Due)
     }
 }
 
-/// Returns the consumer's next command.
+/// Returns the consumer's next command. First checks that no processor call is due and that the consumer hasn't ended.
 fn asked(rt: &impl Abort, c: &Consumer<Refusing>) -> Command {
     assert!(rt; c.due().is_none());
     assert!(rt; c.over().is_none());

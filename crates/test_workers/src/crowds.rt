@@ -1,4 +1,4 @@
-//! A test that the workers of a drill's crowd run concurrently.
+//! A test that the workers of a drill run concurrently. A drill is a self-test, and its threads are called its crowd.
 
 use crate::meeting::member;
 use kcl_defs::Due;

@@ -1,5 +1,5 @@
-//! A test that a gate is called with the right worker and the right processor call, right before that call begins and
-//! right after it has returned.
+//! A test of a gate, which is a hook that is called right before and right after each processor call of a worker. Each
+//! time, the arguments of the gate must be the right worker and the right processor call.
 ghost use Rattle.std.specs.Prelude.{◌≡◌};
 
 use crate::crews::prepare;
@@ -15,14 +15,14 @@ use std::alloc::Global;
 use std::sync::atomic::{AtomicU64, Ordering};
 use std::test::Fail;
 
-/// The processor calls made so far: their number, and the code of the last call.
+/// The processor calls that were made so far: their number, and the code of the last call (see `code`).
 #[derive(Drop)]
 struct Calls {
     count: AtomicU64,
     last: AtomicU64,
 }
 
-/// Returns the code of a processor call.
+/// Returns the code by which `Calls` stores the kind of a processor call.
 fn code(call: Due) -> u64 {
     match call {
         Due::Initialize => 1,
@@ -32,7 +32,7 @@ fn code(call: Due) -> u64 {
     }
 }
 
-/// A processor that notes each of its calls in `calls`.
+/// A processor that records each of its calls in `calls`.
 #[derive(Drop)]
 struct Counting<'a> {
     calls: &'a Calls,
@@ -71,7 +71,7 @@ impl<'a> Processor for Counting<'a> {
     }
 }
 
-/// Makes processors that note their calls in the same `calls`.
+/// A maker of processors. All processors that it makes record their calls in the same `calls`.
 #[derive(Drop)]
 struct Counters<'a> {
     calls: &'a Calls,
@@ -85,14 +85,15 @@ impl<'a> Maker<Counting<'a>> for Counters<'a> {
     }
 }
 
-/// A gate that checks at each of its calls whether the processor was already called, and whether the worker and the
-/// processor call are the right ones.
+/// A gate that checks whether it gets the right worker and the right processor call. In `before`, the gate also checks
+/// that this processor call wasn't made yet. In `after`, it checks that the call was made. After a failed check,
+/// `is_right` is false.
 #[derive(Drop)]
 struct Looking<'a> {
     calls: &'a Calls,
     worker: WorkerNo,
     told: u64,
-    /// The processor call between the gate's `before` and `after`, if there is such a call.
+    /// The processor call for which `before` was called but `after` wasn't called yet, if there is such a call.
     open: Option<Due>,
     is_right: bool,
 }
@@ -151,8 +152,9 @@ fn gate_is_told_before_and_after(rt: HostRuntime) -> Result<(), Fail> {
         Ok(())
     );
     assert!(rt; gate.is_right);
-    // The worker has two shards. For each shard, its processor is called when the tenure begins, with the shard's
-    // record, and when the stopped worker gives up the lease.
+    // The worker reads two shards. For each shard, the processor is called when the worker has taken the lease, then
+    // with the shard's record, and then when the stopped worker gives up the lease. The test only requires at least
+    // four calls.
     assert!(rt; gate.told >= 4);
     Ok(())
 }

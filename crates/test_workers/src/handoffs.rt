@@ -1,4 +1,5 @@
-//! A test of the hand-off of a lease through a pass of a hall.
+//! A test of the graceful hand-off of a lease. The worker sends its commands to a machine through a hall, the lock
+//! around the machine. A pass is the right to send commands through the hall. Each such command is a turn.
 ghost use Rattle.std.specs.Prelude.{◌≡◌, [], None, true};
 
 use crate::crews::request;
@@ -14,8 +15,8 @@ use kds_turn::{Hall, Pass, TurnErr};
 use std::sync::Wait;
 use std::test::Fail;
 
-/// Makes the processor call that is due, if a call is due. A worker of one shard has at most one call due. Returns
-/// whether the call succeeded.
+/// Makes the processor call that is due, if a call is due. A worker with one shard has at most one call due. Returns
+/// `false` if the call failed, and otherwise `true`.
 fn call_due(worker: &mut Worker<Stock, Kind>) -> bool
     requires free { worker.old.waiting ≡ None }
     ensures free { worker.new.waiting ≡ None }
@@ -26,8 +27,8 @@ fn call_due(worker: &mut Worker<Stock, Kind>) -> bool
     }
 }
 
-/// Makes one step of a worker: the processor call that is due, and then a command as a turn of the pass. Returns
-/// whether both succeeded.
+/// Makes one step of a worker: makes the processor call that is due, if a call is due, and sends the worker's next
+/// command with the pass. The worker then updates its state with the answer. Returns whether all of this succeeded.
 fn worker_step<M: Machine, R: Wait>(
     rt: &R,
     hall: &Hall<M>,
@@ -50,7 +51,7 @@ fn worker_step<M: Machine, R: Wait>(
     }
 }
 
-/// Returns the number of records that a Tally was handed.
+/// Returns the number of records that the processor has received. The processor must be a `Tally`, which counts them.
 fn records(processor: &Stock) -> u64 {
     match processor {
         Stock::Tally(tally) => tally.records(),
@@ -58,8 +59,8 @@ fn records(processor: &Stock) -> u64 {
     }
 }
 
-/// Hands off the worker's lease of `key`. Returns how the hand-off ended, and the number of records that its processor
-/// was handed.
+/// Hands off the worker's lease of the shard `key`. Returns how the hand-off ended, and the number of records that the
+/// lease's processor has received. Returns `None` if the worker has no such lease.
 fn hand_off<M: Machine, R: Wait>(
     rt: &R,
     hall: &Hall<M>,
@@ -80,7 +81,7 @@ fn hand_off<M: Machine, R: Wait>(
     }
 }
 
-/// Returns the number of turns that were made at the hall by its two passes.
+/// Closes the hall. Returns the number of turns, which are the commands that its two passes have sent.
 fn turns_of<M: Machine + Drop>(hall: Hall<M>, first: Pass<M>, second: Pass<M>) -> u64
     requires hall { (first.hall ≡ hall.id) × (second.hall ≡ hall.id) × (hall.passes ≡ 2) }
     requires passes { (first.by ≡ 1) × (first.joined ≡ []) × (second.by ≡ 2) }
@@ -122,7 +123,7 @@ fn a_lease_is_handed_off(rt: HostRuntime) -> Result<(), Fail> {
         hand_off(&rt, &hall, &mut first, &mut worker, key, at),
         Ok(None)
     );
-    // three requests, ten steps of the worker, and the Mark and the Free of the hand-off
+    // three requests, ten steps of the worker, and the two commands of the hand-off: Mark and Free
     assert_eq!(rt; turns_of(hall, first, second), 3 + 10 + 2);
     Ok(())
 }

@@ -1,7 +1,8 @@
-//! Tests of consumers, of workers, and of workers on threads, for behavior that no schedule reaches: which call or
-//! answer is due again after memory ran out, that the workers of a crew and those of a drill's crowd run concurrently,
-//! that a gate is called before and after a processor call, and that a pass hands off a lease. The tests are in a
-//! crate of their own, so that no tested crate is proved a second time beside its tests.
+//! Tests of consumers and workers, for behavior that no schedule (a recorded workload) can show. If memory runs out in
+//! a processor call, the same call is due again. If memory runs out while a worker handles an answer, the worker can
+//! get the same answer again. The workers of a crew (workers on threads) run concurrently, and so do the workers of a
+//! drill (a self-test). A gate, which is a hook, is called before and after each processor call. A worker hands off a
+//! lease. The tests are in a crate of their own, since a crate with tests is proved twice.
 #![tactic(auto)]
 
 #[cfg(test)]

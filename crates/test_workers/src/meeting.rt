@@ -1,5 +1,6 @@
-//! Workers that wait for one another: a gate holds its worker's first processor call of a kind until the other
-//! worker's first call of that kind has begun.
+//! Workers that wait for one another, which works only if they run concurrently. Each worker has a gate, a hook that is
+//! called before each processor call of this worker. Before the worker's first call of a certain kind, the gate waits
+//! until another worker has come to its first call of the same kind. A crew is a group of workers on threads.
 ghost use Rattle.std.specs.Prelude.{◌≡◌, ◌≤◌, []};
 ghost use Rattle.kcl_live.specs.Members.{IsReady};
 ghost use Rattle.kcl_proc.specs.Stocks.{StandsFor};
@@ -15,11 +16,12 @@ use std::alloc::Global;
 use std::sync::atomic::{AtomicU64, Ordering};
 use std::thread::yield_now;
 
-/// How many times, at most, a gate checks whether the other worker's call has begun.
+/// The most times that a gate checks whether the other worker has come to its call.
 const LOOKS: u32 = 100_000_000;
 
-/// A gate that holds its worker's first call of the kind `held` until the other worker's first call of that kind has
-/// begun.
+/// A gate that waits before its worker's first processor call of the kind `held`, until the other worker has come to
+/// its first call of this kind. If the other worker hasn't come after `LOOKS` checks, the gate stops waiting, and
+/// `has_met` stays false.
 #[derive(Drop)]
 pub struct Meeting<'a> {
     held: Due,
@@ -46,8 +48,9 @@ impl<'a> Gate for Meeting<'a> {
     fn after(&mut self, _worker: WorkerNo, _due: Due) {}
 }
 
-/// Returns a member of a crew: a worker whose processors count records, its pass, and a gate that holds its first call
-/// of the kind `held`.
+/// Returns a member of a crew. A member consists of a worker whose processors count records, the worker's pass (its
+/// right to send commands to the machine), and a gate that waits before the worker's first processor call of the kind
+/// `held`.
 pub fn member<'a, M: Machine>(
     alloc: Global,
     hall: &Hall<M>,

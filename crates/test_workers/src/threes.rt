@@ -1,4 +1,5 @@
-//! A test that a crew of three workers has a thread for each worker: the three wait for one another in a ring.
+//! A test that a crew (a group of workers on threads) runs each of three workers on a thread of its own. Worker 1 waits
+//! for worker 2, worker 2 waits for worker 3, and worker 3 waits for worker 1.
 ghost use Rattle.std.specs.Prelude.{◌≡◌};
 
 use crate::crews::request;
@@ -13,8 +14,8 @@ use std::sync::Wait;
 use std::sync::atomic::AtomicU64;
 use std::test::Fail;
 
-/// Makes a stream of three shards, and puts a record into each shard: at the hash key 0, at the middle hash key and at
-/// the greatest.
+/// Creates a stream of three shards, and puts a record into each shard. The hash keys of the records are 0, 2^127 and
+/// 2^128 - 1. Returns whether all requests were accepted.
 fn prepare<M: Machine, R: Wait>(
     rt: &R,
     alloc: Global,

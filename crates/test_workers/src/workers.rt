@@ -1,5 +1,6 @@
-//! A test of a worker that runs out of memory, hands the answer back, absorbs the same answer later, and then is
-//! stopped and runs until it is idle.
+//! A test of a worker that runs out of memory while it updates its state with an answer. The worker then hands the
+//! answer back to its caller. Later the worker gets the same answer again, and updates its state. At last, the worker
+//! is stopped, and runs until it is idle.
 ghost use Rattle.std.specs.Prelude.{◌≡◌, None, IsSome};
 
 use kcl_consumer::{Maker, Processor};
@@ -15,7 +16,7 @@ use std::process::Abort;
 use std::rc::Rc;
 use std::test::Fail;
 
-/// A processor that grants each call, and asks for no checkpoint.
+/// A processor whose calls all succeed, and that never asks for a checkpoint.
 #[derive(Drop)]
 struct Silent;
 
@@ -41,7 +42,7 @@ impl Processor for Silent {
     }
 }
 
-/// A maker that makes a processor if `has_memory` is true, and otherwise runs out of memory.
+/// A maker of processors. It runs out of memory as long as `has_memory` is false.
 #[derive(Drop)]
 struct Poor {
     has_memory: Rc<Cell<bool>>,
@@ -59,7 +60,7 @@ impl Maker<Silent> for Poor {
     }
 }
 
-/// Returns the worker's next command.
+/// Returns the worker's next command. First checks that no processor call is due and that the worker isn't idle.
 fn asked(rt: &impl Abort, worker: &mut Worker<Silent, Poor>) -> Command
     requires { worker.old.waiting ≡ None }
     ensures { IsSome worker.new.waiting }
@@ -69,7 +70,8 @@ fn asked(rt: &impl Abort, worker: &mut Worker<Silent, Poor>) -> Command
     worker.next(Moment::start())
 }
 
-/// Makes the worker absorb `answer` as the answer to its next command. Returns that command.
+/// Gives the worker `answer` as the answer to its next command, and returns this command. The worker updates its state
+/// with the answer.
 fn answered(rt: &impl Abort, worker: &mut Worker<Silent, Poor>, answer: Answer) -> Command
     requires { worker.old.waiting ≡ None }
     ensures { worker.new.waiting ≡ None }
@@ -80,7 +82,8 @@ fn answered(rt: &impl Abort, worker: &mut Worker<Silent, Poor>, answer: Answer) 
     what
 }
 
-/// Checks that the processor call `wanted` is due, and makes it.
+/// Checks that the processor call `wanted` is due, and makes this call. `wanted` has the shard and the kind of the
+/// call.
 fn called(rt: &impl Abort, worker: &mut Worker<Silent, Poor>, wanted: (ShardRef, Due))
     requires { worker.old.waiting ≡ None }
     ensures { worker.new.waiting ≡ None }
@@ -112,7 +115,8 @@ fn row() -> Row {
     }
 }
 
-/// Returns the answer to a survey that finds one shard, and a row for this shard.
+/// Returns the machine's reply to a survey of the shards and of the lease table: there is one shard, and one row for
+/// this shard.
 fn surveyed(rt: &HostRuntime) -> Result<Reply, Fail> {
     let mut shards = Items::new(rt.alloc());
     shards.push(key())?;
@@ -129,8 +133,9 @@ fn taken() -> Answer {
     })
 }
 
-/// Has the worker absorb the answer to a Take. Memory runs out, and the worker hands the answer back. Once there is
-/// memory, the worker absorbs the same answer.
+/// Gives the worker the same answer to a Take command twice. The first time, memory runs out, so the worker hands the
+/// answer back and holds no lease. The second time, there is memory, so the worker accepts the answer and holds the
+/// lease.
 fn taken_again(rt: &impl Abort, worker: &mut Worker<Silent, Poor>, memory: &Cell<bool>)
     requires { worker.old.waiting ≡ None }
     ensures { worker.new.waiting ≡ None }

@@ -1,24 +1,24 @@
-//! What a run leaves behind if one of its reads or writes fails.
+//! The expected results of runs in which one read or one write fails.
 ghost use Rattle.std.specs.Prelude.{◌<◌};
 
 use crate::harness::runs::{Run, run_on};
 use kds_base::Memory;
 use std::alloc::Global;
 
-/// A run with a known input and output, and how much of the output is written after which part of the input is read.
+/// The input of a run, its whole output, and how much of the output is written once a part of the input was read.
 #[derive(Drop)]
 pub struct Case {
     pub input: &'static str,
     pub out: &'static str,
-    /// In each pair: once the first number of bytes of the input is read, the second number of bytes of the output is
-    /// written.
+    /// Pairs of byte counts, in increasing order. A pair (`i`, `o`) says that `o` bytes of the output are written once
+    /// `i` bytes of the input have been read.
     pub parts: &'static [(usize, usize)],
 }
 
-/// What a run leaves behind: its exit status, the length of its output, and its error output.
+/// The expected result of a run: the exit status, the length of the output in bytes, and the error output.
 pub type Leaves = (u8, usize, &'static str);
 
-/// The number of calls that move `bytes` bytes in pieces of `step` bytes.
+/// Returns how many calls transfer `bytes` bytes, if each call but the last transfers `step` bytes.
 fn calls(bytes: usize, step: usize) -> usize
     requires { 0 < step }
 {
@@ -26,21 +26,23 @@ fn calls(bytes: usize, step: usize) -> usize
 }
 
 impl Case {
-    /// The number of reads in pieces of `step` bytes. The last read finds the end of the input.
+    /// Returns how many reads a run makes if it reads pieces of `step` bytes. The last read only finds the end of the
+    /// input.
     fn reads(&self, step: usize) -> usize
         requires { 0 < step }
     {
         calls(self.input.len(), step).saturating_add(1)
     }
 
-    /// The number of writes in pieces of `step` bytes.
+    /// Returns how many writes of `step` bytes the whole output takes.
     fn writes(&self, step: usize) -> usize
         requires { 0 < step }
     {
         calls(self.out.len(), step)
     }
 
-    /// What the run should leave behind if `before` reads succeed and the next read fails.
+    /// Returns the expected result if `before` reads succeed and the next read fails. If the run makes no further read,
+    /// nothing fails.
     fn at_read(&self, step: usize, before: usize) -> Leaves
         requires { 0 < step }
     {
@@ -57,8 +59,8 @@ impl Case {
         (4, written, "read fault\n")
     }
 
-    /// What the run should leave behind if `before` writes succeed and the next write fails. Use this only if the
-    /// output is written all at once, or byte by byte.
+    /// Returns the expected result if `before` writes succeed and the next write fails. If the run makes no further
+    /// write, nothing fails. Precondition, not checked: the output is written all at once, or byte by byte.
     fn at_write(&self, step: usize, before: usize) -> Leaves
         requires { 0 < step }
     {
@@ -69,9 +71,9 @@ impl Case {
         (5, written, "write fault\n")
     }
 
-    /// Fails each read and each write in turn, in pieces of `step` bytes. The result describes the first of these runs
-    /// that doesn't leave behind exactly what was answered before the failure. It is empty if there is no such run. A
-    /// failure set after the last call has no effect.
+    /// For each read and for each write, makes one run in which this read or write fails. Also makes two runs in which
+    /// nothing fails. Input and output are in pieces of `step` bytes. Describes the first run whose result isn't the
+    /// expected one. The returned text is empty if all results are as expected.
     pub fn other(&self, alloc: Global, run: Run, step: usize) -> Result<String, Memory>
         requires { 0 < step }
     {

@@ -1,14 +1,15 @@
-//! What a run leaves behind.
+//! The result of a run, and how it differs from an expected result.
 use crate::harness::cases::Leaves;
 use kds_base::{Items, Memory};
 use kds_cli_runs::tell;
 use kds_ends::{MemSink, Status};
 use std::alloc::Global;
 
-/// Stands for the missing line if a text has ended.
+/// The text that is shown in place of a line if a text ends before this line.
 const END: &str = "(the end)";
 
-/// The number of the first line in which the two texts differ, and that line in `given` and in `wanted`.
+/// Returns the first line in which the two texts differ: its number, counted from 1, its text in `given`, and its text
+/// in `wanted`.
 fn first_line<'a>(given: &'a str, wanted: &'a str) -> (usize, &'a str, &'a str) {
     let mut others = wanted.split('\n');
     let mut number = 1usize;
@@ -22,10 +23,10 @@ fn first_line<'a>(given: &'a str, wanted: &'a str) -> (usize, &'a str, &'a str) 
     (number, END, others.next().unwrap_or(END))
 }
 
-/// The capacity of the error output.
+/// The capacity of the error output, in bytes.
 const ROOM: usize = 256;
 
-/// What a run left behind: its status, its output, and the error output that belongs to the status.
+/// The result of a run: its status, its output, and the message for the status on the error output.
 #[derive(Drop)]
 pub struct Left {
     pub status: Status,
@@ -34,15 +35,16 @@ pub struct Left {
 }
 
 impl Left {
-    /// What is left behind by a run that ended with `status` and wrote `out`.
+    /// Returns the result of a run that ended with `status` and wrote `out`. The error output of the result is the
+    /// message for `status`.
     pub fn new(alloc: Global, status: Status, out: MemSink) -> Result<Left, Memory> {
         let mut err = MemSink::new(alloc, ROOM, ROOM, Items::new(alloc))?;
         tell(&mut err, status);
         Ok(Left { status, out, err })
     }
 
-    /// How this result differs from `leaves`, what a case should leave behind. The case's whole output is `out`. Empty
-    /// if there is no difference.
+    /// Describes how this result differs from the expected result `leaves`. The expected output is a prefix of `out`.
+    /// The length of this prefix is in `leaves`. The returned text is empty if there is no difference.
     pub fn other_leaving(
         &self,
         alloc: Global,
@@ -56,8 +58,8 @@ impl Left {
         }
     }
 
-    /// How this result differs from the exit status `code`, the output `out` and the error output `err`. Of the output
-    /// only the first line that differs is shown. Empty if there is no difference.
+    /// Describes how this result differs from the exit status `code`, the output `out` and the error output `err`. Of
+    /// the output, only the first line that differs is shown. The returned text is empty if there is no difference.
     pub fn other(&self, alloc: Global, code: u8, out: &[u8], err: &str) -> Result<String, Memory> {
         let mut other = String::new(alloc);
         let status = self.status.code();

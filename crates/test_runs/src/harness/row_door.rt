@@ -1,4 +1,4 @@
-//! A door that accepts its connections one after the other.
+//! A door (a listening socket) in memory. It accepts its connections one after the other.
 ghost use Rattle.std.specs.Prelude.{None};
 
 use kds_base::{Items, Memory, Octets};
@@ -8,16 +8,16 @@ use std::collections::VecDeque;
 use std::sync::{Arc, Mutex, Wait};
 use std::thread::yield_now;
 
-/// How many times the door checks whether the last connection has ended.
+/// The maximum number of times that the door checks whether all accepted connections have ended.
 const LOOKS: u32 = 10_000_000;
 
-/// The capacity of a connection's output.
+/// The capacity of a connection's output, and the most that one read or write transfers, in bytes.
 const ROOM: usize = 1024;
 
-/// The output of a connection, which the door can copy.
+/// The output of a connection. The door shares it with the connection, so that the door can copy the written bytes.
 type Written = Arc<Mutex<MemSink>>;
 
-/// The output end of a connection. It is dropped together with the connection.
+/// The sink for the output of a connection. It is dropped when the connection ends.
 #[derive(Drop)]
 pub struct RowOutput<R: Wait + Drop> {
     rt: R,
@@ -41,8 +41,8 @@ impl<R: Wait + Drop> Sink for RowOutput<R> {
     }
 }
 
-/// A door with connections in memory. It accepts a connection once the one before has ended, and fails if no connection
-/// is left.
+/// A listening socket with connections in memory. It accepts a connection once all connections before it have ended.
+/// `accept` fails if no connection is left, or if an earlier connection doesn't end within `LOOKS` checks.
 #[derive(Drop)]
 pub struct RowDoor<R: Wait + Drop> {
     rt: R,
@@ -61,7 +61,7 @@ impl<R: Wait + Clone + Drop> RowDoor<R> {
         }
     }
 
-    /// Adds a connection with the input `bytes`. The reads whose numbers are in `failing` fail.
+    /// Adds a connection with the input `bytes`. The reads whose numbers, counted from 1, are in `failing` fail.
     pub fn add(&mut self, alloc: Global, bytes: Octets, failing: Items<u64>) -> Result<(), Memory> {
         let sink = MemSink::new(alloc, ROOM, ROOM, Items::new(alloc))?;
         let written = Arc::new(alloc, Mutex::new(sink))?;
@@ -78,7 +78,8 @@ impl<R: Wait + Clone + Drop> RowDoor<R> {
 }
 
 impl<R: Wait + Drop> RowDoor<R> {
-    /// A copy of the output of the connection at `place`, counted from 0.
+    /// Returns a copy of what the connection at the index `place`, counted from 0, has written. The copy is empty if
+    /// there is no such connection.
     pub fn written(&self, alloc: Global, place: usize) -> Result<Octets, Memory> {
         match self.written.as_slice().get(place) {
             Some(written) => Octets::of(alloc, written.lock(&self.rt).held()),
@@ -86,8 +87,9 @@ impl<R: Wait + Drop> RowDoor<R> {
         }
     }
 
-    /// Waits until all accepted connections have ended, with at most `LOOKS` checks, and returns whether they have.
-    /// They have ended when only the outputs of the waiting connections have a second holder.
+    /// Waits until all accepted connections have ended, with at most `LOOKS` checks. Returns whether they have ended.
+    /// The door shares the output of each connection that is waiting to be accepted or hasn't ended. So all accepted
+    /// connections have ended if the number of shared outputs is at most the number of waiting connections.
     fn row_has_ended(&self) -> bool {
         let open = self.waiting.len();
         for _ in 0..LOOKS {

@@ -1,16 +1,16 @@
-//! Tables of runs and of what they should leave behind.
+//! Tables of runs with their expected results. A row of such a table is one run.
 use crate::harness::runs::{Run, run_on};
 use kds_base::Memory;
 use std::alloc::Global;
 
-/// A run: its input, exit status, output and error output.
+/// A run: its input, and the expected exit status, output and error output.
 pub type Row = (&'static str, u8, &'static str, &'static str);
 
-/// A row with its name, which a failing test prints.
+/// A row with a name. A failing test prints the name.
 pub type Named = (&'static str, Row);
 
-/// Runs a row in pieces of each of the sizes `steps`. The result describes, for the first size at which the run doesn't
-/// leave behind what the row says, how it differs. It is empty if there is no such size.
+/// Runs a row once for each size in `steps`, with input and output in pieces of this many bytes. Describes the first
+/// result that isn't the expected one. The returned text is empty if all results are as expected.
 fn other_of(alloc: Global, run: Run, row: &Row, steps: &[usize]) -> Result<String, Memory> {
     let (input, code, out, err) = row;
     for step in steps {
@@ -23,8 +23,8 @@ fn other_of(alloc: Global, run: Run, row: &Row, steps: &[usize]) -> Result<Strin
     Ok(String::new(alloc))
 }
 
-/// Runs each row in pieces of each of the sizes `steps`. The result names the first row whose run leaves behind
-/// something else, and describes how it differs. It is empty if there is no such row.
+/// Runs each row once for each size in `steps`, with input and output in pieces of this many bytes. Names the first row
+/// with an unexpected result, and describes this result. The returned text is empty if all results are as expected.
 pub fn first_other(
     alloc: Global,
     run: Run,

@@ -1,4 +1,4 @@
-//! Runs over inputs and outputs in memory.
+//! Makes runs with inputs and outputs in memory.
 ghost use Rattle.std.specs.Prelude.{◌<◌};
 
 use crate::harness::left::Left;
@@ -8,7 +8,7 @@ use kds_cli_runs::{run_answer, run_replay};
 use kds_ends::{MemClock, MemSink, MemSource};
 use std::alloc::Global;
 
-/// The capacity of a run's output.
+/// The capacity of a run's output, in bytes.
 const ROOM: usize = 524_288;
 
 /// The kinds of runs.
@@ -20,7 +20,7 @@ pub enum Run {
     Journal,
     /// Audits a journal.
     Audit,
-    /// Answers a connection whose clock stands at 1000.
+    /// Answers the requests of one connection. The clock always gives the time 1000, in milliseconds.
     Answer,
 }
 
@@ -32,15 +32,16 @@ fn numbers(alloc: Global, numbers: &[u64]) -> Result<Items<u64>, Memory> {
     Ok(items)
 }
 
-/// A clock that always gives the moment 1000.
+/// Returns a clock that always gives the time 1000, in milliseconds.
 fn fixed_clock(alloc: Global) -> Result<MemClock, Memory> {
     let mut moments = Items::new(alloc);
     moments.push(Moment::new(1000).unwrap_or(Moment::start()))?;
     Ok(MemClock::new(moments))
 }
 
-/// What a run of the kind `run` over `bytes` leaves behind, in pieces of `step` bytes. The reads whose numbers are in
-/// `reads` and the writes whose numbers are in `writes` fail.
+/// Makes a run of the kind `run` with the input `bytes`, and returns its result. Input and output are in pieces of
+/// `step` bytes. The reads whose numbers are in `reads` and the writes whose numbers are in `writes` fail. Reads and
+/// writes are counted from 1.
 pub fn run_on(
     alloc: Global,
     run: Run,
