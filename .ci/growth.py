@@ -1,8 +1,8 @@
 #!/usr/bin/env python3
 """No turn looks at every shard that was ever made. A replay of rounds, each a split or a merge with requests behind it, takes at most 3 times the
-processor time when there are twice as many rounds: 20,000 closed shards and more, and not 10,000. A turn that goes over them all makes it 4 times, and
-more where they no longer fit the processor's caches. Each time is the least of three runs, the lengths in turn; where that isn't enough, since the machine does
-other things, of twice as many."""
+processor time when there are twice as many rounds: 20,000 closed shards and more, and not 10,000. The same is true of rounds whose requests come two days
+later, when the closed shards have expired. A turn that goes over them all makes it 4 times, and more where they no longer fit the processor's caches.
+Each time is the least of three runs, the lengths in turn; where that isn't enough, since the machine does other things, of twice as many."""
 import base64
 import os
 import subprocess
@@ -12,6 +12,7 @@ import threading
 
 from checks import SECONDS, Tally, asked, fail, program
 
+DAY = 86_400_000
 ROUNDS = 10_000
 RUNS = 3
 MOST = 3
@@ -45,10 +46,18 @@ def put_many_of_one(at, number, _):
     yield f'{at} api PutRecords {{"StreamName":"s","Records":[{{"PartitionKey":"key-{number}","Data":"aGk="}}]}}'
 
 
-# A name, and the requests of a round: of the moment, the round's number and a closed shard.
+def first_pages(count):
+    """The rounds alone, and two days later as many first pages of a shard: all closed shards have expired."""
+    yield from rounds(count, lambda *_: ())
+    for number in range(count):
+        yield f'{1000 + count + 2 * DAY + number} api ListShards {{"StreamName":"s","MaxResults":1}}'
+
+
+# A name, and the lines of so many rounds.
 KINDS = [
-    ('a put, the end of a closed shard, five shards behind it', put_and_look),
-    ('a PutRecords of one', put_many_of_one),
+    ('a put, the end of a closed shard, five shards behind it', lambda count: rounds(count, put_and_look)),
+    ('a PutRecords of one', lambda count: rounds(count, put_many_of_one)),
+    ('a first page among expired shards', first_pages),
 ]
 
 
@@ -68,11 +77,11 @@ def seconds(schedule, lines):
     return usage.ru_utime + usage.ru_stime
 
 
-def measured(folder, requests):
+def measured(folder, kind):
     """The least times of both lengths."""
     schedules = []
     for count in (ROUNDS, 2 * ROUNDS):
-        lines = list(rounds(count, requests))
+        lines = list(kind(count))
         schedules.append((f'{folder}/{count}', len(lines)))
         with open(schedules[-1][0], 'w') as text:
             text.writelines(line + '\n' for line in lines)
@@ -89,8 +98,8 @@ def main():
     KDS = program()
     tally, told = Tally(), []
     with tempfile.TemporaryDirectory() as folder:
-        for name, requests in KINDS:
-            one, two = measured(folder, requests)
+        for name, kind in KINDS:
+            one, two = measured(folder, kind)
             told.append(f'{two / one:.1f}')
             tally.holds(two <= MOST * one, f'{name}: {one:.2f} seconds for {ROUNDS:,} rounds, and {two:.2f}, {two / one:.1f} times as much, for {2 * ROUNDS:,}')
     return tally.end(f'growth when rounds double: {", ".join(told)}: ')
