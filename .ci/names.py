@@ -28,7 +28,7 @@ DEFINED = re.compile(r'^(?:(?:[a-z]+ )?pub (?:record |data )?|  (?:[a-z]+ pub |p
 FUNCTION = re.compile(r'^\s*pub fn (\w+)', re.M)
 MADE = re.compile(r'(<!-- begin (\S+(?: \w+)?) -->\n)(.*?)(<!-- end -->)', re.S)
 # how many lines of proofs and of definitions are wider than WIDTH: each number may only fall
-WIDTH, WIDE = 160, {'proofs': 2776, 'specs': 32}
+WIDTH, WIDE = 160, {'proofs': 2775, 'specs': 32}
 # Turns of phrase that have a word in the field, each with it. No page has one; what comments of the crates' code have is counted, and may only fall.
 TURNS = {
     'out of memory': r'\bwants? of memory\b',

@@ -4,15 +4,11 @@ use Rattle.std.proofs.Common.{drop, length, map, Option, Some, None, inl, inr}
 use Rattle.std.specs.Prelude.{cond, nat_lt, ◌⊎◌}
 use Rattle.std.specs.List.{filter}
 use Rattle.std.proofs.lemmas.Bool.Decides.{nat_tests}
-use Rattle.kds_defs.specs.declared.reply.Shard.{Shard}
 use Rattle.kds_defs.specs.Listings.{is_after_shard}
 use Rattle.kds_defs.specs.Shards.{ShardState, listed_among, shown}
 use Rattle.kds_defs.specs.Streams.{floor_of}
 use Rattle.kds_defs.specs.Tiled.{AreNumbered}
-
--- the shards that are listed at a cut, as they are shown
-abbrev pub listing : Option ℕ → List ShardState → List Shard
-listing cut xs = map shown (listed_among (floor_of cut) xs)
+use Rattle.kds_tree.specs.Front.{listing}
 
 -- ---- two tests may be tried in either order
 

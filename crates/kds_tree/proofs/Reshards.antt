@@ -16,12 +16,12 @@ use Rattle.std.specs.List.{AllByRecursion, filter}
 use Rattle.std.specs.List.Sorted.{IsNonDecreasingBy, IsPermutation}
 use Rattle.std.proofs.lemmas.Bool.{and_parts}
 use Rattle.kds_tree.specs.Families.{AreFamilies}
-use Rattle.kds_tree.specs.Front.{AreExpired}
-use Rattle.kds_tree.proofs.FrontLemmas.{front_append, front_set, open_beyond}
+use Rattle.kds_tree.specs.Front.{AreLeft}
+use Rattle.kds_tree.proofs.FrontLemmas.{left_append, left_set, left_sets}
 use Rattle.kds_tree.specs.Starts.{AreStarts, own_start, stays}
 use Rattle.kds_tree.specs.declared.start.OpenStart.{OpenStart}
 use Rattle.kds_tree.proofs.Families.{after_birth, merge_families, split_families}
-use Rattle.kds_tree.proofs.OpenStarts.{reshaped, closes_one, closes_two}
+use Rattle.kds_tree.proofs.OpenStarts.{get_front, reshaped, closes_one, closes_two}
 use Rattle.kds_tree.specs.Tree.{IsTree, IsWithinKeys, split_refusal, merge_refusal, answer_by, value_by}
 
 -- ---- what no refusal says
@@ -307,24 +307,31 @@ both_known xs firsts kept sh other range joint answer families is =
     let long : length kept ≡ length xs = ap length is ∙ families.long in
     (omega (arith, slice_get_within xs sh can.state can.made, long), omega (arith, slice_get_within xs other can.beside can.other_made, long))
 
--- the expired shards at the front stay, as only open shards are closed
-pub front_split : (xs zs : List ShardState) (sh i at f n : ℕ) (ranges : Span × Span) (low high y : ShardState)
+-- the front stays, as only open shards are closed
+pub front_split : (xs zs : List ShardState) (sh i at f n : ℕ) (names : List ℕ) (ranges : Span × Span) (low high y : ShardState)
     → Ok ranges ≡ answer_by (split_refusal xs sh at) (halves (range_of (slice_get xs sh)) at) → i ≡ sh → zs ≡ xs ++ low ∷ high ∷ []
-    → AreExpired f n xs → AreExpired f n (slice_set zs i y)
-front_split xs zs sh i at f n ranges low high y answer is_i is front =
+    → AreLeft f 0 n names xs → AreLeft f 0 n names (slice_set zs i y)
+front_split xs zs sh i at f n names ranges low high y answer is_i is front =
     let can = can_split xs sh at (answered (split_refusal xs sh at) ranges (halves (range_of (slice_get xs sh)) at) answer).0 in
-    let beyond : n ≤ sh = open_beyond f n sh xs can.state can.made can.is_open_now front in
-    front_set f n i zs y (omega (arith, beyond, is_i)) (subst (AreExpired f n) (sym is) (front_append f n xs (low ∷ high ∷ []) front))
+    let more = xs ++ low ∷ high ∷ [] in
+    let made : slice_get more sh ≡ Some can.state = get_front xs (low ∷ high ∷ []) sh can.state can.made in
+    subst (λ (us : List ShardState). AreLeft f 0 n names (slice_set us i y)) (sym is)
+    (subst (λ (k : ℕ). AreLeft f 0 n names (slice_set more k y)) (sym is_i)
+    (left_set f 0 n sh names more can.state y made can.is_open_now (left_append f 0 n names xs (low ∷ high ∷ []) front)))
 
-pub front_merge : (xs zs : List ShardState) (sh other i j f n : ℕ) (range joint : Span) (child y z : ShardState)
+pub front_merge : (xs zs : List ShardState) (sh other i j f n : ℕ) (names : List ℕ) (range joint : Span) (child y z : ShardState)
     → Ok range ≡ answer_by (merge_refusal xs sh other) joint → i ≡ sh → j ≡ other → zs ≡ xs ++ child ∷ []
-    → AreExpired f n xs → AreExpired f n (slice_set (slice_set zs i y) j z)
-front_merge xs zs sh other i j f n range joint child y z answer is_i is_j is front =
+    → AreLeft f 0 n names xs → AreLeft f 0 n names (slice_set (slice_set zs i y) j z)
+front_merge xs zs sh other i j f n names range joint child y z answer is_i is_j is front =
     let can = can_merge xs sh other (answered (merge_refusal xs sh other) range joint answer).0 in
-    let beyond : n ≤ sh = open_beyond f n sh xs can.state can.made can.is_open_now front in
-    let beyond' : n ≤ other = open_beyond f n other xs can.beside can.other_made can.other_open front in
-    front_set f n j (slice_set zs i y) z (omega (arith, beyond', is_j))
-    (front_set f n i zs y (omega (arith, beyond, is_i)) (subst (AreExpired f n) (sym is) (front_append f n xs (child ∷ []) front)))
+    let more = xs ++ child ∷ [] in
+    let made : slice_get more sh ≡ Some can.state = get_front xs (child ∷ []) sh can.state can.made in
+    let made' : slice_get more other ≡ Some can.beside = get_front xs (child ∷ []) other can.beside can.other_made in
+    subst (λ (us : List ShardState). AreLeft f 0 n names (slice_set (slice_set us i y) j z)) (sym is)
+    (subst (λ (k : ℕ). AreLeft f 0 n names (slice_set (slice_set more k y) j z)) (sym is_i)
+    (subst (λ (k : ℕ). AreLeft f 0 n names (slice_set (slice_set more sh y) k z)) (sym is_j)
+    (left_sets f 0 n sh other names more can.state can.beside y z made can.is_open_now made' can.other_open
+    (left_append f 0 n names xs (child ∷ []) front))))
 
 -- the value after an accepted call
 by_none : (o : Option Refusal) (before after zs : List ShardState) → o ≡ None → zs ≡ after → zs ≡ value_by o before after

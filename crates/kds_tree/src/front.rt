@@ -1,18 +1,41 @@
-//! The expired shards at the beginning of a stream's list of shards. A shard has expired if it was closed at or before
-//! the trim horizon. A listing of the shards skips all of these shards at once (decision 119).
-ghost use Rattle.std.specs.Prelude.{◌≡◌, ◌≤◌, true};
+//! The expired shards at the beginning of a stream's list of shards, and the shards among them that haven't expired. A
+//! shard has expired if it was closed at or before the trim horizon. A listing of the shards skips all of the expired
+//! shards at once (decision 119).
+ghost use Rattle.std.specs.Prelude.{◌≡◌, ◌+◌, ◌-◌, ◌<◌, ◌≤◌, ℕ, List, OnErr, OnOk, drop, length, slice_get, true};
+ghost use Rattle.kds_defs.specs.Shards.{ShardState};
 ghost use Rattle.kds_defs.specs.Streams.{floor_of};
-ghost use Rattle.kds_tree.specs.Front.{AreExpired};
+ghost use Rattle.kds_tree.specs.Front.{AreLeft};
+ghost use Rattle.kds_tree.specs.Tree.{was_expired};
 
 use crate::kept::KeptShard;
-use kds_base::Moment;
+use kds_base::{Memory, Moment, ShardNo};
+use std::alloc::Global;
 
-/// The first `count` shards of a stream, all of which had expired at the trim horizon `cut`. An expired shard stays
-/// expired. So a listing at this trim horizon or a later one can begin after these shards.
-#[derive(Clone, Copy, Drop)]
+/// The first `count` shards of a stream. All of them had expired at the trim horizon `cut`, except for the shards
+/// `left`. An expired shard stays expired. So a listing at this trim horizon or a later one can skip these shards,
+/// except for the shards `left`.
+#[derive(Drop)]
 pub struct ExpiredFront {
     pub count: usize,
+    /// The numbers of those of the first `count` shards that may not have expired, in rising order. At most as many
+    /// shards are in this list as were open together.
+    pub left: Vec<ShardNo>,
     pub cut: Option<Moment>,
+    /// The index of the first shard with a parent that hasn't expired. Shards expire in the order in which they were
+    /// closed, which is the order of their children. So as long as this parent hasn't expired, no further shard has.
+    pub child: usize,
+}
+
+/// Returns the front of a new stream, which has no shards.
+pub fn no_front(alloc: Global) -> ExpiredFront
+    ensures { (floor : ℕ) → (xs : List ShardState) → AreLeft floor 0 result.count result.left.items xs }
+{
+    ExpiredFront {
+        count: 0,
+        left: Vec::new(alloc),
+        cut: None,
+        child: 0,
+    }
 }
 
 /// Whether the trim horizon `cut` is equal to `other` or later than `other`. `None` is earlier than every time.
@@ -26,42 +49,128 @@ fn is_no_earlier(cut: &Option<Moment>, other: &Option<Moment>) -> bool
     }
 }
 
-/// Returns the number of expired shards at the beginning of `shards` that a listing at the trim horizon `cut` skips.
-/// The result is 0 if `cut` is earlier than the trim horizon of `front`, and otherwise the count of `front`.
-pub fn passed_at(front: &ExpiredFront, shards: &[KeptShard], cut: &Option<Moment>) -> usize
-    ensures { AreExpired (floor_of front.now.cut) front.now.count shards.now → AreExpired (floor_of cut.now) result shards.now }
+/// Returns the number of shards at the beginning of `shards` that a listing at the trim horizon `cut` skips, and the
+/// numbers of the shards among them that it doesn't skip. If `cut` is earlier than the trim horizon of `front`, the
+/// listing skips no shards.
+pub fn passed_at<'a>(
+    front: &'a ExpiredFront,
+    shards: &[KeptShard],
+    cut: &Option<Moment>,
+) -> (usize, &'a [ShardNo])
+    ensures { AreLeft (floor_of front.now.cut) 0 front.now.count front.now.left.items shards.now
+        → AreLeft (floor_of cut.now) 0 result.0 result.1.now shards.now }
 {
     let _shards = shards;
     if is_no_earlier(cut, &front.cut) {
-        front.count
+        (front.count, &front.left)
     } else {
-        0
+        (0, &[])
     }
 }
 
-/// Returns `front` extended to the later trim horizon `cut`: the result has all shards before the first shard that
-/// hasn't expired at `cut`. If `cut` is earlier than the trim horizon of `front`, the result is equal to `front`.
-pub fn moved_on(front: &ExpiredFront, shards: &[KeptShard], cut: Option<Moment>) -> ExpiredFront
-    ensures { AreExpired (floor_of front.now.cut) front.now.count shards.now → AreExpired (floor_of result.cut) result.count shards.now }
+/// Returns those of `numbers` that are `start` or greater. `numbers` must be in rising order.
+pub fn numbers_from(numbers: &[ShardNo], start: usize) -> &[ShardNo]
+    ensures { (floor count : ℕ) → (xs : List ShardState) → AreLeft floor 0 count numbers.now xs
+        → AreLeft floor start (count - start) result.now (drop start xs) }
 {
-    if !is_no_earlier(&cut, &front.cut) {
-        return ExpiredFront {
-            count: front.count,
-            cut: front.cut,
-        };
-    }
-    let count = first_listed(shards, front.count, &cut);
-    ExpiredFront { count, cut }
+    let before = numbers.partition_point(|no| (no.0 as usize) < start);
+    let (_, from) = numbers.split_at(before);
+    from
 }
 
-/// Returns the index of the first shard, from the index `start` on, that hasn't expired at the trim horizon `cut`. If
-/// all shards from `start` on have expired, returns the number of shards.
-fn first_listed(shards: &[KeptShard], start: usize, cut: &Option<Moment>) -> usize
-    ensures { AreExpired (floor_of cut.now) start shards.now → AreExpired (floor_of cut.now) result shards.now }
+/// Extends `front` to the later trim horizon `cut`, if a shard expired since. If `cut` is earlier than the trim
+/// horizon of `front`, `front` is unchanged. If memory runs out, `front` has fewer shards than it could have.
+pub fn move_on(front: &mut ExpiredFront, shards: &[KeptShard], cut: Option<Moment>)
+    ensures { AreLeft (floor_of front.old.cut) 0 front.old.count front.old.left.items shards.now
+        → AreLeft (floor_of front.new.cut) 0 front.new.count front.new.left.items shards.now }
+{
+    let (child, end) = expired_parents(shards, front.child, &cut);
+    if child == front.child || !is_no_earlier(&cut, &front.cut) {
+        return;
+    }
+    remove_expired(&mut front.left, shards, &cut);
+    front.count = pass_until(&mut front.left, shards, &cut, front.count, end);
+    front.cut = cut;
+    front.child = child;
+}
+
+/// Returns the index of the first shard, from the index `start` on, with a parent that hasn't expired at the trim
+/// horizon `cut`, and the index behind all parents of the shards before it.
+fn expired_parents(shards: &[KeptShard], start: usize, cut: &Option<Moment>) -> (usize, usize) {
+    let mut child = start;
+    let mut end = 0;
+    while child < shards.len() && has_no_parent(shards, &shards[child], cut) {
+        end = shards[child].behind_parents().max(end);
+        child += 1;
+    }
+    (child, end)
+}
+
+/// Whether the shard `child` has no parent, or its parent has expired at the trim horizon `cut`.
+fn has_no_parent(shards: &[KeptShard], child: &KeptShard, cut: &Option<Moment>) -> bool {
+    match child.shard().parent {
+        Some(no) => is_expired_at(shards, no, cut),
+        None => true,
+    }
+}
+
+/// Whether shard `no` has expired at the trim horizon `cut`.
+pub fn is_expired_at(shards: &[KeptShard], no: ShardNo, cut: &Option<Moment>) -> bool
+    ensures { result ≡ was_expired (floor_of cut.now) (slice_get shards.now no) }
+{
+    match shards.get(no.0 as usize) {
+        Some(kept) => kept.is_expired(cut),
+        None => false,
+    }
+}
+
+/// Removes the numbers of those shards from `left` that have expired at the trim horizon `cut`.
+fn remove_expired(left: &mut Vec<ShardNo>, shards: &[KeptShard], cut: &Option<Moment>)
+    ensures { (count : ℕ) → AreLeft (floor_of cut.now) 0 count left.old.items shards.now
+        → AreLeft (floor_of cut.now) 0 count left.new.items shards.now }
+{
+    left.retain(|no| !is_expired_at(shards, *no, cut));
+}
+
+/// Passes the shards from the index `start` on until the index `end`, and adds the numbers of those to `left` that
+/// haven't expired at the trim horizon `cut`. Returns the index up to which the shards are passed. It is less than
+/// `end` if memory runs out, or if there are fewer shards.
+fn pass_until(
+    left: &mut Vec<ShardNo>,
+    shards: &[KeptShard],
+    cut: &Option<Moment>,
+    start: usize,
+    end: usize,
+) -> usize
+    ensures { AreLeft (floor_of cut.now) 0 start left.old.items shards.now
+        → AreLeft (floor_of cut.now) 0 result left.new.items shards.now }
 {
     let mut count = start;
-    while count < shards.len() && shards[count].is_expired(cut) {
-        count += 1;
+    while count < end && count < shards.len() {
+        match pass_one(left, shards, cut, count) {
+            Ok(()) => count += 1,
+            Err(_) => return count,
+        }
     }
     count
+}
+
+/// Passes the shard with the index `count`, and adds its number to `left` if it hasn't expired at the trim horizon
+/// `cut`. If memory runs out, `left` is unchanged.
+fn pass_one(
+    left: &mut Vec<ShardNo>,
+    shards: &[KeptShard],
+    cut: &Option<Moment>,
+    count: usize,
+) -> Result<(), Memory>
+    requires { count < length shards.now }
+    ensures ok { OnOk result (AreLeft (floor_of cut.now) 0 count left.old.items shards.now
+        → AreLeft (floor_of cut.now) 0 (count + 1) left.new.items shards.now) }
+    ensures err { OnErr result (left.new.items ≡ left.old.items) }
+{
+    if shards[count].is_expired(cut) {
+        return Ok(());
+    }
+    left.push(ShardNo(count as u64))?;
+    Ok(())
 }

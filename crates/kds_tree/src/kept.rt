@@ -96,6 +96,11 @@ impl KeptShard {
         self.shard.parent == Some(no) || self.shard.adjacent == Some(no)
     }
 
+    /// Returns the first number that is greater than the numbers of the shard's parents, or 0 if it has no parents.
+    pub fn behind_parents(&self) -> usize {
+        behind(&self.shard.parent).max(behind(&self.shard.adjacent))
+    }
+
     /// Whether the shard has expired, which means that it was closed at or before the trim horizon `cut`.
     pub fn is_expired(&self, cut: &Option<Moment>) -> bool
         ensures { result ≡ is_closed_below (floor_of cut.now) self.now }
@@ -112,5 +117,13 @@ impl KeptShard {
     {
         self.shard.end = Some(seq);
         self.closed = Some(clock);
+    }
+}
+
+/// Returns the number after `no`, or 0 if `no` is `None`.
+fn behind(no: &Option<ShardNo>) -> usize {
+    match no {
+        Some(no) => (no.0 as usize).saturating_add(1),
+        None => 0,
     }
 }

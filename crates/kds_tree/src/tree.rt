@@ -1,5 +1,5 @@
 //! Creates the shards of a stream, finds the open shard for a hash key, and lists, splits and merges shards.
-ghost use Rattle.std.specs.Prelude.{◌≡◌, ◌+◌, ◌-◌, ◌^◌, ◌<◌, ◌≤◌, ℕ, drop, min, length, map, take, slice_get, Some, IsSome, IfOk, IfSome, OnOk, OnErr, IsOk};
+ghost use Rattle.std.specs.Prelude.{◌≡◌, ◌+◌, ◌++◌, ◌∷◌, [], ◌-◌, ◌^◌, ◌<◌, ◌≤◌, ℕ, drop, min, length, map, take, slice_get, Some, IsSome, IfOk, IfSome, OnOk, OnErr, IsOk};
 ghost use Rattle.std.specs.List.{AllByRecursion, filter};
 ghost use Rattle.std.specs.Option.{option_map};
 ghost use Rattle.kds_base.specs.Span.{joined};
@@ -10,11 +10,12 @@ ghost use Rattle.kds_defs.specs.ScaleCommands.{starts_among};
 ghost use Rattle.kds_defs.specs.Shards.{children_among, home_among, is_open, listed_among, made_shards, merged_shards, range_of, shown, split_shards, with_closed};
 ghost use Rattle.kds_defs.specs.Streams.{floor_of};
 ghost use Rattle.kds_defs.specs.Tiled.{AreNumbered, IsTiled};
+ghost use Rattle.kds_tree.specs.Front.{Lists, listing, picked, picked_before};
 ghost use Rattle.kds_tree.specs.Starts.{AreStarts, starting_keys};
 ghost use Rattle.kds_tree.specs.Tree.{IsHome, IsWithinKeys, after_merge, after_split, answer_by, merge_refusal, split_parts, split_refusal, was_expired};
 
 use crate::family::{children_in, family_of, no_children, set_first_child};
-use crate::front::{ExpiredFront, moved_on, passed_at};
+use crate::front::{ExpiredFront, is_expired_at, move_on, no_front, numbers_from, passed_at};
 use crate::kept::KeptShard;
 use crate::start::{OpenStart, home_of, remove_starts, sort_starts};
 use kds_base::{Items, Memory, Moment, Range, Seq, ShardNo};
@@ -33,7 +34,7 @@ pub struct ShardTree {
     /// For each shard, the number of its first child, if the shard has children. The list is in the order of the
     /// shards' numbers (decision 118).
     first_children: Vec<Option<ShardNo>>,
-    /// The expired shards at the beginning of `shards`. Listings skip these shards.
+    /// The expired shards at the beginning of `shards`, which listings skip.
     front: ExpiredFront,
 }
 
@@ -41,7 +42,7 @@ impl Model for ShardTree {
     ghost use Rattle.std.specs.Prelude.{min, vec_capacity, vec_len, ◌-◌};
     ghost use Rattle.kds_defs.specs.Streams.{floor_of};
     ghost use Rattle.kds_tree.specs.Families.{AreFamilies};
-    ghost use Rattle.kds_tree.specs.Front.{AreExpired};
+    ghost use Rattle.kds_tree.specs.Front.{AreLeft};
     ghost use Rattle.kds_tree.specs.Starts.{AreStarts};
     ghost use Rattle.kds_tree.specs.Tree.{IsTree, TreeValue};
 
@@ -53,7 +54,7 @@ impl Model for ShardTree {
     } };
 
     ghost invariant = { λ t. IsTree t.shards.items × AreStarts t.starts.items t.shards.items × AreFamilies t.first_children.items t.shards.items
-        × AreExpired (floor_of t.front.cut) t.front.count t.shards.items };
+        × AreLeft (floor_of t.front.cut) 0 t.front.count t.front.left.items t.shards.items };
 }
 
 impl ShardTree {
@@ -74,10 +75,7 @@ impl ShardTree {
             shards,
             starts,
             first_children,
-            front: ExpiredFront {
-                count: 0,
-                cut: None,
-            },
+            front: no_front(alloc),
         })
     }
 
@@ -120,10 +118,7 @@ impl ShardTree {
     pub fn expired(&self, no: ShardNo, cut: Option<Moment>) -> bool
         ensures { result ≡ was_expired (floor_of cut) (slice_get self.now.shards no) }
     {
-        match self.shards.get(no.0 as usize) {
-            Some(kept) => kept.is_expired(&cut),
-            None => false,
-        }
+        is_expired_at(&self.shards, no, &cut)
     }
 
     /// Returns a page of the shards that haven't expired at the trim horizon `cut`, in the order of their numbers
@@ -140,18 +135,19 @@ impl ShardTree {
         ensures more { let xs = map shown (filter (is_after_shard after) (listed_among (floor_of cut) self.now.shards))
             in IfOk result (λ r. r.1 ≡ are_more limit xs) }
     {
-        let passed = passed_at(&self.front, &self.shards, &cut);
-        let start = start_behind(&self.shards, after).max(passed);
-        let (_, shards) = self.shards.split_at(start);
-        page_of(*self.shards.allocator(), shards, &cut, limit)
+        let (passed, left) = passed_at(&self.front, &self.shards, &cut);
+        let start = start_behind(&self.shards, after);
+        let numbers = numbers_from(left, start);
+        let (_, rest) = self.shards.split_at(start.max(passed));
+        page_of(*self.shards.allocator(), &self.shards, numbers, rest, &cut, limit)
     }
 
-    /// Remembers how many shards at the beginning of the list have expired at the trim horizon `cut`, so that listings
-    /// can skip these shards. The shards themselves are unchanged.
+    /// Remembers which shards at the beginning of the list have expired at the trim horizon `cut`, so that listings can
+    /// skip these shards. The shards themselves are unchanged.
     pub fn pass_expired(&mut self, cut: Option<Moment>)
         ensures { self.new ≡ self.old }
     {
-        self.front = moved_on(&self.front, &self.shards, cut);
+        move_on(&mut self.front, &self.shards, cut);
     }
 
     /// Returns the children of shard `no`, in the order of their numbers. A child of shard `no` is a shard whose parent
@@ -358,27 +354,104 @@ fn start_behind(shards: &[KeptShard], after: Option<ShardNo>) -> usize
     }
 }
 
-/// Returns those of `shards` that haven't expired at the trim horizon `cut`. If there are more than `limit` such
-/// shards, only the first `limit` of them are returned. The returned `bool` says whether more unexpired shards follow.
+/// Returns those of the shards `numbers` of `shards`, and of the shards `rest`, that haven't expired at the trim
+/// horizon `cut`. If there are more than `limit` such shards, only the first `limit` of them are returned. The returned
+/// `bool` says whether more unexpired shards follow.
 fn page_of(
     alloc: Global,
     shards: &[KeptShard],
+    numbers: &[ShardNo],
+    rest: &[KeptShard],
     cut: &Option<Moment>,
     limit: u32,
 ) -> Result<(Items<Shard>, bool), Memory>
-    ensures shards { IfOk result (λ r. r.0 ≡ take limit (map shown (listed_among (floor_of cut.now) shards.now))) }
-    ensures more { IfOk result (λ r. r.1 ≡ are_more limit (map shown (listed_among (floor_of cut.now) shards.now))) }
+    ensures shards { IfOk result (λ r. r.0 ≡ take limit (listing cut.now (picked numbers.now shards.now ++ rest.now))) }
+    ensures more { IfOk result (λ r. r.1 ≡ are_more limit (listing cut.now (picked numbers.now shards.now ++ rest.now))) }
 {
     let mut listed = Items::new(alloc);
-    for kept in shards {
-        if !kept.is_expired(cut) {
-            if listed.as_slice().len() == limit as usize {
-                return Ok((listed, true));
-            }
-            listed.push(*kept.shard())?;
+    if list_numbers(&mut listed, shards, numbers, cut, limit)? {
+        return Ok((listed, true));
+    }
+    let more = list_rest(&mut listed, rest, cut, limit)?;
+    Ok((listed, more))
+}
+
+/// Adds those of the shards `numbers` of `shards` to `listed` that haven't expired at the trim horizon `cut`, until
+/// `listed` has `limit` shards. Returns whether there are more.
+fn list_numbers(
+    listed: &mut Items<Shard>,
+    shards: &[KeptShard],
+    numbers: &[ShardNo],
+    cut: &Option<Moment>,
+    limit: u32,
+) -> Result<bool, Memory>
+    requires { length listed.old ≤ limit }
+    ensures { IfOk result (λ more. Lists limit (listed.old ++ listing cut.now (picked numbers.now shards.now)) listed.new more) }
+{
+    for no in numbers {
+        if list_number(listed, shards, *no, cut, limit)? {
+            return Ok(true);
         }
     }
-    Ok((listed, false))
+    Ok(false)
+}
+
+/// Adds those of the shards `rest` to `listed` that haven't expired at the trim horizon `cut`, until `listed` has
+/// `limit` shards. Returns whether there are more.
+fn list_rest(
+    listed: &mut Items<Shard>,
+    rest: &[KeptShard],
+    cut: &Option<Moment>,
+    limit: u32,
+) -> Result<bool, Memory>
+    requires { length listed.old ≤ limit }
+    ensures { IfOk result (λ more. Lists limit (listed.old ++ listing cut.now rest.now) listed.new more) }
+{
+    for kept in rest {
+        if list_one(listed, kept, cut, limit)? {
+            return Ok(true);
+        }
+    }
+    Ok(false)
+}
+
+/// Adds shard `no` of `shards` to `listed`, if there is such a shard and it hasn't expired at the trim horizon `cut`.
+/// Returns whether it would have been added but for the `limit` shards that `listed` has already.
+fn list_number(
+    listed: &mut Items<Shard>,
+    shards: &[KeptShard],
+    no: ShardNo,
+    cut: &Option<Moment>,
+    limit: u32,
+) -> Result<bool, Memory>
+    requires { length listed.old ≤ limit }
+    ensures { IfOk result (λ more. Lists limit (listed.old ++ listing cut.now (picked_before (slice_get shards.now no) [])) listed.new more) }
+{
+    match shards.get(no.0 as usize) {
+        Some(kept) => list_one(listed, kept, cut, limit),
+        None => Ok(false),
+    }
+}
+
+/// Adds the shard `kept` to `listed`, if it hasn't expired at the trim horizon `cut`. Returns whether it would have been
+/// added but for the `limit` shards that `listed` has already.
+fn list_one(
+    listed: &mut Items<Shard>,
+    kept: &KeptShard,
+    cut: &Option<Moment>,
+    limit: u32,
+) -> Result<bool, Memory>
+    requires { length listed.old ≤ limit }
+    ensures { IfOk result (λ more. Lists limit (listed.old ++ listing cut.now (kept.now ∷ [])) listed.new more) }
+{
+    if kept.is_expired(cut) {
+        return Ok(false);
+    }
+    if listed.as_slice().len() == limit as usize {
+        return Ok(true);
+    }
+    listed.push(*kept.shard())?;
+    Ok(false)
 }
 
 /// Returns the shard with the number `no` as a `Shard`, the type in which replies to clients describe shards. The

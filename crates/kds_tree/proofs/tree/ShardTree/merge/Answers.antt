@@ -5,7 +5,7 @@ use Rattle.kds_defs.specs.Shards.{ShardState, Closing}
 use Rattle.std.specs.Prelude.{slice_set}
 use Rattle.kds_defs.specs.Streams.{floor_of}
 use Rattle.kds_tree.specs.Families.{AreFamilies}
-use Rattle.kds_tree.specs.Front.{AreExpired}
+use Rattle.kds_tree.specs.Front.{AreLeft}
 use Rattle.kds_tree.specs.Starts.{AreStarts, own_start, stays}
 use Rattle.kds_tree.specs.Tree.{IsTree, TreeValue}
 use Rattle.kds_tree.proofs.Families.{one_place}
@@ -28,8 +28,9 @@ invariant_of-self-2 c =
     let tree = subst IsTree (ap (λ (t : TreeValue). t.shards) c.self.view_is) c.self.invariant.0 in
     let firsts = c.self.inside.first_children.items in
     let families : AreFamilies firsts xs = subst (AreFamilies firsts) (ap (λ (t : TreeValue). t.shards) c.self.view_is) c.self.invariant.2 in
-    let front : AreExpired (floor_of c.self.inside.front.cut) c.self.inside.front.count xs =
-    subst (AreExpired (floor_of c.self.inside.front.cut) c.self.inside.front.count) (ap (λ (t : TreeValue). t.shards) c.self.view_is) c.self.invariant.3 in
+    let names = c.self.inside.front.left.items in
+    let front : AreLeft (floor_of c.self.inside.front.cut) 0 c.self.inside.front.count names xs =
+    subst (AreLeft (floor_of c.self.inside.front.cut) 0 c.self.inside.front.count names) (ap (λ (t : TreeValue). t.shards) c.self.view_is) c.self.invariant.3 in
     let places = one_place firsts c.reserve-2.new.self.items c.set_first_child.new.first_children.items
     c.push_reserved-2.new.self.items c.args.shard c.args.other c.len.result _
     c.reserve-2.ensures.items c.set_first_child.ensures.items c.len.ensures.value c.push_reserved-2.ensures.items in
@@ -37,7 +38,7 @@ invariant_of-self-2 c =
       s.tree tree,
       s.starts tree ss c.push_reserved.new.self.items c.sort_starts.new.starts.items starts away c.sort_starts.ensures.same c.sort_starts.ensures.order,
       subst (λ (fs : List (Option ℕ)). AreFamilies fs zs) (sym places) (s.families firsts families),
-      front_merge xs c.push.new.self.items c.args.shard c.args.other c.shard.inside.0 c.other.inside.0 (floor_of c.self.inside.front.cut) c.self.inside.front.count c.in-Ok.range _ born c.close.new.self c.close-2.new.self
+      front_merge xs c.push.new.self.items c.args.shard c.args.other c.shard.inside.0 c.other.inside.0 (floor_of c.self.inside.front.cut) c.self.inside.front.count names c.in-Ok.range _ born c.close.new.self c.close-2.new.self
           c.in-Ok.ensures c.shard.view_is c.other.view_is pushed front,
     )
 

@@ -4,7 +4,7 @@ use Rattle.kds_defs.specs.Shards.{ShardState, Closing}
 use Rattle.std.specs.Prelude.{slice_set}
 use Rattle.kds_defs.specs.Streams.{floor_of}
 use Rattle.kds_tree.specs.Families.{AreFamilies}
-use Rattle.kds_tree.specs.Front.{AreExpired}
+use Rattle.kds_tree.specs.Front.{AreLeft}
 use Rattle.kds_tree.specs.Starts.{AreStarts, own_start, stays}
 use Rattle.kds_tree.specs.Tree.{IsTree, TreeValue}
 use Rattle.kds_tree.proofs.Families.{two_places}
@@ -29,8 +29,9 @@ invariant_of-self-2 c =
     let tree = subst IsTree (ap (λ (t : TreeValue). t.shards) c.self.view_is) c.self.invariant.0 in
     let firsts = c.self.inside.first_children.items in
     let families : AreFamilies firsts xs = subst (AreFamilies firsts) (ap (λ (t : TreeValue). t.shards) c.self.view_is) c.self.invariant.2 in
-    let front : AreExpired (floor_of c.self.inside.front.cut) c.self.inside.front.count xs =
-    subst (AreExpired (floor_of c.self.inside.front.cut) c.self.inside.front.count) (ap (λ (t : TreeValue). t.shards) c.self.view_is) c.self.invariant.3 in
+    let names = c.self.inside.front.left.items in
+    let front : AreLeft (floor_of c.self.inside.front.cut) 0 c.self.inside.front.count names xs =
+    subst (AreLeft (floor_of c.self.inside.front.cut) 0 c.self.inside.front.count names) (ap (λ (t : TreeValue). t.shards) c.self.view_is) c.self.invariant.3 in
     let places = two_places firsts c.reserve-2.new.self.items c.set_first_child.new.first_children.items
     c.push_reserved-3.new.self.items c.push_reserved-4.new.self.items c.args.shard c.args.shard c.len.result _
     c.reserve-2.ensures.items c.set_first_child.ensures.items c.len.ensures.value c.push_reserved-3.ensures.items c.push_reserved-4.ensures.items in
@@ -38,7 +39,7 @@ invariant_of-self-2 c =
       s.tree tree,
       s.starts tree ss c.push_reserved-2.new.self.items c.sort_starts.new.starts.items starts away c.sort_starts.ensures.same c.sort_starts.ensures.order,
       subst (λ (fs : List (Option ℕ)). AreFamilies fs zs) (sym places) (s.families firsts families),
-      front_split xs c.extend_from_slice.new.self.items c.args.shard c.shard.inside.0 c.args.at (floor_of c.self.inside.front.cut) c.self.inside.front.count c.in-Ok.ranges low high c.close.new.self
+      front_split xs c.extend_from_slice.new.self.items c.args.shard c.shard.inside.0 c.args.at (floor_of c.self.inside.front.cut) c.self.inside.front.count names c.in-Ok.ranges low high c.close.new.self
           c.in-Ok.ensures c.shard.view_is pushed front,
     )
 
