@@ -2,7 +2,9 @@
 //! shards. A row is the item of a lease in the lease table. A shard is listed if ListShards returns it.
 #![tactic(auto)]
 
-ghost use Rattle.std.specs.Prelude.{◌≡◌, ◌++◌, ◌∷◌, [], IfOk, OnOk, OnErr};
+ghost use Rattle.std.specs.Prelude.{◌≡◌, ◌++◌, ◌∷◌, [], is_some, IfOk, OnOk, OnErr};
+ghost use Rattle.std.specs.List.{position};
+ghost use Rattle.kds_defs.specs.Keys.{same_key};
 ghost use Rattle.kcl_defs.specs.Plans.{has_row, has_key, makes, cuts, sync_plan};
 
 pub use kcl_defs::SyncStep;
@@ -10,18 +12,42 @@ use kds_base::{Items, Memory, ShardRef};
 use kds_defs::{Origin, Row};
 use std::alloc::Global;
 
-/// Whether a row in `rows` has the key `key`.
-fn is_kept(rows: &[Row], key: ShardRef) -> bool
-    ensures { result ≡ has_row rows.now key }
+/// Returns the index of the first row in `rows` with the key `key`, or `None` if there is no such row.
+fn first_row(rows: &[Row], key: ShardRef) -> Option<usize>
+    ensures { result ≡ position (λ r. same_key r.key key) rows.now }
 {
-    rows.iter().any(|r| r.key == key)
+    rows.iter().position(|r| r.key == key)
 }
 
-/// Whether `key` is among the listed shards.
-fn is_listed(shards: &[ShardRef], key: ShardRef) -> bool
-    ensures { result ≡ has_key shards.now key }
+/// Returns the index of a row in `rows` with the key `key`, or `None` if there is no such row. The row at the index
+/// `hint` is looked at first.
+#[tactic(auto, using(crate::proofs::Places::row_at))]
+fn row_index(rows: &[Row], key: ShardRef, hint: usize) -> Option<usize>
+    ensures { is_some result ≡ has_row rows.now key }
 {
-    shards.iter().any(|k| *k == key)
+    match rows.get(hint) {
+        Some(r) if r.key == key => Some(hint),
+        _ => first_row(rows, key),
+    }
+}
+
+/// Returns the index at which `key` first stands in the listed shards, or `None` if it isn't there.
+fn first_shard(shards: &[ShardRef], key: ShardRef) -> Option<usize>
+    ensures { result ≡ position (λ k. same_key k key) shards.now }
+{
+    shards.iter().position(|k| *k == key)
+}
+
+/// Returns an index at which `key` stands in the listed shards, or `None` if it isn't there. The shard at the index
+/// `hint` is looked at first.
+#[tactic(auto, using(crate::proofs::Places::shard_at))]
+fn shard_index(shards: &[ShardRef], key: ShardRef, hint: usize) -> Option<usize>
+    ensures { is_some result ≡ has_key shards.now key }
+{
+    match shards.get(hint) {
+        Some(k) if *k == key => Some(hint),
+        _ => first_shard(shards, key),
+    }
 }
 
 /// The steps of the plan so far, and the origin at which the new rows begin.
@@ -48,25 +74,31 @@ impl Steps {
     }
 }
 
-/// Adds, for each shard in `shards` that has no row in `rows`, a step that makes a row.
+/// Adds, for each shard in `shards` that has no row in `rows`, a step that makes a row. A survey has both lists in the
+/// order of their keys, so the row of a shard usually stands behind that of the shard before.
 fn add_makes(steps: &mut Steps, shards: &[ShardRef], rows: &[Row]) -> Result<(), Memory>
     ensures { OnOk result (steps.new.all ≡ steps.old.all ++ makes steps.old.from rows.now shards.now) }
 {
+    let mut next = 0;
     for key in shards {
-        if !is_kept(rows, *key) {
-            steps.add_make(*key)?;
+        match row_index(rows, *key, next) {
+            Some(index) => next = index.wrapping_add(1),
+            None => steps.add_make(*key)?,
         }
     }
     Ok(())
 }
 
-/// Adds, for each row in `rows` whose shard isn't in `shards`, a step that removes the row.
+/// Adds, for each row in `rows` whose shard isn't in `shards`, a step that removes the row. A survey has both lists in
+/// the order of their keys, so the shard of a row usually stands behind that of the row before.
 fn add_cuts(steps: &mut Steps, shards: &[ShardRef], rows: &[Row]) -> Result<(), Memory>
     ensures { OnOk result (steps.new.all ≡ steps.old.all ++ cuts shards.now rows.now) }
 {
+    let mut next = 0;
     for r in rows {
-        if !is_listed(shards, r.key) {
-            steps.add_cut(r)?;
+        match shard_index(shards, r.key, next) {
+            Some(index) => next = index.wrapping_add(1),
+            None => steps.add_cut(r)?,
         }
     }
     Ok(())

@@ -1,71 +1,193 @@
--- Notes on rows, read by their keys.
-use Rattle.std.proofs.Common.{◌≡◌, ℕ, suc, ◌<◌, ◌++◌, get_or, set, take, drop, length, Bool, true, false, List, [], ◌∷◌, Option, Some, refl, sym, ap, ◌∙◌, arith}
-use Rattle.std.specs.Prelude.{◌==◌, ◌&&◌, cond, if◌then◌else◌}
-use Rattle.std.proofs.lemmas.List.{set_split}
-use Rattle.std.proofs.Math.Seq.{drop-cons}
+-- Notes on rows, in the order of their keys, and read by their keys.
+use Rattle.std.proofs.Common.{◌≡◌, ℕ, zero, suc, ◌<◌, ◌≤◌, length, slice_set, Bool, true, false}
+use Rattle.std.proofs.Common.{List, [], ◌∷◌, Option, Some, None, refl, sym, ap, subst, ◌∙◌, arith}
+use Rattle.std.specs.Prelude.{◌==◌, ◌&&◌, cond, if◌then◌else◌, slice_get, slice_index_or}
+use Rattle.std.specs.List.{insert}
+use Rattle.std.specs.List.Sorted.{IsPartitionedBy, IsPartitionPoint}
 use Rattle.std.proofs.lemmas.Bool.Decides.{nat_tests}
 use Rattle.kds_base.specs.declared.lease_key.ShardRef.{ShardRef}
-use Rattle.kds_base.proofs.Facts.{apart}
+use Rattle.kds_base.proofs.Facts.{apart, same_some}
 use Rattle.kcl_defs.specs.declared.plans.Seen.{Seen}
 use Rattle.kds_defs.specs.declared.reply.Row.{Row}
-use Rattle.kds_defs.specs.Keys.{same_key}
+use Rattle.kds_defs.specs.Keys.{is_before, same_key}
+use Rattle.kds_defs.proofs.Keys.{same_ref}
 use Rattle.kcl_defs.specs.Plans.{after_row, after_rows, seen_at, with_sight}
-use Rattle.kcl_take.specs.Notes.{first_note, noted, noted_all}
+use Rattle.kcl_take.specs.Notes.{AreInOrder, IsBeforeAll, first_note, if_key, noted, noted_all, place_of}
 
 -- ---- keys
 
-same_numbers : (a b c d : ℕ) → ((a == c) && (b == d)) ≡ true → (a ≡ c) × (b ≡ d)
-same_numbers a b c d h = (first a c (b == d) h, second b d (a == c) h)
+before_both : (a b c : ShardRef) → is_before a b ≡ true → is_before b c ≡ true → is_before a c ≡ true
+before_both a b c h g = grind (arith, nat_tests)
+
+not_same : (a b : ShardRef) → is_before a b ≡ true → same_key a b ≡ false
+not_same a b h = grind (arith, nat_tests)
+
+not_same_after : (a b : ShardRef) → is_before b a ≡ true → same_key a b ≡ false
+not_same_after a b h = grind (arith, nat_tests)
+
+after_else : (a b : ShardRef) → is_before a b ≡ false → same_key a b ≡ false → is_before b a ≡ true
+after_else a b h g = grind (arith, nat_tests)
+
+before_all : (a b : ShardRef) (xs : List Seen) → is_before a b ≡ true → IsBeforeAll b xs → IsBeforeAll a xs
+before_all a b [] h all = tt
+before_all a b (s ∷ xs) h all = (before_both a b s.key h all.0, before_all a b xs h all.1)
+
+-- ---- where a note stands
+
+-- the note comes before the key
+abbrev pub comes_before : ShardRef → Seen → Bool
+comes_before key s = is_before s.key key
+
+all_at : (key : ShardRef) (xs : List Seen) (j : ℕ) (d : Seen) → IsBeforeAll key xs → j < length xs → is_before key (slice_index_or xs j d).key ≡ true
+all_at key [] j d all h = absurd (omega arith)
+all_at key (s ∷ xs) zero d all h = all.0
+all_at key (s ∷ xs) (suc j) d all h = all_at key xs j d all.1 (omega arith)
+
+pub partitioned : (key : ShardRef) (xs : List Seen) → AreInOrder xs → IsPartitionedBy (comes_before key) xs
+partitioned key [] order i j d le within is = absurd (omega arith)
+partitioned key (s ∷ xs) order zero zero d le within is = is
+partitioned key (s ∷ xs) order zero (suc j) d le within is =
+    before_both s.key (slice_index_or xs j d).key key (all_at s.key xs j d order.0 (omega arith)) is
+partitioned key (s ∷ xs) order (suc i) zero d le within is = absurd (omega arith)
+partitioned key (s ∷ xs) order (suc i) (suc j) d le within is = partitioned key xs order.1 i j d (omega arith) (omega arith) is
+
+pub place_is : (key : ShardRef) (xs : List Seen) (i : ℕ) → i ≤ length xs
+    → IsPartitionPoint (λ s. comes_before key s ≡ true) (λ s. comes_before key s ≡ false) xs i → i ≡ place_of key xs
+place_is key [] i le h = omega arith
+place_is key (s ∷ xs) zero le h = ap (λ b. if b then suc (place_of key xs) else 0) (sym (h.1 0 s (omega arith) (omega arith)))
+place_is key (s ∷ xs) (suc i) le h =
+    let rest = place_is key xs i (omega arith) (λ k d low high. h.0 (suc k) d (omega arith) (omega arith), λ k d low high. h.1 (suc k) d (omega arith) (omega arith)) in
+    ap suc rest ∙ ap (λ b. if b then suc (place_of key xs) else 0) (sym (h.0 0 s (omega arith) (omega arith)))
+
+absent : (key : ShardRef) (xs : List Seen) → IsBeforeAll key xs → seen_at xs key ≡ None
+absent key [] all = refl
+absent key (s ∷ xs) all = ap (λ b. if b then Some s else seen_at xs key) (not_same_after s.key key all.0) ∙ absent key xs all.1
+
+seen_here : (key : ShardRef) (s : Seen) (xs : List Seen) (b d : Bool) → is_before s.key key ≡ b → same_key s.key key ≡ d → AreInOrder (s ∷ xs)
+    → seen_at xs key ≡ if_key key (slice_get xs (place_of key xs))
+    → (if d then Some s else seen_at xs key) ≡ if_key key (slice_get (s ∷ xs) (if b then suc (place_of key xs) else 0))
+seen_here key s xs true true before same order rest = absurd (apart (same_key s.key key) same (not_same s.key key before))
+seen_here key s xs true false before same order rest = rest
+seen_here key s xs false true before same order rest = ap (λ d. if d then Some s else None) (sym same)
+seen_here key s xs false false before same order rest =
+    absent key xs (before_all key s.key xs (after_else s.key key before same) order.0) ∙ ap (λ d. if d then Some s else None) (sym same)
+
+pub seen_there : (key : ShardRef) (xs : List Seen) → AreInOrder xs → seen_at xs key ≡ if_key key (slice_get xs (place_of key xs))
+seen_there key [] order = refl
+seen_there key (s ∷ xs) order = seen_here key s xs (is_before s.key key) (same_key s.key key) refl refl order (seen_there key xs order.1)
+
+-- ---- one row: what is written at that place
+
+none_some : (s : Seen) → None ≡ Some s → ⊥
+none_some s h = cc
+
+some_none : (s : Seen) → Some s ≡ None → ⊥
+some_none s h = cc
+
+same_then : (a b : ℕ) → a ≡ b → (a == b) ≡ true
+same_then a b h = grind (arith, nat_tests, h)
+
+differ : (a b : ℕ) → (a ≡ b → ⊥) → (a == b) ≡ false
+differ a b h = grind (arith, nat_tests, h)
+
+-- a note with another counter is replaced
+set_here : (first s x : Seen) (xs : List Seen) (b : Bool)
+    → if_key first.key (slice_get (x ∷ xs) (if b then suc (place_of first.key xs) else 0)) ≡ Some s → (s.counter ≡ first.counter → ⊥)
+    → (if_key first.key (slice_get xs (place_of first.key xs)) ≡ Some s → (place_of first.key xs < length xs) × (slice_set xs (place_of first.key xs) first ≡ noted first xs))
+    → ((if b then suc (place_of first.key xs) else 0) < suc (length xs)) × (slice_set (x ∷ xs) (if b then suc (place_of first.key xs) else 0) first
+    ≡ (if b then x ∷ noted first xs else if same_key x.key first.key then (if x.counter == first.counter then x else first) ∷ xs else first ∷ x ∷ xs))
+set_here first s x xs true h other rest = let g = rest h in (omega (arith, g.0), ap (λ ys. x ∷ ys) g.1)
+set_here first s x xs false h other rest = (omega arith, here (same_key x.key first.key) h)
   where
-    first : (a c : ℕ) (t : Bool) → ((a == c) && t) ≡ true → a ≡ c
-    first a c t h = grind (arith, nat_tests)
+    here : (d : Bool) → (if d then Some x else None) ≡ Some s
+        → first ∷ xs ≡ (if d then (if x.counter == first.counter then x else first) ∷ xs else first ∷ x ∷ xs)
+    here true h = ap (λ e. (if e then x else first) ∷ xs) (sym (differ x.counter first.counter (λ e. other (ap (λ (y : Seen). y.counter) (sym (same_some x s h)) ∙ e))))
+    here false h = absurd (none_some s h)
 
-    second : (b d : ℕ) (t : Bool) → (t && (b == d)) ≡ true → b ≡ d
-    second b d true h = grind (arith, nat_tests)
-    second b d false h = absurd cc
+pub set_is : (first s : Seen) (xs : List Seen) → if_key first.key (slice_get xs (place_of first.key xs)) ≡ Some s → (s.counter ≡ first.counter → ⊥)
+    → (place_of first.key xs < length xs) × (slice_set xs (place_of first.key xs) first ≡ noted first xs)
+set_is first s [] h other = absurd (none_some s h)
+set_is first s (x ∷ xs) h other = set_here first s x xs (is_before x.key first.key) h other (λ g. set_is first s xs g other)
 
-same_left : (s r k : ShardRef) → same_key s r ≡ true → same_key s k ≡ same_key r k
-same_left s r k h =
-    let e = same_numbers s.stream s.shard r.stream r.shard h in
-    ap (λ n. (n == k.stream) && (s.shard == k.shard)) e.0 ∙ ap (λ n. (r.stream == k.stream) && (n == k.shard)) e.1
-
-not_both : (s r k : ShardRef) → same_key s r ≡ false → same_key s k ≡ true → same_key r k ≡ false
-not_both s r k h g = test (same_key r k) refl
+-- a note with the same counter stays
+kept_here : (first s x : Seen) (xs : List Seen) (b : Bool)
+    → if_key first.key (slice_get (x ∷ xs) (if b then suc (place_of first.key xs) else 0)) ≡ Some s → s.counter ≡ first.counter
+    → (if_key first.key (slice_get xs (place_of first.key xs)) ≡ Some s → xs ≡ noted first xs)
+    → x ∷ xs ≡ (if b then x ∷ noted first xs else if same_key x.key first.key then (if x.counter == first.counter then x else first) ∷ xs else first ∷ x ∷ xs)
+kept_here first s x xs true h same rest = ap (λ ys. x ∷ ys) (rest h)
+kept_here first s x xs false h same rest = here (same_key x.key first.key) h
   where
-    equal_true : (a b : ℕ) → ((a == a) && (b == b)) ≡ true
-    equal_true a b = grind (arith, nat_tests)
+    here : (d : Bool) → (if d then Some x else None) ≡ Some s
+        → x ∷ xs ≡ (if d then (if x.counter == first.counter then x else first) ∷ xs else first ∷ x ∷ xs)
+    here true h = ap (λ e. (if e then x else first) ∷ xs) (sym (same_then x.counter first.counter (ap (λ (y : Seen). y.counter) (same_some x s h) ∙ same)))
+    here false h = absurd (none_some s h)
 
-    test : (b : Bool) → same_key r k ≡ b → b ≡ false
-    test false e = refl
-    test true e =
-        let x = same_numbers s.stream s.shard k.stream k.shard g in
-        let y = same_numbers r.stream r.shard k.stream k.shard e in
-        let z : same_key s r ≡ true = ap (λ n. (n == r.stream) && (s.shard == r.shard)) (x.0 ∙ sym y.0) ∙ ap (λ n. (r.stream == r.stream) && (n == r.shard)) (x.1 ∙ sym y.1) ∙ equal_true r.stream r.shard in
-        absurd (apart (same_key s r) z h)
+pub kept_is : (first s : Seen) (xs : List Seen) → if_key first.key (slice_get xs (place_of first.key xs)) ≡ Some s → s.counter ≡ first.counter
+    → xs ≡ noted first xs
+kept_is first s [] h same = absurd (none_some s h)
+kept_is first s (x ∷ xs) h same = kept_here first s x xs (is_before x.key first.key) h same (λ g. kept_is first s xs g same)
 
--- ---- one row
-
--- a note at the place of its key
-pub noted_here : (first : Seen) (xs : List Seen) (i : ℕ) (s : Seen) → i < length xs → s ≡ get_or xs i s → same_key s.key first.key ≡ true → (s.counter ≡ first.counter → ⊥) → take i xs ++ noted first (drop i xs) ≡ noted first xs → set xs i first ≡ noted first xs
-noted_here first xs i s within is same other so_far =
-    set_split xs i first within
-    ∙ ap (λ l. take i xs ++ l) (sym (here (drop (suc i) xs)))
-    ∙ ap (λ l. take i xs ++ noted first l) (sym (drop-cons xs i s within ∙ ap (λ x. x ∷ drop (suc i) xs) (sym is)))
-    ∙ so_far
+-- where there is no note, the first one is put in
+insert_here : (first x : Seen) (xs : List Seen) (b : Bool)
+    → if_key first.key (slice_get (x ∷ xs) (if b then suc (place_of first.key xs) else 0)) ≡ None
+    → (if_key first.key (slice_get xs (place_of first.key xs)) ≡ None → insert xs (place_of first.key xs) first ≡ noted first xs)
+    → insert (x ∷ xs) (if b then suc (place_of first.key xs) else 0) first
+    ≡ (if b then x ∷ noted first xs else if same_key x.key first.key then (if x.counter == first.counter then x else first) ∷ xs else first ∷ x ∷ xs)
+insert_here first x xs true h rest = ap (λ ys. x ∷ ys) (rest h)
+insert_here first x xs false h rest = here (same_key x.key first.key) h
   where
-    differ : (a b : ℕ) → (a ≡ b → ⊥) → (a == b) ≡ false
-    differ a b h = grind (arith, nat_tests, h)
+    here : (d : Bool) → (if d then Some x else None) ≡ None
+        → first ∷ x ∷ xs ≡ (if d then (if x.counter == first.counter then x else first) ∷ xs else first ∷ x ∷ xs)
+    here true h = absurd (some_none x h)
+    here false h = refl
 
-    here : (rest : List Seen) → noted first (s ∷ rest) ≡ first ∷ rest
-    here rest =
-        ap (λ b. if b then (if s.counter == first.counter then s else first) ∷ rest else s ∷ noted first rest) same
-        ∙ ap (λ b. (if b then s else first) ∷ rest) (differ s.counter first.counter other)
+pub insert_is : (first : Seen) (xs : List Seen) → if_key first.key (slice_get xs (place_of first.key xs)) ≡ None
+    → insert xs (place_of first.key xs) first ≡ noted first xs
+insert_is first [] h = refl
+insert_is first (x ∷ xs) h = insert_here first x xs (is_before x.key first.key) h (insert_is first xs)
 
-noted_at : (r : Row) (now : ℕ) (seen : List Seen) (key : ShardRef) → seen_at (noted (first_note r now) seen) key ≡ (if same_key r.key key then with_sight r now (seen_at seen key) else seen_at seen key)
-noted_at r now [] key = refl
-noted_at r now (s ∷ seen) key = head (same_key s.key r.key) refl (noted_at r now seen key)
+-- ---- one row: the order stays
+
+before_noted_here : (k : ShardRef) (first x : Seen) (xs : List Seen) (b d e : Bool) → is_before k first.key ≡ true → IsBeforeAll k (x ∷ xs)
+    → IsBeforeAll k (noted first xs)
+    → IsBeforeAll k (if b then x ∷ noted first xs else if d then (if e then x else first) ∷ xs else first ∷ x ∷ xs)
+before_noted_here k first x xs true d e h all rest = (all.0, rest)
+before_noted_here k first x xs false true true h all rest = all
+before_noted_here k first x xs false true false h all rest = (h, all.1)
+before_noted_here k first x xs false false e h all rest = (h, all)
+
+before_noted : (k : ShardRef) (first : Seen) (xs : List Seen) → is_before k first.key ≡ true → IsBeforeAll k xs → IsBeforeAll k (noted first xs)
+before_noted k first [] h all = (h, tt)
+before_noted k first (x ∷ xs) h all =
+    before_noted_here k first x xs (is_before x.key first.key) (same_key x.key first.key) (x.counter == first.counter) h all (before_noted k first xs h all.1)
+
+order_here : (first x : Seen) (xs : List Seen) (b d e : Bool) → is_before x.key first.key ≡ b → same_key x.key first.key ≡ d → AreInOrder (x ∷ xs)
+    → AreInOrder (noted first xs)
+    → AreInOrder (if b then x ∷ noted first xs else if d then (if e then x else first) ∷ xs else first ∷ x ∷ xs)
+order_here first x xs true d e before same order rest = (before_noted x.key first xs before order.0, rest)
+order_here first x xs false true true before same order rest = order
+order_here first x xs false true false before same order rest = (subst (λ key. IsBeforeAll key xs) (same_ref x.key first.key same) order.0, order.1)
+order_here first x xs false false e before same order rest =
+    let after = after_else x.key first.key before same in
+    ((after, before_all first.key x.key xs after order.0), order)
+
+pub order_noted : (first : Seen) (xs : List Seen) → AreInOrder xs → AreInOrder (noted first xs)
+order_noted first [] order = (tt, tt)
+order_noted first (x ∷ xs) order =
+    order_here first x xs (is_before x.key first.key) (same_key x.key first.key) (x.counter == first.counter) refl refl order (order_noted first xs order.1)
+
+-- ---- one row: what is then kept of each key
+
+noted_at : (r : Row) (now : ℕ) (seen : List Seen) (key : ShardRef) → AreInOrder seen
+    → seen_at (noted (first_note r now) seen) key ≡ (if same_key r.key key then with_sight r now (seen_at seen key) else seen_at seen key)
+noted_at r now [] key order = refl
+noted_at r now (s ∷ seen) key order = head (is_before s.key r.key) (same_key s.key r.key) refl refl (noted_at r now seen key order.1)
   where
-    kept : (rk sk e : Bool) (rest : Option Seen) → sk ≡ rk → (if e then cond sk (Some s) rest else cond rk (Some (first_note r now)) rest) ≡ (if rk then cond sk (if e then Some s else Some (first_note r now)) (with_sight r now rest) else cond sk (Some s) rest)
+    same_left : (d : Bool) → same_key s.key r.key ≡ true → same_key s.key key ≡ same_key r.key key
+    same_left d h = ap (λ k. same_key k key) (same_ref s.key r.key h)
+
+    kept : (rk sk e : Bool) (rest : Option Seen) → sk ≡ rk
+        → (if e then cond sk (Some s) rest else cond rk (Some (first_note r now)) rest) ≡ (if rk then cond sk (if e then Some s else Some (first_note r now)) (with_sight r now rest) else cond sk (Some s) rest)
     kept true true true rest h = refl
     kept true true false rest h = refl
     kept false false true rest h = refl
@@ -73,31 +195,60 @@ noted_at r now (s ∷ seen) key = head (same_key s.key r.key) refl (noted_at r n
     kept true false e rest h = absurd cc
     kept false true e rest h = absurd cc
 
-    split_head : (e : Bool) → seen_at ((if e then s else first_note r now) ∷ seen) key ≡ (if e then cond (same_key s.key key) (Some s) (seen_at seen key) else cond (same_key r.key key) (Some (first_note r now)) (seen_at seen key))
+    split_head : (e : Bool)
+        → seen_at ((if e then s else first_note r now) ∷ seen) key ≡ (if e then cond (same_key s.key key) (Some s) (seen_at seen key) else cond (same_key r.key key) (Some (first_note r now)) (seen_at seen key))
     split_head true = refl
     split_head false = refl
 
-    sight_of : (sk : Bool) (rest : Option Seen) → with_sight r now (cond sk (Some s) rest) ≡ cond sk (if s.counter == r.counter then Some s else Some (first_note r now)) (with_sight r now rest)
+    sight_of : (sk : Bool) (rest : Option Seen)
+        → with_sight r now (cond sk (Some s) rest) ≡ cond sk (if s.counter == r.counter then Some s else Some (first_note r now)) (with_sight r now rest)
     sight_of true rest = refl
     sight_of false rest = refl
 
-    passed : (rk sk : Bool) (rest later : Option Seen) → (sk ≡ true → rk ≡ false) → later ≡ (if rk then with_sight r now rest else rest) → cond sk (Some s) later ≡ (if rk then with_sight r now (cond sk (Some s) rest) else cond sk (Some s) rest)
-    passed true true rest later h ih = absurd (let e = h refl in cc)
+    passed : (rk sk : Bool) (rest later : Option Seen) → (sk ≡ true → rk ≡ true → ⊥) → later ≡ (if rk then with_sight r now rest else rest)
+        → cond sk (Some s) later ≡ (if rk then with_sight r now (cond sk (Some s) rest) else cond sk (Some s) rest)
+    passed true true rest later h ih = absurd (h refl refl)
     passed true false rest later h ih = ih
     passed false true rest later h ih = refl
     passed false false rest later h ih = ih
 
-    head : (b : Bool) → same_key s.key r.key ≡ b → seen_at (noted (first_note r now) seen) key ≡ (if same_key r.key key then with_sight r now (seen_at seen key) else seen_at seen key) → seen_at (if b then (if s.counter == r.counter then s else first_note r now) ∷ seen else s ∷ noted (first_note r now) seen) key ≡ (if same_key r.key key then with_sight r now (seen_at (s ∷ seen) key) else seen_at (s ∷ seen) key)
-    head true same ih =
+    -- a key before which the note stands isn't its own
+    not_both : is_before s.key r.key ≡ true → same_key s.key key ≡ true → same_key r.key key ≡ true → ⊥
+    not_both before sk rk =
+        apart (same_key s.key r.key) (subst (λ k. same_key s.key k ≡ true) (same_ref s.key key sk ∙ sym (same_ref r.key key rk)) (own s.key)) (not_same s.key r.key before)
+      where
+        own : (k : ShardRef) → same_key s.key s.key ≡ true
+        own k = grind (arith, nat_tests)
+
+    -- a row without a note
+    new : (rk : Bool) → same_key r.key key ≡ rk → is_before r.key s.key ≡ true
+        → cond rk (Some (first_note r now)) (seen_at (s ∷ seen) key) ≡ (if rk then with_sight r now (seen_at (s ∷ seen) key) else seen_at (s ∷ seen) key)
+    new true rk after =
+        let none : seen_at (s ∷ seen) key ≡ None = ap (seen_at (s ∷ seen)) (sym (same_ref r.key key rk))
+        ∙ absent r.key (s ∷ seen) (after, before_all r.key s.key seen after order.0) in
+        sym (ap (with_sight r now) none)
+    new false rk after = refl
+
+    head : (b d : Bool) → is_before s.key r.key ≡ b → same_key s.key r.key ≡ d
+        → seen_at (noted (first_note r now) seen) key ≡ (if same_key r.key key then with_sight r now (seen_at seen key) else seen_at seen key)
+        → seen_at (if b then s ∷ noted (first_note r now) seen else if d then (if s.counter == r.counter then s else first_note r now) ∷ seen else first_note r now ∷ s ∷ seen) key
+        ≡ (if same_key r.key key then with_sight r now (seen_at (s ∷ seen) key) else seen_at (s ∷ seen) key)
+    head true d before same ih = passed (same_key r.key key) (same_key s.key key) (seen_at seen key) (seen_at (noted (first_note r now) seen) key) (not_both before) ih
+    head false true before same ih =
         split_head (s.counter == r.counter)
-        ∙ kept (same_key r.key key) (same_key s.key key) (s.counter == r.counter) (seen_at seen key) (same_left s.key r.key key same)
+        ∙ kept (same_key r.key key) (same_key s.key key) (s.counter == r.counter) (seen_at seen key) (same_left true same)
         ∙ ap (λ o. if same_key r.key key then o else cond (same_key s.key key) (Some s) (seen_at seen key)) (sym (sight_of (same_key s.key key) (seen_at seen key)))
-    head false same ih = passed (same_key r.key key) (same_key s.key key) (seen_at seen key) (seen_at (noted (first_note r now) seen) key) (λ e. not_both s.key r.key key same e) ih
+    head false false before same ih = new (same_key r.key key) refl (after_else s.key r.key before same)
 
 -- ---- all rows
 
-pub noted_all_at : (rows : List Row) (now : ℕ) (seen : List Seen) (key : ShardRef) → seen_at (noted_all rows now seen) key ≡ after_rows rows now (seen_at seen) key
-noted_all_at [] now seen key = refl
-noted_all_at (r ∷ rows) now seen key =
-    let e : seen_at (noted (first_note r now) seen) ≡ after_row r now (seen_at seen) = λ i k. noted_at r now seen k i in
-    noted_all_at rows now (noted (first_note r now) seen) key ∙ ap (λ f. after_rows rows now f key) e
+pub order_noted_all : (rows : List Row) (now : ℕ) (seen : List Seen) → AreInOrder seen → AreInOrder (noted_all rows now seen)
+order_noted_all [] now seen order = order
+order_noted_all (r ∷ rows) now seen order = order_noted_all rows now (noted (first_note r now) seen) (order_noted (first_note r now) seen order)
+
+pub noted_all_at : (rows : List Row) (now : ℕ) (seen : List Seen) (key : ShardRef) → AreInOrder seen
+    → seen_at (noted_all rows now seen) key ≡ after_rows rows now (seen_at seen) key
+noted_all_at [] now seen key order = refl
+noted_all_at (r ∷ rows) now seen key order =
+    let e : seen_at (noted (first_note r now) seen) ≡ after_row r now (seen_at seen) = λ i k. noted_at r now seen k order i in
+    noted_all_at rows now (noted (first_note r now) seen) key (order_noted (first_note r now) seen order) ∙ ap (λ f. after_rows rows now f key) e

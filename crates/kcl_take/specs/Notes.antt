@@ -1,17 +1,39 @@
--- How notes on rows are kept in a list.
-use Rattle.std.specs.Prelude.{ℕ, ◌==◌, if◌then◌else◌, List, [], ◌∷◌}
+-- How notes on rows are kept in a list, in the order of the rows' keys.
+use Rattle.std.specs.Prelude.{ℕ, suc, ◌≡◌, true, ◌==◌, if◌then◌else◌, List, [], ◌∷◌, Option, Some, None}
+use Rattle.std.specs.List.{AllByRecursion}
+use Rattle.kds_base.specs.declared.lease_key.ShardRef.{ShardRef}
 use Rattle.kcl_defs.specs.declared.plans.Seen.{Seen}
 use Rattle.kds_defs.specs.declared.reply.Row.{Row}
-use Rattle.kds_defs.specs.Keys.{same_key}
+use Rattle.kds_defs.specs.Keys.{is_before, same_key}
 
 abbrev pub first_note : Row → ℕ → Seen
 first_note r now = record { key = r.key; counter = r.counter; since = now }
+
+-- the key comes before those of all these notes
+abbrev pub IsBeforeAll : ShardRef → List Seen → Type 0
+IsBeforeAll key seen = AllByRecursion (λ (s : Seen). is_before key s.key ≡ true) seen
+
+-- the keys rise
+abbrev pub AreInOrder : List Seen → Type 0
+AreInOrder [] = Unit {0}
+AreInOrder (s ∷ seen) = IsBeforeAll s.key seen × AreInOrder seen
+
+-- how many notes come before a key: the place where the note on its row stands, or would stand
+abbrev pub place_of : ShardRef → List Seen → ℕ
+place_of key [] = 0
+place_of key (s ∷ seen) = if is_before s.key key then suc (place_of key seen) else 0
+
+-- the note that stands there, if it is the key's
+abbrev pub if_key : ShardRef → Option Seen → Option Seen
+if_key key None = None
+if_key key (Some s) = if same_key s.key key then Some s else None
 
 -- one row
 abbrev pub noted : Seen → List Seen → List Seen
 noted first [] = first ∷ []
 noted first (s ∷ seen) =
-    if same_key s.key first.key then (if s.counter == first.counter then s else first) ∷ seen else s ∷ noted first seen
+    if is_before s.key first.key then s ∷ noted first seen else
+    if same_key s.key first.key then (if s.counter == first.counter then s else first) ∷ seen else first ∷ s ∷ seen
 
 -- all rows, in order
 abbrev pub noted_all : List Row → ℕ → List Seen → List Seen

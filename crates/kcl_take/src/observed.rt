@@ -1,9 +1,10 @@
 //! A worker's notes on the lease rows that it has seen. The notes show whether a lease has expired. A row is the item
 //! of a lease in the lease table. Each write of a row raises its counter.
-ghost use Rattle.std.specs.Prelude.{◌≡◌, ◌++◌, ◌∷◌, [], IfOk, OnOk, OnErr};
+ghost use Rattle.std.specs.Prelude.{◌≡◌, ◌≤◌, [], length, slice_get, IfOk, OnOk, OnErr};
 ghost use Rattle.kds_base.specs.declared.lease_key.ShardRef.{ShardRef};
+ghost use Rattle.kds_defs.specs.Keys.{is_before};
 ghost use Rattle.kcl_defs.specs.Plans.{after_rows, is_expired_since, seen_at};
-ghost use Rattle.kcl_take.specs.Notes.{first_note, noted, noted_all};
+ghost use Rattle.kcl_take.specs.Notes.{AreInOrder, first_note, if_key, noted, noted_all, place_of};
 
 use kcl_defs::Seen;
 use kds_base::{Memory, Moment, ShardRef};
@@ -13,7 +14,7 @@ use std::marker::Model;
 
 /// A worker's notes on all lease rows that it has seen (Kinesis Client Library, LeaseTaker). The note on a row has the
 /// row's last seen counter, and the moment at which this counter was first seen. A row that is no longer in the lease
-/// table keeps its note.
+/// table keeps its note. The notes are in the order of the rows' keys, so that the note on a row is found by halves.
 #[derive(Drop)]
 pub struct Observed {
     seen: Vec<Seen>,
@@ -22,10 +23,13 @@ pub struct Observed {
 impl Model for Observed {
     ghost use Rattle.std.specs.Prelude.{List};
     ghost use Rattle.kcl_defs.specs.declared.plans.Seen.{Seen};
+    ghost use Rattle.kcl_take.specs.Notes.{AreInOrder};
 
     ghost Value = { List Seen };
 
     ghost view = { λ o. o.seen.items };
+
+    ghost invariant = { λ o. AreInOrder o.seen.items };
 }
 
 /// Returns a new note on the row `r`, whose present counter is first seen at the moment `now`.
@@ -39,39 +43,69 @@ fn first_note(r: &Row, now: Moment) -> Seen
     }
 }
 
-/// Adds the note `first` to `seen`. If `seen` has a note on the same row with another counter, `first` replaces that
-/// note. If `seen` has a note on the same row with the same counter, nothing changes.
-fn note(seen: &mut Vec<Seen>, first: Seen) -> Result<(), Memory>
-    ensures { OnOk result (seen.new.items ≡ noted first seen.old.items) }
+/// Whether the key `a` comes before the key `b`. Keys are ordered by stream number, and within a stream by shard
+/// number.
+fn precedes(a: &ShardRef, b: &ShardRef) -> bool
+    ensures { result ≡ is_before a.now b.now }
 {
-    for i in 0..seen.len() {
-        let s = seen[i];
-        if s.key == first.key {
-            if s.counter != first.counter {
-                seen[i] = first;
-            }
-            return Ok(());
-        }
+    if a.stream == b.stream {
+        a.shard < b.shard
+    } else {
+        a.stream < b.stream
     }
-    seen.push(first)?;
+}
+
+/// Returns the number of notes on rows whose keys come before `key`. This is the index at which the note on the row
+/// with the key `key` belongs.
+fn index_of(seen: &[Seen], key: &ShardRef) -> usize
+    requires { AreInOrder seen.now }
+    ensures value { result ≡ place_of key.now seen.now }
+    ensures within { result ≤ length seen.now }
+{
+    seen.partition_point(|s| precedes(&s.key, key))
+}
+
+/// Returns the note at the index `index` if it is a note on the row with the key `key`, and otherwise `None`.
+fn note_at(seen: &[Seen], index: usize, key: &ShardRef) -> Option<Seen>
+    ensures { result ≡ if_key key.now (slice_get seen.now index) }
+{
+    let s = seen.get(index)?;
+    if s.key == *key { Some(*s) } else { None }
+}
+
+/// Adds the note `first` to `seen`, in the order of the keys. If `seen` has a note on the same row with another
+/// counter, `first` replaces that note. If `seen` has a note on the same row with the same counter, nothing changes.
+fn note(seen: &mut Vec<Seen>, first: Seen) -> Result<(), Memory>
+    requires { AreInOrder seen.old.items }
+    ensures value { OnOk result (seen.new.items ≡ noted first seen.old.items) }
+    ensures order { OnOk result (AreInOrder seen.new.items) }
+{
+    let index = index_of(seen.as_slice(), &first.key);
+    match note_at(seen.as_slice(), index, &first.key) {
+        Some(s) => {
+            if s.counter != first.counter {
+                seen[index] = first;
+            }
+        }
+        None => seen.insert(index, first)?,
+    }
     Ok(())
 }
 
 /// Returns the note on the row with the key `key`, or `None` if there is no such note.
+#[tactic(auto, using(crate::proofs::Sights::seen_there))]
 fn find_seen(seen: &[Seen], key: &ShardRef) -> Option<Seen>
+    requires { AreInOrder seen.now }
     ensures { result ≡ seen_at seen.now key.now }
 {
-    for s in seen {
-        if s.key == *key {
-            return Some(*s);
-        }
-    }
-    None
+    note_at(seen, index_of(seen, key), key)
 }
 
 /// Updates the notes `seen` with each of `rows`, which the worker sees at the moment `now`.
 fn note_all(seen: &mut Vec<Seen>, rows: &[Row], now: Moment) -> Result<(), Memory>
-    ensures { OnOk result (seen.new.items ≡ noted_all rows.now now seen.old.items) }
+    requires { AreInOrder seen.old.items }
+    ensures value { OnOk result (seen.new.items ≡ noted_all rows.now now seen.old.items) }
+    ensures order { OnOk result (AreInOrder seen.new.items) }
 {
     for r in rows {
         note(seen, first_note(r, now))?;
@@ -99,6 +133,19 @@ impl Observed {
         }
     }
 
+    /// Returns the notes updated with `rows`, which the worker sees at the moment `now`. Each row that has no note, or a
+    /// note with another counter, gets a new note with the row's counter and `now`. The error means out of memory.
+    pub fn with_rows(&self, alloc: Global, rows: &[Row], now: Moment) -> Result<Observed, Memory>
+        ensures { IfOk result (λ o. (key : ShardRef) → seen_at o key ≡ after_rows rows.now now (seen_at self.now) key) }
+    {
+        let mut seen = match Vec::from_slice(alloc, self.seen.as_slice()) {
+            Ok(seen) => seen,
+            Err(_) => return Err(Memory),
+        };
+        note_all(&mut seen, rows, now)?;
+        Ok(Observed { seen })
+    }
+
     /// Updates the notes with `rows`, which the worker sees at the moment `now`. Each row that has no note, or a note
     /// with another counter, gets a new note with the row's counter and `now`. The error means out of memory; the notes
     /// are then unchanged.
@@ -106,12 +153,7 @@ impl Observed {
         ensures ok { OnOk result ((key : ShardRef) → seen_at self.new key ≡ after_rows rows.now now (seen_at self.old) key) }
         ensures err { OnErr result (self.new ≡ self.old) }
     {
-        let mut seen = match Vec::from_slice(alloc, self.seen.as_slice()) {
-            Ok(seen) => seen,
-            Err(_) => return Err(Memory),
-        };
-        note_all(&mut seen, rows, now)?;
-        self.seen = seen;
+        *self = self.with_rows(alloc, rows, now)?;
         Ok(())
     }
 

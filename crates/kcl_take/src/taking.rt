@@ -1,8 +1,8 @@
 //! Chooses the leases that a worker takes. A row is the item of a lease in the lease table, and names the lease's
 //! owner, if any. A tenure is one worker's hold on a lease; each tenure has a number. A take plan is a list of steps.
 //! Each step takes one lease.
-ghost use Rattle.std.specs.Prelude.{◌≡◌, ◌+◌, ◌/◌, ◌==◌, [], length, map, not, IfOk, OnOk};
-ghost use Rattle.std.specs.List.{cons_option, count_by, filter, list_any};
+ghost use Rattle.std.specs.Prelude.{◌≡◌, ◌+◌, ◌/◌, ◌==◌, [], is_some, length, map, not, IfOk, OnOk};
+ghost use Rattle.std.specs.List.{cons_option, count_by, filter, list_any, position};
 ghost use Rattle.kds_defs.specs.Leases.{is_end};
 ghost use Rattle.kcl_defs.specs.Plans.{busier, busiest, candidate, candidates, chosen, expiry, first_step, is_available, is_key_held, is_mine, is_owned_by, is_held_at, load_of, loads, others, seen_at, stolen, take_among, take_plan, take_step, target_of, with_owner, with_worker};
 
@@ -62,11 +62,31 @@ fn is_owned_by(worker: WorkerNo, r: &Row) -> bool
     }
 }
 
-/// Whether one of the worker's leases `held` has the key and the tenure number of the row.
-fn is_mine(held: &[Held], r: &Row) -> bool
-    ensures { result ≡ is_mine held.now r.now }
+/// Whether the lease `h` has the key and the tenure number of the row.
+fn is_held_at(h: &Held, r: &Row) -> bool
+    ensures { result ≡ is_held_at r.now h.now }
 {
-    held.iter().any(|h| h.key == r.key && h.tenure == r.tenure)
+    h.key == r.key && h.tenure == r.tenure
+}
+
+/// Returns the index of the first of the worker's leases `held` that has the key and the tenure number of the row, or
+/// `None` if there is no such lease.
+fn first_mine(held: &[Held], r: &Row) -> Option<usize>
+    ensures { result ≡ position (is_held_at r.now) held.now }
+{
+    held.iter().position(|h| is_held_at(h, r))
+}
+
+/// Returns the index of one of the worker's leases `held` that has the key and the tenure number of the row, or `None`
+/// if there is no such lease. The lease at the index `hint` is looked at first.
+#[tactic(auto, using(crate::proofs::Places::mine_at, crate::proofs::Places::mine_anywhere))]
+fn mine_index(held: &[Held], r: &Row, hint: usize) -> Option<usize>
+    ensures { is_some result ≡ is_mine held.now r.now }
+{
+    match held.get(hint) {
+        Some(h) if is_held_at(h, r) => Some(hint),
+        _ => first_mine(held, r),
+    }
 }
 
 /// Whether one of the worker's leases `held` has the key of the row. The tenure numbers may differ.
@@ -78,10 +98,11 @@ fn is_key_held(held: &[Held], r: &Row) -> bool
 
 /// Whether the worker `me` can take the lease of the row without stealing it. None of the worker's leases `held` may
 /// have the row's key, and the row must have no owner or the owner `me`.
+#[tactic(auto, using(crate::proofs::Places::both_ways))]
 fn is_available(me: WorkerNo, held: &[Held], r: &Row) -> bool
     ensures { result ≡ is_available me held.now r.now }
 {
-    !is_key_held(held, r) && (r.owner.is_none() || is_owned_by(me, r))
+    (r.owner.is_none() || is_owned_by(me, r)) && !is_key_held(held, r)
 }
 
 /// Counts the rows that `worker` owns.
@@ -91,11 +112,20 @@ fn load_of(rows: &[Row], worker: WorkerNo) -> usize
     rows.iter().filter(|r| is_owned_by(worker, r)).count()
 }
 
-/// Counts the rows that have the key and the tenure number of one of the worker's leases `held`.
+/// Counts the rows that have the key and the tenure number of one of the worker's leases `held`. A worker takes leases
+/// in the order of the rows, so the lease of a row often stands behind that of the row before.
 fn count_mine(rows: &[Row], held: &[Held]) -> usize
     ensures { result ≡ count_by (is_mine held.now) rows.now }
 {
-    rows.iter().filter(|r| is_mine(held, r)).count()
+    let mut next = 0;
+    let mut count = 0;
+    for r in rows {
+        if let Some(index) = mine_index(held, r, next) {
+            next = index.wrapping_add(1);
+            count += 1;
+        }
+    }
+    count
 }
 
 /// Whether `worker` is in the list `workers`.

@@ -1,14 +1,14 @@
 //! Computes a worker's notes, leases and plans after a survey. A survey lists the shards, and the rows of the lease
 //! table. A row is the item of a lease; it names the tenure that holds the lease, if any. A tenure is one worker's hold
 //! on a lease.
-ghost use Rattle.std.specs.Prelude.{◌≡◌, IfOk};
+ghost use Rattle.std.specs.Prelude.{◌≡◌, IfOk, true};
 ghost use Rattle.std.specs.List.{filter};
-ghost use Rattle.std.specs.Option.{option_map};
-ghost use Rattle.kcl_defs.specs.Plans.{row_of};
+ghost use Rattle.kcl_defs.specs.Plans.{AreRising, keys_of};
 ghost use Rattle.kcl_defs.specs.Workers.{still_stands};
 ghost use Rattle.kcl_worker_lists.specs.Planning.{IsPlanned, IsPlannedAfter, gone, is_among};
 
 use crate::leases::{id_of_held, same_id};
+use crate::search::{are_rising, row_of};
 use kcl_defs::{Held, LeaseId, SyncStep, TakeStep, WorkerMade};
 use kcl_take::Observed;
 use kds_base::{Items, Memory, Moment, ShardRef};
@@ -28,23 +28,13 @@ pub struct Planned {
     pub takes: Items<TakeStep>,
 }
 
-/// Returns the first row with the key `key`, or `None` if no row has this key.
-fn row_of<'a>(rows: &'a [Row], key: &ShardRef) -> Option<&'a Row>
-    ensures { option_map (λ r. r.now) result ≡ row_of rows.now key.now }
-{
-    for r in rows {
-        if r.key == *key {
-            return Some(r);
-        }
-    }
-    None
-}
-
-/// Whether the worker still holds the lease `h`: the lease's row is in `rows` and names the lease's tenure.
-fn still_stands(rows: &[Row], h: &Held) -> bool
+/// Whether the worker still holds the lease `h`: the lease's row is in `rows` and names the lease's tenure. If the keys
+/// of the rows rise, `rising` may say so.
+fn still_stands(rows: &[Row], h: &Held, rising: bool) -> bool
+    requires { rising ≡ true → AreRising (keys_of rows.now) }
     ensures { result ≡ still_stands rows.now h.now }
 {
-    match row_of(rows, &h.key) {
+    match row_of(rows, &h.key, rising) {
         Some(r) => r.tenure == h.tenure,
         None => false,
     }
@@ -54,9 +44,10 @@ fn still_stands(rows: &[Row], h: &Held) -> bool
 fn standing(alloc: Global, rows: &[Row], held: &[Held]) -> Result<Vec<Held>, Memory>
     ensures { IfOk result (λ kept. kept.items ≡ filter (still_stands rows.now) held.now) }
 {
+    let rising = are_rising(rows);
     let mut kept = Vec::new(alloc);
     for h in held {
-        if still_stands(rows, h) {
+        if still_stands(rows, h, rising) {
             kept.push(*h)?;
         }
     }
@@ -68,9 +59,10 @@ fn standing(alloc: Global, rows: &[Row], held: &[Held]) -> Result<Vec<Held>, Mem
 fn gone(alloc: Global, rows: &[Row], held: &[Held]) -> Result<Vec<Held>, Memory>
     ensures { IfOk result (λ lost. lost.items ≡ gone rows.now held.now) }
 {
+    let rising = are_rising(rows);
     let mut lost = Vec::new(alloc);
     for h in held {
-        if !still_stands(rows, h) {
+        if !still_stands(rows, h, rising) {
             lost.push(*h)?;
         }
     }
@@ -102,8 +94,7 @@ pub fn plan_survey(
 ) -> Result<Planned, Memory>
     ensures { IfOk result (λ p. IsPlanned made.now observed.now held.now shards.now rows.now now p) }
 {
-    let mut observed = observed.copy(alloc)?;
-    observed.see(alloc, rows, now)?;
+    let observed = observed.with_rows(alloc, rows, now)?;
     let lost = gone(alloc, rows, held)?;
     let held = standing(alloc, rows, held)?;
     let syncs = kcl_sync::plan(alloc, shards, rows, made.settings.from)?;

@@ -1,0 +1,99 @@
+//! Finds the row of a key among the rows of a survey. A survey lists the rows in the order of their keys. Whether it
+//! did is looked at once, so that no caller has to know it.
+ghost use Rattle.std.specs.Prelude.{◌≡◌, ◌≤◌, length, slice_get, true};
+ghost use Rattle.std.specs.Option.{option_map};
+ghost use Rattle.kds_defs.specs.Keys.{is_before};
+ghost use Rattle.kcl_defs.specs.Plans.{AreRising, keys_of, row_of};
+ghost use Rattle.kcl_worker_lists.specs.Places.{before_next, if_key, place_of};
+
+use kds_base::ShardRef;
+use kds_defs::Row;
+
+/// Whether the key `a` comes before the key `b`. Keys are ordered by stream number, and within a stream by shard
+/// number.
+fn precedes(a: &ShardRef, b: &ShardRef) -> bool
+    ensures { result ≡ is_before a.now b.now }
+{
+    if a.stream == b.stream {
+        a.shard < b.shard
+    } else {
+        a.stream < b.stream
+    }
+}
+
+/// Whether `key` comes before the key of the row at the index `next`, if there is one.
+fn before_next(key: &ShardRef, rows: &[Row], next: usize) -> bool
+    ensures { result ≡ before_next key.now (slice_get rows.now next) }
+{
+    match rows.get(next) {
+        Some(r) => precedes(key, &r.key),
+        None => true,
+    }
+}
+
+/// Whether each row's key comes before that of the next row.
+pub fn are_rising(rows: &[Row]) -> bool
+    ensures { result ≡ true → AreRising (keys_of rows.now) }
+{
+    let mut i = rows.len();
+    while i > 0 {
+        i -= 1;
+        let r = &rows[i];
+        if !before_next(&r.key, rows, i + 1) {
+            return false;
+        }
+    }
+    true
+}
+
+/// Returns the number of rows whose keys come before `key`. This is the index at which the row with the key `key`
+/// stands, if there is one.
+fn index_of(rows: &[Row], key: &ShardRef) -> usize
+    requires { AreRising (keys_of rows.now) }
+    ensures value { result ≡ place_of key.now rows.now }
+    ensures within { result ≤ length rows.now }
+{
+    rows.partition_point(|row| precedes(&row.key, key))
+}
+
+/// Returns the row at the index `index` if the row's key is `key`, and otherwise `None`.
+fn row_at<'a>(rows: &'a [Row], index: usize, key: &ShardRef) -> Option<&'a Row>
+    ensures { option_map (λ r. r.now) result ≡ if_key key.now (slice_get rows.now index) }
+{
+    let row = rows.get(index)?;
+    if row.key == *key { Some(row) } else { None }
+}
+
+/// Returns the row whose key is `key`, by halves, or `None` if there is no such row.
+#[tactic(auto, using(crate::proofs::Places::row_there))]
+fn row_by_halves<'a>(rows: &'a [Row], key: &ShardRef) -> Option<&'a Row>
+    requires { AreRising (keys_of rows.now) }
+    ensures { option_map (λ r. r.now) result ≡ row_of rows.now key.now }
+{
+    row_at(rows, index_of(rows, key), key)
+}
+
+/// Returns the first row with the key `key`, or `None` if no row has this key.
+fn first_row<'a>(rows: &'a [Row], key: &ShardRef) -> Option<&'a Row>
+    ensures { option_map (λ r. r.now) result ≡ row_of rows.now key.now }
+{
+    for r in rows {
+        if r.key == *key {
+            return Some(r);
+        }
+    }
+    None
+}
+
+/// Returns the first row with the key `key`, or `None` if no row has this key. If the keys rise, `rising` may say so;
+/// the row is then found by halves.
+pub fn row_of<'a>(rows: &'a [Row], key: &ShardRef, rising: bool) -> Option<&'a Row>
+    requires { rising ≡ true → AreRising (keys_of rows.now) }
+    ensures { option_map (λ r. r.now) result ≡ row_of rows.now key.now }
+{
+    if rising {
+        row_by_halves(rows, key)
+    } else {
+        first_row(rows, key)
+    }
+}
