@@ -218,8 +218,9 @@ class Places(unittest.TestCase):
         return json.loads(responses(connection, 3)[-1][1])['ShardIterator']
 
     def assert_given_up(self, held):
-        """After the time that an idle client has, another one is served, and these connections are ended."""
-        self.assert_served_within(IDLE + 1)
+        """After the time that an idle client has while all places are in use, another one is served. These connections are ended then or, where a place
+        is free again, after the time that an idle client has."""
+        self.assert_served_within(4)
         for connection in held:
             self.assert_ended(connection)
 
@@ -230,7 +231,7 @@ class Places(unittest.TestCase):
 
     def assert_ended(self, connection):
         """The server has closed it, or reset it."""
-        connection.settimeout(5)
+        connection.settimeout(IDLE + 2)
         with contextlib.suppress(ConnectionResetError):
             while connection.recv(1 << 20):
                 pass

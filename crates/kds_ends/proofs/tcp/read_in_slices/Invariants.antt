@@ -1,0 +1,5 @@
+use Rattle.std.specs.Io.KnownBytes.{Keeps}
+use Rattle.kds_ends.proofs.tcp.read_in_slices.Given as goal
+
+abbrev pub invariant-loop-slice : goal.invariant-loop-slice
+invariant-loop-slice g l = Keeps (g.S.Read.remaining l.fn.stream) (g.S.Read.remaining l.stream)
