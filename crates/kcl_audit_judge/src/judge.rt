@@ -10,7 +10,7 @@ ghost use Rattle.kcl_audit_streams.specs.Verdict.{IsFit, end_verdict, judged, ve
 ghost use Rattle.kcl_audit_streams.specs.Judging.{stream_verdict, streams_after};
 
 use crate::lease_entries;
-use kcl_audit_streams::{Rule, ToldStreams, add, judge};
+use kcl_audit_streams::{Rule, StreamList, ToldStreams, add, judge};
 use kcl_book::Book;
 use kcl_table::Table;
 use kds_base::{Memory, Moment};
@@ -64,7 +64,7 @@ impl Judge {
         Judge {
             streams: ToldStreams {
                 clock: Moment::start(),
-                list: Vec::new(alloc),
+                list: StreamList::new(alloc),
             },
             table: Table::new(alloc),
             book: Book::new(alloc),

@@ -13,7 +13,7 @@ ghost use Rattle.kcl_audit_streams.specs.Standing.{Shows};
 ghost use Rattle.kcl_audit_judge.specs.Standing.{HoldBeside, JudgesBeside, Keeps};
 ghost use Rattle.kcl_audit_streams.specs.Verdict.{IsFit, same_flag, same_list, same_origin};
 
-use kcl_audit_streams::{Rule, ToldStreams, live};
+use kcl_audit_streams::{Rule, ToldStreams};
 use kcl_book::Book;
 use kcl_leases::{
     Shards, counting, cut, free, give, make, mark, open, reader, renew, take, take_start,
@@ -121,7 +121,7 @@ fn on_read(
     };
     // The key is borrowed because it is used more than once.
     let key = &tenure.key;
-    let Some(stream) = live(&shards.list, key.stream) else {
+    let Some(stream) = shards.list.live(key.stream) else {
         unreachable!()
     };
     let (batch, ends) = stream.read(alloc, shards.clock, key.shard, position, limit)?;

@@ -3,6 +3,7 @@ pub mod BatchTold
 pub mod Changed
 pub mod Floors
 pub mod Keys
+pub mod LivingLemmas
 pub mod OrderSteps
 pub mod Others
 pub mod RateSteps

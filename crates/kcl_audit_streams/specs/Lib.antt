@@ -1,4 +1,5 @@
 pub mod Judging
+pub mod Living
 pub mod Order
 pub mod Standing
 pub mod Verdict

@@ -13,4 +13,4 @@ pub use records::Sized;
 pub use rule::Rule;
 pub use stream::ToldStream;
 pub use stream_entries::{add, judge};
-pub use streams::{ToldStreams, live};
+pub use streams::{StreamList, ToldStreams};
