@@ -8,5 +8,6 @@ pub mod OrderSteps
 pub mod Others
 pub mod RateSteps
 pub mod SameEntries
+pub mod SecondSteps
 pub mod StreamSteps
 pub mod StreamTold

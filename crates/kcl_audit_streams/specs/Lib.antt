@@ -1,5 +1,6 @@
 pub mod Judging
 pub mod Living
 pub mod Order
+pub mod Seconds
 pub mod Standing
 pub mod Verdict

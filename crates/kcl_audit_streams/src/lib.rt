@@ -9,7 +9,7 @@ mod stream;
 mod stream_entries;
 mod streams;
 
-pub use records::Sized;
+pub use records::{Records, Sized};
 pub use rule::Rule;
 pub use stream::ToldStream;
 pub use stream_entries::{add, judge};

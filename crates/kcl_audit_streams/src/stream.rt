@@ -15,7 +15,7 @@ ghost use Rattle.kcl_audit_streams.specs.Verdict.{IsFit};
 ghost use Rattle.kcl_audit_streams.specs.Judging.{agrees, entry_verdict, is_end_in, is_spent, left_in, merge_verdict, new_stream, position_in, put_verdict, refused, split_verdict, with_entry, with_gone, with_hours, with_limits, with_merge, with_put, with_split};
 ghost use Rattle.kcl_audit_streams.specs.Standing.{floor_in, is_listed_in};
 
-use crate::records::{Sized, batch, first_since, from_position, is_throttled, none_left};
+use crate::records::{Records, Sized, batch, first_since, from_position, none_left};
 use crate::rule::Rule;
 use kds_base::{Items, Memory, Moment, Name, Seq, ShardNo};
 use kds_defs::limits::{FIRST_HOURS, HOUR};
@@ -39,7 +39,7 @@ pub struct ToldStream {
     /// The sequence number that the next record, split or merge of the stream gets.
     pub next: u64,
     pub tree: ShardTree,
-    pub records: Vec<Sized>,
+    pub records: Records,
 }
 
 impl Model for ToldStream {
@@ -50,7 +50,7 @@ impl Model for ToldStream {
 
     ghost Value = { StreamValue };
 
-    ghost invariant = { λ s. (s.floor ≤ 2 ^ 62) × (AllByRecursion (λ r. r.seq < 2 ^ 64 - 1) s.records.items × AreNumbered s.next s.records.items) };
+    ghost invariant = { λ s. (s.floor ≤ 2 ^ 62) × (AllByRecursion (λ r. r.seq < 2 ^ 64 - 1) s.records × AreNumbered s.next s.records) };
 
     ghost view = { λ s. record {
       name = s.name;
@@ -60,7 +60,7 @@ impl Model for ToldStream {
       floor = s.floor;
       next = s.next;
       tree = s.tree.shards;
-      records = s.records.items;
+      records = s.records;
     } };
 }
 
@@ -104,7 +104,7 @@ impl ToldStream {
             floor: 0,
             next: 1,
             tree: ShardTree::new(alloc, shards)?,
-            records: Vec::new(alloc),
+            records: Records::new(alloc),
         })
     }
 
@@ -186,7 +186,7 @@ impl ToldStream {
         ensures { result ≡ put_verdict self.now clock shard seq hash bytes }
     {
         let home = self.tree.home(hash);
-        if self.enforced && is_throttled(&self.records, home, clock, bytes) {
+        if self.enforced && self.records.is_throttled(home, clock, bytes) {
             return refused(Refusal::Throttled(home));
         }
         if self.next == u64::MAX {
@@ -273,14 +273,20 @@ impl ToldStream {
         ensures end { IfOk result (λ r. r.1 ≡ is_end_in self.now clock shard position r.0) }
     {
         let floor = self.floor(clock);
-        let ahead = from_position(&self.records, position);
+        let ahead = from_position(self.records.as_slice(), position);
         let numbers = batch(alloc, ahead, shard, floor, position, limit)?;
         let place = place_after_numbers(position, numbers.as_slice());
         let closed = match self.tree.shard(shard) {
             Some(shown) => shown.end.is_some(),
             None => false,
         };
-        let end = closed && none_left(from_position(&self.records, place), shard, floor, place);
+        let end = closed
+            && none_left(
+                from_position(self.records.as_slice(), place),
+                shard,
+                floor,
+                place,
+            );
         Ok((numbers, end))
     }
 
@@ -293,7 +299,13 @@ impl ToldStream {
             Origin::TrimHorizon => 0,
             Origin::Latest => self.next,
             Origin::Time(moment) => {
-                first_since(&self.records, shard, self.floor(clock), moment, self.next)
+                first_since(
+                    self.records.as_slice(),
+                    shard,
+                    self.floor(clock),
+                    moment,
+                    self.next,
+                )
             }
         }
     }

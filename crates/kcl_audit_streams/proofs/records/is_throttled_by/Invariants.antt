@@ -1,5 +1,5 @@
 use Rattle.kcl_audit_streams.proofs.RateSteps.{IsTaken}
-use Rattle.kcl_audit_streams.proofs.records.is_throttled.Given as goal
+use Rattle.kcl_audit_streams.proofs.records.is_throttled_by.Given as goal
 
 -- what was taken in the second of the puts so far
 abbrev pub invariant-loop-item : goal.invariant-loop-item
