@@ -16,6 +16,7 @@ CLIENTS = 16
 KINDS = [
     Kind('a put of 1 MB is refused', CLIENTS, [(refused(1_000_000), 400), (LIST, 200)]),
     Kind('a put of 10 MB is refused', CLIENTS, [(refused(10_000_000), 400), (LIST, 200)]),
+    Kind('a put of 10 MB is refused, with the next request right behind it', CLIENTS, [(refused(10_000_000) + LIST, 400), (LIST, 200)]),
     Kind('a body of 16.7 MB is refused, twice', CLIENTS, [(no_object(), 400)], rounds=2),
     Kind('a record of 9 MB is read', CLIENTS, [], record=9_000_000),
 ]
