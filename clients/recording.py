@@ -155,6 +155,16 @@ class Beside(unittest.TestCase):
         self.assertEqual(last.recv(1), b'')
         self.assertEqual(self.lines(), [b'ListStreams {}'])
 
+    def test_heads_in_other_forms(self):
+        """What the server does stands in the file: a tab parts a header as a space does. A line feed alone, by which the server would see two requests in one, comes to no server."""
+        plain = request('CreateStream', b'{"StreamName":"a","ShardCount":1}')
+        self.assert_answered(self.connect(), plain.replace(b': ', b':\t'))
+        for odd in (plain.replace(b'\r\n', b'\n', 1), plain.replace(b'\r\n', b'\n') + plain):
+            self.assert_answered(self.connect(), odd, 400)
+        long = b'{"StreamName":"b","ShardCount":1,"x":"%s"}' % (b'x' * (record.MOST_BODY - 40))
+        self.assert_answered(self.connect(), request('CreateStream', long), 413)
+        self.assertEqual(self.lines(), [b'CreateStream {"StreamName":"a","ShardCount":1}'])
+
 
 class Program(unittest.TestCase):
     """The program of the recorder."""
@@ -215,9 +225,6 @@ class Command(Program):
                         server.stop()
                         connection.sendall(request('ListStreams', b'{}'))
                         self.assertEqual(responses(connection, 1), [])
-                        with socket.create_connection(('127.0.0.1', port), timeout=10) as another:
-                            another.sendall(request('ListStreams', b'{}'))
-                            self.assertEqual(responses(another, 1), [])
             if by_interrupt:
                 started.send_signal(signal.SIGINT)
                 self.assertEqual((*started.communicate(timeout=30), started.returncode), ('', '', 0))

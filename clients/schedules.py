@@ -170,6 +170,20 @@ class Stories(unittest.TestCase):
                    'schedule: the input: line 7: the log has 9, which is record 9 here, and the last record put is 3\n')
         self.story('1002 host-b take b', ['1002 raw 2 take 1/1 0 w2'], 'schedule: the input: line 7: host-b take b: refused NoLease\n')
 
+    def test_what_a_log_says_failed(self):
+        read = ['1002 raw 1 read 1 0 1000', '1002 raw 1 give 1']
+        self.story('1002 host-b take b fails', ['1002 raw 2 take 1/1 0 w2'])
+        self.story('1002 host-a process a\n1003 host-a checkpoint a fails', [*read, '1003 raw 1 mark 1 1 1'],
+                   'schedule: the input: line 8: host-a checkpoint a fails: the log says that it failed, and here it is answered ok counter 2: is a line missing, or is the clock of a host wrong?\n')
+        self.story('1002 host-a process a to 49000000000000000000000000001\n1003 host-a checkpoint a\n1004 host-b take a at 49000000000000000000000000001\n1004 host-b open a at 1',
+                   [*read, '1003 raw 1 mark 1 1 1', '1004 raw 2 take 1/0 2 w2', '1004 raw 2 open 2'])
+        self.story('1002 host-a process a to 49000000000000000000000000001\n1004 host-b take a\n1004 host-b open a at 49000000000000000000000000001', [*read, '1004 raw 2 take 1/0 1 w2', '1004 raw 2 open 2'],
+                   'schedule: the input: line 9: the log begins at 49000000000000000000000000001, and here the lease begins at TRIM_HORIZON: is a checkpoint line missing, or is the clock of a host wrong?\n')
+        # what was told before a line that can't be is told
+        self.assertEqual((1, b'', 'schedule: the input: line 7: host-b take b: refused NoLease\nschedule: the input: line 8: host-b has no tenure of b: its take, line 7, was refused NoLease\n'),
+                         made(text=(START + '1002 host-b take b\n1003 host-b open b\n').encode()))
+        self.refused('1002 raw \x1b[31m take b', '?[31m is no name of a host')
+
     def test_a_line_that_cannot_be(self):
         for text, why in [
                 ('1002 host-b open a', 'host-b has no tenure of a: expected a line host-b take a before it, by the same process'),
@@ -253,6 +267,15 @@ class Dumps(unittest.TestCase):
     def test_what_a_dump_says(self):
         self.assertEqual((0, example('lease-table-1404.out'), ''), of_files(DUMP, 'lease-table-1404.json'))
         self.assertEqual((0, example('lease-table-1409.out'), ''), of_files(DUMP, 'lease-table-1404.json', 'lease-table-1409.csv'))
+
+    def test_what_two_dumps_say(self):
+        rows = lambda counter, *more: '\n'.join(json.dumps(it) for it in ({'leaseKey': 's0', 'checkpoint': '5', 'leaseOwner': 'h', 'leaseCounter': counter}, *more))
+        with tempfile.TemporaryDirectory() as folder:
+            pathlib.Path(folder, 'one').write_text(rows('7'))
+            pathlib.Path(folder, 'two').write_text(rows('9', {'leaseKey': 's1', 'checkpoint': 'TRIM_HORIZON', 'parentShardId': ['s0']}))
+            status, out, said = made('one', 'two', program=DUMP, cwd=folder)
+            self.assertEqual((0, '', b'\ns1 now waits for s0\n'), (status, said, out[-21:]))
+            self.assertTrue(made('two', 'one', program=DUMP, cwd=folder)[1].startswith(b'All counters fell: are the two dumps in the wrong order?'))
 
     def test_the_same_from_each_form(self):
         lines = [json.loads(line)['Item'] for line in example('lease-table-1404.json').splitlines()]

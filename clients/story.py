@@ -17,14 +17,18 @@ MOST_PUT, MOST_RECORDS = 500, 100_000
 # The replay's own numbers are below 2^64. Those of the service have 56 digits.
 OWN = 2**64
 END = 'end'
+# Where a lease may begin that has no checkpoint at a record.
+FIRST = ('TRIM_HORIZON', 'LATEST', 'AT_TIMESTAMP')
 NO_KIND = f'behind the moment stands no {", ".join(KINDS[:-1])} or {KINDS[-1]}'
 FORMS = {
-    'create': 'HOST create SHARD [latest]', 'take': 'HOST take SHARD', 'open': 'HOST open SHARD', 'fetch': 'HOST fetch SHARD [N]',
+    'create': 'HOST create SHARD [latest]', 'take': 'HOST take SHARD [at NUMBER]', 'open': 'HOST open SHARD [at NUMBER]', 'fetch': 'HOST fetch SHARD [N]',
     'process': 'HOST process SHARD [N] [to NUMBER]', 'checkpoint': 'HOST checkpoint SHARD [at NUMBER | at end]', 'renew': 'HOST renew SHARD',
     'release': 'HOST release SHARD', 'hand': 'HOST hand off SHARD', 'delete': 'HOST delete SHARD', 'restarts': 'HOST restarts',
     'stream': 'stream NAME SHARD ..', 'split': 'split SHARD LOW HIGH [at HASHKEY]', 'merge': 'merge SHARD SHARD CHILD', 'records': 'records SHARD N [to NUMBER]',
 }
 OF_STREAMS = ('stream', 'split', 'merge', 'records')
+# What may end with the word fails: the log says that it was refused.
+MAY_FAIL = ('create', 'take', 'open', 'checkpoint', 'renew', 'release', 'delete')
 # How many words each raw command has behind its own name when it names a shard and leaves out what the replay knows.
 BY_SHARD = {'make': (1, 3), 'take': (1, 2), 'open': (1, 1), 'read': (1, 2), 'give': (1, 1), 'mark': (1, 2), 'renew': (1, 1), 'free': (1, 1), 'cut': (1, 1)}
 
@@ -181,7 +185,7 @@ class Story:
     def __init__(self, replay, taken):
         self.replay, self.names = replay, Names(taken)
         self.lines, self.answers, self.told, self.holds, self.tenures, self.counters, self.refused_takes = [], [], [], {}, {}, {}, {}
-        self.at, self.where, self.text = 0, '', ''
+        self.at, self.where, self.text, self.fails = 0, '', '', False
         # the records of each shard that lines of the story put, those that no line put, and the shards that take none any more
         self.there, self.added, self.closed = {}, {}, set()
 
@@ -190,9 +194,15 @@ class Story:
     def keep(self, line, answer):
         self.lines.append(line)
         self.answers.append(answer)
-        if answer.startswith('refused'):
-            self.tell(f'{" ".join(self.text.split())}: {answer}{self.meaning(answer)}')
+        if answer.startswith('refused') and not self.fails:
+            self.tell(f'{self.said()}: {answer}{self.meaning(answer)}')
+        elif self.fails and not answer.startswith('refused'):
+            self.tell(f'{self.said()}: the log says that it failed, and here it is answered {shown(answer)}: is a line missing, or is the clock of a host wrong?')
         return answer
+
+    def said(self):
+        """The line, for a terminal."""
+        return re.sub(r'[^ -~]', '?', ' '.join(self.text.split()))
 
     def tell(self, what):
         self.told.append(f'{self.where}: {what}')
@@ -400,6 +410,20 @@ class Story:
         elif known != record:
             self.tell(f'the log has {number}, which is record {known} here, and {what} is {record}')
 
+    def begins(self, by, host, word, key, words):
+        """A take or an open. The log may have the checkpoint at which the lease begins: here it is the same, or a line is wrong."""
+        if words and (len(words) != 2 or words[0] != 'at' or words[1] not in FIRST and not NUMBER.fullmatch(words[1])):
+            self.expected(word)
+        answer = self.command(by, host, word, key, [])
+        if not words or not answer.startswith('ok'):
+            return answer
+        start = self.held(by, host, key).start
+        record = 0 if words[1] in FIRST else self.names.bound.get(key, {}).get(int(words[1]), int(words[1]) if int(words[1]) < OWN else None)
+        if record != start:
+            here = next((str(number) for number, at in self.names.bound.get(key, {}).items() if at == start), f'record {start}' if start else FIRST[0])
+            self.tell(f'the log begins at {words[1]}, and here the lease begins at {here}: is a checkpoint line missing, or is the clock of a host wrong?')
+        return answer
+
     def checkpoint(self, by, host, key, words):
         if words and (len(words) != 2 or words[0] != 'at' or words[1] not in (END, 'SHARD_END') and not NUMBER.fullmatch(words[1])):
             self.expected('checkpoint')
@@ -431,16 +455,20 @@ class Story:
             raise Unreadable(f'{shown(host)} is no name of a host')
         if word == 'restarts':
             return self.expected(word) if words else self.names.actor(host, anew=True)
+        self.fails = words[-1:] == ['fails'] and word in MAY_FAIL
+        words = words[:-1] if self.fails else words
         if word == 'hand' and words[:1] == ['off']:
             words = words[1:]
         elif word == 'hand':
             self.expected(word)
-        most = {'create': 2, 'fetch': 2, 'process': 4, 'checkpoint': 3}.get(word, 1)
+        most = {'create': 2, 'fetch': 2, 'process': 4, 'checkpoint': 3, 'take': 3, 'open': 3}.get(word, 1)
         if not 1 <= len(words) <= most or word == 'create' and words[1:] not in ([], ['latest']) or not all(map(NAME.fullmatch, [host, *words])):
             self.expected(word)
         by, key, more = self.names.actor(host), self.names.key(words[0]), words[1:]
         self.names.worker(host)
         plain = {'create': 'make', 'take': 'take', 'open': 'open', 'renew': 'renew', 'release': 'free', 'delete': 'cut'}
+        if word in ('take', 'open'):
+            return self.begins(by, host, word, key, more)
         if word in plain:
             return self.command(by, host, plain[word], key, more)
         return {'fetch': self.fetch, 'process': self.process, 'checkpoint': self.checkpoint, 'hand': self.hand_off}[word](by, host, key, more)
@@ -450,6 +478,8 @@ class Story:
         if len(words) < 2:
             raise Unreadable('behind raw stands no actor with a command')
         host, verb, *rest = words
+        if not NAME.fullmatch(host):
+            raise Unreadable(f'{shown(host)} is no name of a host')
         by = int(host) if host.isdigit() else self.names.actor(host)
         if not 1 <= by <= 999:
             raise Unreadable('an actor is 1 to 999')
@@ -470,7 +500,7 @@ class Story:
 
     def line(self, at, where, rest):
         """One line of a story, behind its moment, or of a schedule."""
-        self.at, self.where, self.text = at, where, rest
+        self.at, self.where, self.text, self.fails = at, where, rest, False
         words = rest.split()
         if not is_by_names(rest):
             return self.as_it_is(f'{at} {rest}')
@@ -522,7 +552,7 @@ def schedule_of(lines):
             try:
                 story.line(at, where, rest)
             except Unreadable as why:
-                raise Unreadable(f'{where}: {why}') from why
+                raise Unreadable('\nschedule: '.join([*story.told, f'{where}: {why}'])) from why
     for key, count in story.added.items():
         story.told.append(f'{story.names.used[key]}: {count} of the records that the log has stood in no records line, and were put where the log has them first')
     return story

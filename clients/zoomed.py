@@ -129,6 +129,10 @@ class Story:
         self.rows[words[0]][-1][2] = n
         self.over(words[0], n)
 
+    def over_at(self, shard):
+        """Where a shard was closed, or its stream deleted."""
+        return self.closed.get(shard, self.gone.get(shard.split('/')[0]))
+
     def done(self, shard):
         """From which entry on nobody waits for a shard."""
         stream = shard.split('/')[0]
@@ -184,7 +188,7 @@ class Drawing:
 
     def shard(self, shard):
         story, puts = self.story, self.story.puts[shard]
-        self.line('put', shard, shard, story.born[shard], story.closed.get(shard), 0, [(n, i) for i, (n, _) in enumerate(puts, 1)])
+        self.line('put', shard, shard, story.born[shard], story.over_at(shard), 0, [(n, i) for i, (n, _) in enumerate(puts, 1)])
         clocks = [story.clocks[n - 1] for n, _ in puts]
         trims = [(n, sum(clock <= at for clock in clocks[:bisect.bisect_right([it for it, _ in puts], n)])) for n, at in story.cuts[shard.split('/')[0]]]
         self.line('trimmed', shard, shard, story.born[shard], None, 0, trims if trims and trims[-1][1] else [])
@@ -196,12 +200,12 @@ class Drawing:
         shard, end, last = it['key'], it['end'], 0
         base = lambda batches: next((self.rank(shard, numbers[0] - 1) for _, numbers in batches if numbers), 0)
         reads = [(n, self.rank(shard, numbers[-1])) for n, numbers in it['reads'] if numbers]
-        given = []
+        timely, late = [], []
         for n, numbers in it['given']:
             last = numbers[-1] if numbers else last
-            given.append((n, self.rank(shard, last))) if last else None
-        late = [step for step in given if end and step[0] > end]
-        timely = given[:len(given) - len(late)]
+            # an empty batch isn't handed to the processor, so behind the end it is no late delivery
+            if last and (numbers or not end or n <= end):
+                (late if end and n > end else timely).append((n, self.rank(shard, last)))
         if reads:
             self.line('read', no, shard, reads[0][0], end and max(end, it['last']), base(it['reads']), reads)
         if timely:
@@ -245,7 +249,7 @@ class Drawing:
         story, found = self.story, {}
         used = {key for key in story.born if story.puts[key] or story.rows[key]} | {it['key'] for it in story.tenures.values()}
         for key in used:
-            found['alive', key] = (story.born[key], story.closed.get(key))
+            found['alive', key] = (story.born[key], story.over_at(key))
         for no, it in story.tenures.items():
             found['tenure', no] = (it['taken'], it['end'])
             if it['opened']:

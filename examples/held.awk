@@ -24,7 +24,8 @@ $3 == "taken"  { over(holder[$4], $1, who[holder[$4]] == $7 ? "taken by itself" 
 $3 == "freed"  { over($4, $1, "freed"); holder[key[$4]] = "" }
 $3 == "cut"    { over(holder[$4], $1, "the row was removed"); holder[$4] = "" }
 $3 == "opened" { opened[$4] = $1 }
-$3 == "given"  { last[$4] = $1 }
+$3 == "read"   { size[$4, ++read[$4]] = NF - 6 }
+$3 == "given"  { if (size[$4, ++given[$4]]) last[$4] = $1 }
 $3 == "marked" { mark[$4] = $6 == "end" ? "SHARD_END" : record(stream[$4], $6) }
 $1 == "end"    { clock = $2 }
 END {
