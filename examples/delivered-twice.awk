@@ -23,6 +23,9 @@ function tell(   many) {
     print date(at) " " named(key[now]) ": " many ": " tenure(before) " at " date(when) ", again " tenure(now)
     run = 0
 }
+# Another file has no answer: what isn't a journal, or names that come too late.
+$1 == "names" && entries { late = 1 }
+$1 ~ /^[0-9]+$/ && $2 ~ /^[0-9]+$/ && $3 ~ /^[a-z]+$/ || $1 == "end" && NF == 2 { entries++ }
 # What a terminal would take for a command is no word of a file.
 /[^ -~]/ { gsub(/[^ -~]/, "?") }
 $1 == "worker" || $1 == "shard" { name[$2] = $3 }
@@ -43,4 +46,10 @@ $3 == "given"  {
     }
     tell()
 }
-END { print twice + 0 }
+END {
+    if (!entries || late) {
+        print "delivered-twice.awk: " (late ? "names.txt stands before the journal" : "no journal was read: give incident.journal, or what ./kds replay --journal writes") > "/dev/stderr"
+        exit 2
+    }
+    print twice + 0
+}

@@ -15,6 +15,9 @@ function named(word) { return word in name ? name[word] : word }
 function record(of, n) { return (of, n) in number ? n " (" number[of, n] ")" : n }
 # A tenure ends once: what it does after that is told by its last delivery.
 function over(t, at, why) { if (t != "" && !(t in end)) { end[t] = at; how[t] = why } }
+# Another file has no answer: what isn't a journal, or names that come too late.
+$1 == "names" && entries { late = 1 }
+$1 ~ /^[0-9]+$/ && $2 ~ /^[0-9]+$/ && $3 ~ /^[a-z]+$/ || $1 == "end" && NF == 2 { entries++ }
 # What a terminal would take for a command is no word of a file.
 /[^ -~]/ { gsub(/[^ -~]/, "?") }
 $1 == "worker" || $1 == "shard" { name[$2] = $3 }
@@ -29,6 +32,10 @@ $3 == "given"  { if (size[$4, ++given[$4]]) last[$4] = $1 }
 $3 == "marked" { mark[$4] = $6 == "end" ? "SHARD_END" : record(stream[$4], $6) }
 $1 == "end"    { clock = $2 }
 END {
+    if (!entries || late) {
+        print "held.awk: " (late ? "names.txt stands before the journal" : "no journal was read: give incident.journal, or what ./kds replay --journal writes") > "/dev/stderr"
+        exit 2
+    }
     for (i = 1; i <= n; i++) {
         t = order[i]
         print named(key[t]) ": tenure " t ", " named(who[t]) ", from " date(begun[t]) (t in end ? " to " date(end[t]) ", " how[t] : " on, held at the end, " date(clock)) \
