@@ -139,7 +139,14 @@ impl ShardTree {
         let start = start_behind(&self.shards, after);
         let numbers = numbers_from(left, start);
         let (_, rest) = self.shards.split_at(start.max(passed));
-        page_of(*self.shards.allocator(), &self.shards, numbers, rest, &cut, limit)
+        page_of(
+            *self.shards.allocator(),
+            &self.shards,
+            numbers,
+            rest,
+            &cut,
+            limit,
+        )
     }
 
     /// Remembers which shards at the beginning of the list have expired at the trim horizon `cut`, so that listings can

@@ -16,8 +16,15 @@ split_at-requires c =
     let front = c.passed_at-passed.ensures
     (subst (AreLeft (floor_of c.self.inside.front.cut) 0 c.self.inside.front.count names) (sym c.deref.ensures.value) c.self.invariant.3) in
     let within = left_within (floor_of c.args.cut) 0 c.passed_at-passed.result.0 c.passed_at-passed.result.1.now c.deref.result.now front in
-    omega (arith, within, c.start_behind-start.ensures.there, c.max.ensures, ap (length {A = ShardState}) c.deref.ensures.value,
-    ap (length {A = ShardState}) c.deref-2.ensures.value, ap (length {A = ShardState}) c.deref-3.ensures.value)
+    omega (
+      arith,
+      within,
+      c.start_behind-start.ensures.there,
+      c.max.ensures,
+      ap (length {A = ShardState}) c.deref.ensures.value,
+      ap (length {A = ShardState}) c.deref-2.ensures.value,
+      ap (length {A = ShardState}) c.deref-3.ensures.value,
+    )
 
 pub returns-clause-shards : goal.returns-clause-shards
 returns-clause-shards c =
