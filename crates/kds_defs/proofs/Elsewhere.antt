@@ -70,7 +70,7 @@ none_drawn (entry.Merged a sh other number child) s h = rw (differ a s h) refl
 none_drawn _ s h = refl
 
 pub next_same : (what : Entry) (s next : ℕ) → stream_of what ≢ Some s → draws what s + next ≡ next
-next_same what s next h = let none = none_drawn what s h in omega (arith, none)
+next_same what s next h = let none = none_drawn what s h in omega (arith)
 
 pub shards_same : (line : Line) (what : Entry) (s start : ℕ) (before : List ShardState) → stream_of what ≢ Some s
     → shards_after line what s start before ≡ before
@@ -170,8 +170,8 @@ floor_is log line s c = refl
 
 no_higher : (made before : Bool) (c d h low : ℕ) → d ≤ c → floor_by made before c d h h low ≡ max (floor_at c (h * HOUR)) low
 unfolding floor_by
-no_higher true true c d h low later = omega (arith, later)
-no_higher true false c d h low later = omega (arith, later)
+no_higher true true c d h low later = omega (arith)
+no_higher true false c d h low later = omega (arith)
 no_higher false before c d h low later = omega arith
 
 pub floor_same : (log : Journal) (line : Line) (s c : ℕ) → line.clock ≤ c → hours (line ∷ log) s ≡ hours log s
@@ -206,7 +206,7 @@ fresh_other log line s fresh other =
       gone = same.live ∙ fresh.gone;
       unmade = same.was ∙ fresh.unmade;
       undrawn = same.next_is ∙ fresh.undrawn;
-      no_floor = omega (arith, none, fresh.no_floor);
+      no_floor = omega (arith);
       no_shards = same.shards_are ∙ fresh.no_shards;
       no_records = λ sh. same.records_are sh ∙ fresh.no_records sh;
       no_puts = λ sh. same.puts_are sh ∙ fresh.no_puts sh;

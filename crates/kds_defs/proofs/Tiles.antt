@@ -15,8 +15,8 @@ counted false n h = absurd cc
 
 -- the same count over the ranges of the open ones
 same_times_by : (b : Bool) (x : ShardState) (xs : List ShardState) (k : ℕ) → times_covered (map (λ y. y.range) (filter is_open xs)) k ≡ open_times xs k → times_covered (map (λ y. y.range) (cond b (x ∷ filter is_open xs) (filter is_open xs))) k ≡ count_if b (one x.range k) + open_times xs k
-same_times_by true x xs k h = omega (arith, h)
-same_times_by false x xs k h = omega (arith, h)
+same_times_by true x xs k h = omega (arith)
+same_times_by false x xs k h = omega (arith)
 
 pub same_times : (xs : List ShardState) (k : ℕ) → times_covered (map (λ x. x.range) (filter is_open xs)) k ≡ open_times xs k
 same_times [] k = refl
@@ -59,24 +59,24 @@ other-closed (y ∷ ys) (suc sh) zero closing differ = refl
 other-closed (y ∷ ys) (suc sh) (suc other) closing differ = other-closed ys sh other closing (λ e. differ (ap suc e))
 
 one_split : (r : Span) (at k : ℕ) → is_inside r at ≡ true → one (lower_part r at) k + one (upper_part r at) k ≡ one r k
-one_split r at k h = grind (arith, nat_tests)
+one_split r at k h = grind (arith)
 
 -- the parts of a split, and a joined range, are not empty
 lower_ordered : (r : Span) (at : ℕ) → is_inside r at ≡ true → r.start ≤ at - 1
-lower_ordered r at h = grind (arith, nat_tests)
+lower_ordered r at h = grind (arith)
 
 upper_ordered : (r : Span) (at : ℕ) → is_inside r at ≡ true → at ≤ r.end
-upper_ordered r at h = grind (arith, nat_tests)
+upper_ordered r at h = grind (arith)
 
 one_join : (a b : Span) (k : ℕ) → a.start ≤ a.end → b.start ≤ b.end → are_adjacent a b ≡ true → one (joined a b) k ≡ one a k + one b k
 one_join a b k oa ob h = grind (arith, nat_tests)
 
 joined_ordered : (a b : Span) → a.start ≤ a.end → b.start ≤ b.end → are_adjacent a b ≡ true → (joined a b).start ≤ (joined a b).end
-joined_ordered a b oa ob h = grind (arith, nat_tests)
+joined_ordered a b oa ob h = grind (arith)
 
 -- a range that is not empty does not touch itself
 no_self : (a b : Span) → a.start ≤ a.end → are_adjacent a b ≡ true → a ≡ b → ⊥
-no_self a b oa h e = let s : a.start ≡ b.start = ap (λ (r : Span). r.start) e in let t : a.end ≡ b.end = ap (λ (r : Span). r.end) e in grind (arith, nat_tests)
+no_self a b oa h e = let s : a.start ≡ b.start = ap (λ (r : Span). r.start) e in let t : a.end ≡ b.end = ap (λ (r : Span). r.end) e in grind (arith)
 
 same_at : (xs : List ShardState) (sh other : ℕ) (x y : ShardState) → slice_get xs sh ≡ Some x → slice_get xs other ≡ Some y → sh ≡ other → x.range ≡ y.range
 same_at xs sh other x y is is' e = let s : Some x ≡ Some y = sym is ∙ ap (slice_get xs) e ∙ is' in ap (λ (z : ShardState). z.range) (same_some x y s)
@@ -122,18 +122,18 @@ abbrev from_on : ℕ → ℕ → ℕ
 from_on a k = if nat_le a k then 1 else 0
 
 one_last : (a k : ℕ) → k ≤ last_key → one (record { start = a; end = last_key }) k ≡ from_on a k
-one_last a k below = grind (arith, nat_tests)
+one_last a k below = grind (arith)
 
 one_next : (a w k : ℕ) → 0 < w → one (record { start = a; end = a + w - 1 }) k + from_on (a + w) k ≡ from_on a k
-one_next a w k wide = grind (arith, nat_tests)
+one_next a w k wide = grind (arith)
 
 times_uniform : (w a n i start k : ℕ) → 0 < w → k ≤ last_key → open_times (first_shards i start (uniform_from w a (suc n))) k ≡ from_on a k
 times_uniform w a zero i start k wide below = omega (arith, one_last a k below)
 times_uniform w a (suc n) i start k wide below = omega (arith, one_next a w k wide, times_uniform w (a + w) n (i + 1) start k wide below)
 
 ordered_uniform : (w a n i start : ℕ) → 0 < w → a + n * w ≤ last_key → AllByRecursion IsOrdered (first_shards i start (uniform_from w a (suc n)))
-ordered_uniform w a zero i start wide fits = (omega (arith, fits), tt)
-ordered_uniform w a (suc n) i start wide fits = (omega (arith, wide), ordered_uniform w (a + w) n (i + 1) start wide (omega (arith, fits)))
+ordered_uniform w a zero i start wide fits = (omega (arith), tt)
+ordered_uniform w a (suc n) i start wide fits = (omega (arith), ordered_uniform w (a + w) n (i + 1) start wide (omega (arith)))
 
 -- a positive width, of which n fit
 pub width_fits : (n w r : ℕ) → suc n * w + r ≡ 2 ^ 128 → r < suc n → suc n ≤ 500 → (0 < w) × (0 + n * w ≤ last_key)
@@ -141,7 +141,7 @@ width_fits n zero r e lt le = absurd (omega arith)
 width_fits n (suc w) r e lt le = (omega arith, omega arith)
 
 from_start : (k : ℕ) → from_on 0 k ≡ 1
-from_start k = grind (arith, nat_tests)
+from_start k = grind (arith)
 
 pub tiled_new : (count start : ℕ) → 1 ≤ count → count ≤ 500 → IsTiled (first_shards 0 start (uniform count))
 tiled_new zero start low high = absurd (omega arith)
